@@ -1,0 +1,20 @@
+use borrow.Author.Tests.{lt-ltb, le-ltb}
+use Rattle.text.specs.Call.{lengthCheck}
+use borrow.Author.Needs.{needs}
+use Rattle.text.proofs.check_length.Statement.{statement}
+use Rattle.text.proofs.check_length.Tie as tie
+use Rattle.text.proofs.check_length.Reads as reads
+use Rattle.text.proofs.check_length.Lts as lts
+
+-- src/lib.rt:16:9
+returns : tie.Need-returns
+unfolding lengthCheck
+returns c = simp (lt-ltb _ _ (c .if1 .taken))
+
+-- src/lib.rt:12:1
+returns-2 : tie.Need-returns-2
+unfolding lengthCheck
+returns-2 c = simp (le-ltb _ _ (c .if1 .left))
+
+pub check-length-spec : {M : Type 1} → statement M
+check-length-spec = tie.close (tie.spec returns returns-2)

@@ -1,0 +1,4 @@
+pub mod Bytes
+pub mod Version
+pub mod Utf8
+pub mod Call

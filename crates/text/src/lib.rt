@@ -1,0 +1,50 @@
+// Argument checks that all calls share: the text's length (refusal 1), the version byte (4), UTF-8 (5).
+ghost use mathlib.Core.Path.{_≡_};
+ghost use Rattle.text.specs.Call.{lengthCheck, versionCheck};
+
+// What a call answers: on success its first and second, else document 01's refusal number with first and second.
+pub enum Answer {
+    Done {
+        first: u64,
+        second: u64,
+    },
+    Refused {
+        number: u32,
+        first: u64,
+        second: u64,
+    },
+}
+
+// Refusal 1.
+pub fn check_length(text: &[u8]) -> Answer
+    ensures { λ r. ⌜ r ≡ lengthCheck (now (text .entry)) ⌝ }
+{
+    if 16777216 < text.len() {
+        return Answer::Refused {
+            number: 1,
+            first: text.len() as u64,
+            second: 0,
+        };
+    }
+    Answer::Done {
+        first: 0,
+        second: 0,
+    }
+}
+
+// Refusal 4.
+pub fn check_version(version: u8) -> Answer
+    ensures { λ r. ⌜ r ≡ versionCheck version ⌝ }
+{
+    if 2 < version {
+        return Answer::Refused {
+            number: 4,
+            first: 0,
+            second: 0,
+        };
+    }
+    Answer::Done {
+        first: 0,
+        second: 0,
+    }
+}
