@@ -1,16 +1,17 @@
 -- `utf8End` is the end of the longest well-formed prefix: the prefix is well-formed, and no longer one is. Assumes nothing.
 use mathlib.Core.Path.{_≡_, refl, sym, _∙_}
-use Prim.Native.Nat.{ℕ, zero, suc, _+_, _≤_, zero-le, suc-le-suc}
+use Prim.Native.Nat.{ℕ, zero, suc, _+_, _-_, _≤_, zero-le, suc-le-suc}
 use native.Mathlib.Omega.{arith}
 use native.Mathlib.Nat.{le-antisymm, le-refl, le-trans, le-step, le-of-suc-le-suc, not-suc-le-zero, add-zero, zero-add}
 use mathlib.Core.Bool.{Bool, true, false}
-use mathlib.Core.List.{List, [], _∷_}
-use lib.ListN.{length, take}
-use lib.Seq.{take-length}
+use mathlib.Core.List.{List, [], _∷_, _++_}
+use lib.ListN.{length, take, drop, length-drop, drop-of-length-le}
+use lib.Seq.{take-length, take-add}
 use Rattle.text.specs.Bytes.{pick}
 use Rattle.text.specs.Utf8.{State, between, next, after, isBetween, endFrom, utf8End, WellFormed}
 use Rattle.text.proofs.Bytes.{pick-both}
-use Rattle.text.proofs.Utf8.{is-between}
+use Rattle.text.specs.Blocks.{Prefix}
+use Rattle.text.proofs.Utf8.{is-between, well-formed-append, append-well-formed}
 
 -- the later of the places found so far
 low : (s : State) (at end : ℕ) → end ≤ at → end ≤ pick (isBetween s) at end
@@ -87,3 +88,42 @@ end-whole t e = rw (take-length t) at (rw e at (end-well-formed t))
 
 pub whole-end : (t : List ℕ) → WellFormed t → utf8End t ≡ length t
 whole-end t h = le-antisymm (end-le t) (end-longest t (length t) (le-refl (length t)) (rw (take-length t) h))
+
+-- after whole characters, the rest decides
+pub end-advance : (t : List ℕ) (n : ℕ) → Prefix t n → utf8End t ≡ n + utf8End (drop n t)
+unfolding WellFormed
+end-advance t n p = le-antisymm upper lower
+  where
+    joined : (m : ℕ) → take (n + m) t ≡ take n t ++ take m (drop n t)
+    joined m = take-add n m t
+
+    whole : (m : ℕ) → WellFormed (take (n + m) t) → WellFormed (take m (drop n t))
+    whole m w = sym (well-formed-append (take n t) (take m (drop n t)) (p .whole)) ∙ rw (joined m) at w
+
+    lower : n + utf8End (drop n t) ≤ utf8End t
+    lower =
+        end-longest t (n + utf8End (drop n t)) (omega (arith, end-le (drop n t), length-drop n t, p .fits))
+        (rw (joined (utf8End (drop n t))) (append-well-formed (take n t) (take (utf8End (drop n t)) (drop n t)) (p .whole) (end-well-formed (drop n t))))
+
+    past : n ≤ utf8End t
+    past = end-longest t n (p .fits) (p .whole)
+
+    upper : utf8End t ≤ n + utf8End (drop n t)
+    upper =
+        let q : n + (utf8End t - n) ≡ utf8End t = omega (arith, past) in
+        omega (
+          arith,
+          past,
+          end-longest (drop n t) (utf8End t - n) (rw (length-drop n t) (omega (arith, end-le t)))
+              (whole (utf8End t - n) (rw q (end-well-formed t))),
+        )
+
+pub end-here : (t : List ℕ) (n : ℕ) → Prefix t n → utf8End (drop n t) ≡ 0 → n ≡ utf8End t
+end-here t n p e = sym (end-advance t n p ∙ rw e (add-zero n))
+
+pub end-all : (t : List ℕ) (n : ℕ) → Prefix t n → length t ≤ n → n ≡ utf8End t
+unfolding utf8End
+end-all t n p h = end-here t n p (rw (drop-of-length-le t h) refl)
+
+pub none-prefix : (t : List ℕ) → Prefix t 0
+none-prefix t = record { fits = zero-le; whole = unfold WellFormed in refl }

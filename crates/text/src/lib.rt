@@ -1,6 +1,8 @@
 // Argument checks that all calls share: the text's length (refusal 1), the version byte (4), UTF-8 (5).
 ghost use mathlib.Core.Path.{_≡_};
-ghost use Rattle.text.specs.Call.{lengthCheck, versionCheck};
+ghost use Rattle.text.specs.Call.{lengthCheck, versionCheck, utf8Check, textCheck};
+
+pub mod validate;
 
 // What a call answers: on success its first and second, else document 01's refusal number with first and second.
 pub enum Answer {
@@ -47,4 +49,37 @@ pub fn check_version(version: u8) -> Answer
         first: 0,
         second: 0,
     }
+}
+
+// Refusal 5.
+pub fn check_utf8(text: &[u8]) -> Answer
+    ensures { λ r. ⌜ r ≡ utf8Check (now (text .entry)) ⌝ }
+{
+    let end = validate::utf8_end(text);
+    if end == text.len() {
+        return Answer::Done {
+            first: 0,
+            second: 0,
+        };
+    }
+    Answer::Refused {
+        number: 5,
+        first: end as u64,
+        second: 0,
+    }
+}
+
+// Refusals 1 and 5: what every call asks of its text.
+pub fn check_text(text: &[u8]) -> Answer
+    ensures { λ r. ⌜ r ≡ textCheck (now (text .entry)) ⌝ }
+{
+    let length = check_length(text);
+    let Answer::Done {
+        first: _,
+        second: _,
+    } = length
+    else {
+        return length;
+    };
+    check_utf8(text)
 }

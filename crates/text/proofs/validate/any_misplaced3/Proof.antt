@@ -1,0 +1,103 @@
+use Rattle.text.proofs.Blocks.{fits3-at}
+use mathlib.Core.Path.{_≡_, refl, sym, _∙_}
+use mathlib.Core.Bool.{false}
+use Prim.Native.Nat.{ℕ, _+_, _-_, _≤_, _<_}
+use native.Mathlib.Omega.{arith}
+use lib.ListN.{length, getD}
+use borrow.Author.Count.{below-none, below-more}
+use Rattle.text.specs.Blocks.{Fitting}
+use Rattle.text.proofs.Bytes.{or-left, or-right}
+use borrow.Author.Needs.{needs}
+use Rattle.text.proofs.validate.any_misplaced3.Statement.{statement}
+use Rattle.text.proofs.validate.any_misplaced3.Tie as tie
+use Rattle.text.proofs.validate.any_misplaced3.Reads as reads
+use Rattle.text.proofs.validate.any_misplaced3.Lts as lts
+use Rattle.text.proofs.validate.misplaced3.Reads as misplaced3-reads
+
+abbrev Inv-loop : tie.InvT-loop
+Inv-loop text j hit₀ k₀ hit k = (k ≤ 32) × (hit ≡ false → Fitting text j k)
+
+abbrev μ-loop : tie.MeasureT-loop
+μ-loop text j hit₀ k₀ hit k = 32 - k
+
+-- src/validate.rt:84:5
+loop-holds : tie.Need-loop-holds Inv-loop μ-loop
+loop-holds c = (search needs, λ e. record { fit = below-none _ })
+
+-- src/validate.rt:85:37
+add-misplaced3 : tie.Need-add-misplaced3 Inv-loop μ-loop
+add-misplaced3 c = search needs
+
+-- src/validate.rt:85:37
+add-misplaced3-2 : tie.Need-add-misplaced3-2 Inv-loop μ-loop
+add-misplaced3-2 c = search needs
+
+-- src/validate.rt:85:32
+shared-slice-read-misplaced3 : tie.Need-shared-slice-read-misplaced3 Inv-loop μ-loop
+shared-slice-read-misplaced3 c = search needs
+
+-- src/validate.rt:85:54
+add-misplaced3-3 : tie.Need-add-misplaced3-3 Inv-loop μ-loop
+add-misplaced3-3 c = search needs
+
+-- src/validate.rt:85:54
+add-misplaced3-4 : tie.Need-add-misplaced3-4 Inv-loop μ-loop
+add-misplaced3-4 c = search needs
+
+-- src/validate.rt:85:49
+shared-slice-read-misplaced3-2 : tie.Need-shared-slice-read-misplaced3-2 Inv-loop μ-loop
+shared-slice-read-misplaced3-2 c = search needs
+
+-- src/validate.rt:85:71
+add-misplaced3-5 : tie.Need-add-misplaced3-5 Inv-loop μ-loop
+add-misplaced3-5 c = search needs
+
+-- src/validate.rt:85:71
+add-misplaced3-6 : tie.Need-add-misplaced3-6 Inv-loop μ-loop
+add-misplaced3-6 c = search needs
+
+-- src/validate.rt:85:66
+shared-slice-read-misplaced3-3 : tie.Need-shared-slice-read-misplaced3-3 Inv-loop μ-loop
+shared-slice-read-misplaced3-3 c = search needs
+
+-- src/validate.rt:85:21
+misplaced3-requires : tie.Need-misplaced3-requires Inv-loop μ-loop
+misplaced3-requires c κs = search needs
+
+-- src/validate.rt:84:9
+add-k : tie.Need-add-k Inv-loop μ-loop
+add-k c = search needs
+
+-- src/validate.rt:84:5
+loop-less : tie.Need-loop-less Inv-loop μ-loop
+loop-less c = search needs
+
+-- src/validate.rt:84:5
+loop-again : tie.Need-loop-again Inv-loop μ-loop
+loop-again c = (search needs, λ e. record { fit = below-more _ _ (c .before .before .before .before .before .loop .inv .1 (or-left _ _ e) .fit) (fits3-at (c .before .before .before .before .before .before .before .args .text .now) (c .before .before .before .before .before .before .before .args .j) 0xEF (c .before .before .before .before .before .before .before .pre .1 .0) (c .before .before .before .before .before .before .before .pre .1 .1) (omega arith) (c .before .before .before .before .before .loop .k) (omega arith) (sym (c .misplaced3 .ensures) ∙ or-right (c .before .before .before .before .before .loop .hit) _ e)) })
+
+-- src/validate.rt:77:1
+returns : tie.Need-returns Inv-loop μ-loop
+returns c = λ e. record { fit = λ m h. c .before .loop .inv .1 e .fit m (omega arith) }
+
+pub any-misplaced3-spec : {M : Type 1} → statement M
+any-misplaced3-spec =
+    tie.close
+    (tie.spec
+    Inv-loop
+    μ-loop
+    loop-holds
+    add-misplaced3
+    add-misplaced3-2
+    shared-slice-read-misplaced3
+    add-misplaced3-3
+    add-misplaced3-4
+    shared-slice-read-misplaced3-2
+    add-misplaced3-5
+    add-misplaced3-6
+    shared-slice-read-misplaced3-3
+    misplaced3-requires
+    add-k
+    loop-less
+    loop-again
+    returns)
