@@ -9,13 +9,15 @@ mod inputs;
 mod library;
 mod oracle;
 mod random;
+mod self_test;
 
 use std::env;
 use std::process::ExitCode;
 use std::time::Duration;
 
 const USAGE: &str = "\
-harness differential [--seed N] [--minutes M]   compare every call with the Rust";
+harness differential [--seed N] [--minutes M]   compare every call with the Rust
+harness self-test                               check that wrong libraries are caught";
 
 const DEFAULT_SEED: u64 = 1;
 
@@ -36,6 +38,7 @@ fn main() -> ExitCode {
 fn run(words: &[&str]) -> Option<bool> {
     match words {
         ["differential", options @ ..] => differential(options),
+        ["self-test"] => Some(self_test::run()),
         _ => None,
     }
 }
