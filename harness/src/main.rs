@@ -10,14 +10,16 @@ mod library;
 mod oracle;
 mod random;
 mod self_test;
+mod stored;
 
-use std::env;
 use std::process::ExitCode;
 use std::time::Duration;
+use std::{env, fs, io};
 
 const USAGE: &str = "\
 harness differential [--seed N] [--minutes M]   compare every call with the Rust
-harness self-test                               check that wrong libraries are caught";
+harness self-test                               check that wrong libraries are caught
+harness stored [FILE]                           write a sample of the Rust's answers";
 
 const DEFAULT_SEED: u64 = 1;
 
@@ -39,6 +41,8 @@ fn run(words: &[&str]) -> Option<bool> {
     match words {
         ["differential", options @ ..] => differential(options),
         ["self-test"] => Some(self_test::run()),
+        ["stored"] => Some(passed(stored::write(&mut io::stdout()))),
+        ["stored", file] => Some(passed(store(file))),
         _ => None,
     }
 }
@@ -55,4 +59,17 @@ fn differential(options: &[&str]) -> Option<bool> {
     }
     let time = Duration::try_from_secs_f64(minutes * 60.0).ok()?;
     Some(differential::run(seed, time))
+}
+
+fn store(file: &str) -> io::Result<()> {
+    let mut text = vec![];
+    stored::write(&mut text)?;
+    fs::write(file, text)
+}
+
+fn passed(result: io::Result<()>) -> bool {
+    if let Err(error) = &result {
+        eprintln!("stored: {error}");
+    }
+    result.is_ok()
 }
