@@ -1,5 +1,6 @@
 //! Compares the library with the unchanged Rust that it takes the place of, and measures both.
 
+mod benchmark;
 mod buffers;
 mod calls;
 mod comparison;
@@ -19,7 +20,8 @@ use std::{env, fs, io};
 const USAGE: &str = "\
 harness differential [--seed N] [--minutes M]   compare every call with the Rust
 harness self-test                               check that wrong libraries are caught
-harness stored [FILE]                           write a sample of the Rust's answers";
+harness stored [FILE]                           write a sample of the Rust's answers
+harness benchmark                               measure every call against the Rust";
 
 const DEFAULT_SEED: u64 = 1;
 
@@ -43,6 +45,10 @@ fn run(words: &[&str]) -> Option<bool> {
         ["self-test"] => Some(self_test::run()),
         ["stored"] => Some(passed(stored::write(&mut io::stdout()))),
         ["stored", file] => Some(passed(store(file))),
+        ["benchmark"] => {
+            benchmark::run();
+            Some(true)
+        }
         _ => None,
     }
 }
