@@ -1,0 +1,168 @@
+//! The memory that a call is lent: filled before the call, with guard bytes on both sides, and
+//! checked whole after it.
+
+use crate::calls::{Arguments, Place};
+use crate::library::Lent;
+use crate::oracle::{Answer, LONGEST_TEXT};
+
+const GUARD: usize = 64;
+/// Buffers start at every address modulo this.
+pub const ALIGNMENTS: usize = 64;
+const WORD: usize = std::mem::size_of::<u64>();
+const WORDS: usize = 2;
+
+/// Buffers and guards take these in turn: a byte that happens to be written as it was is seen at
+/// another turn. A text read past its end goes on with a digit, a lead byte or a continuation byte.
+/// None is 0, so that an answer word left as it was is never taken for a 0.
+const FILLS: [u8; 5] = [0xC5, b'1', 0x80, 0xBF, 0x5A];
+
+/// A byte that is not as it has to be, counted from the buffer's start.
+pub struct Damage {
+    pub buffer: &'static str,
+    pub offset: isize,
+    pub expected: u8,
+    pub found: u8,
+}
+
+/// One buffer and its guards.
+struct Guarded {
+    name: &'static str,
+    memory: Vec<u8>,
+    /// An offset with room for a guard before it, and an address that is a multiple of ALIGNMENTS.
+    origin: usize,
+    start: usize,
+    end: usize,
+    fill: u8,
+}
+
+impl Guarded {
+    fn new(name: &'static str, capacity: usize) -> Self {
+        let memory = vec![0; capacity + 2 * GUARD + 2 * ALIGNMENTS];
+        let address = memory.as_ptr() as usize;
+        let origin = (address + GUARD).next_multiple_of(ALIGNMENTS) - address;
+        Guarded {
+            name,
+            memory,
+            origin,
+            start: origin,
+            end: origin,
+            fill: 0,
+        }
+    }
+
+    /// A buffer of so many bytes at an address modulo ALIGNMENTS, with its guards filled.
+    fn prefill(&mut self, length: usize, alignment: usize, fill: u8) -> &mut [u8] {
+        self.start = self.origin + alignment;
+        self.end = self.start + length;
+        self.fill = fill;
+        self.memory[self.start - GUARD..self.end + GUARD].fill(fill);
+        &mut self.memory[self.start..self.end]
+    }
+
+    fn pointer(&mut self) -> *mut u8 {
+        self.memory[self.start..].as_mut_ptr()
+    }
+
+    fn content(&self) -> &[u8] {
+        &self.memory[self.start..self.end]
+    }
+
+    /// The first byte that is not as it has to be when the buffer starts with `written` and all the
+    /// rest, the guards too, is as it was filled.
+    fn damage(&self, written: &[u8]) -> Option<Damage> {
+        let rest = self.start + written.len();
+        let sound = is_filled(&self.memory[self.start - GUARD..self.start], self.fill)
+            && self.memory[self.start..rest] == *written
+            && is_filled(&self.memory[rest..self.end + GUARD], self.fill);
+        if sound {
+            return None;
+        }
+        self.first_damage(written)
+    }
+
+    #[cold]
+    fn first_damage(&self, written: &[u8]) -> Option<Damage> {
+        (self.start - GUARD..self.end + GUARD).find_map(|at| {
+            let written = at.checked_sub(self.start).and_then(|at| written.get(at));
+            let expected = written.copied().unwrap_or(self.fill);
+            let found = self.memory[at];
+            (found != expected).then_some(Damage {
+                buffer: self.name,
+                offset: at as isize - self.start as isize,
+                expected,
+                found,
+            })
+        })
+    }
+}
+
+/// Without an early end, so that the compiler can take many bytes at a time.
+fn is_filled(bytes: &[u8], fill: u8) -> bool {
+    bytes.iter().fold(0, |seen, byte| seen | (byte ^ fill)) == 0
+}
+
+/// All that a call can be lent.
+pub struct Buffers {
+    text: Guarded,
+    answer: Guarded,
+}
+
+impl Buffers {
+    pub fn new() -> Self {
+        Buffers {
+            text: Guarded::new("the text", LONGEST_TEXT + 1),
+            answer: Guarded::new("the answer words", WORDS * WORD),
+        }
+    }
+
+    /// Fills the buffers for one call. `turn` picks the fill, and addresses that are left open.
+    pub fn lend(&mut self, arguments: &Arguments, turn: usize) -> Lent {
+        let fill = FILLS[turn % FILLS.len()];
+        let copied = copied(arguments);
+        let alignment = match arguments.place {
+            Place::At(alignment) => alignment,
+            _ => turn % ALIGNMENTS,
+        };
+        self.text
+            .prefill(copied.len(), alignment, fill)
+            .copy_from_slice(copied);
+        // An array of words is owed no more than a word's alignment.
+        self.answer
+            .prefill(WORDS * WORD, turn * WORD % ALIGNMENTS, fill);
+        Lent {
+            text: match arguments.place {
+                Place::Null => std::ptr::null(),
+                Place::Itself => arguments.text.as_ptr(),
+                Place::Any | Place::At(_) => self.text.pointer(),
+            },
+            text_length: arguments.text.len(),
+            answer: self.answer.pointer().cast(),
+        }
+    }
+
+    /// The first byte of any buffer that a call has not left as the answer says.
+    pub fn damage(&self, arguments: &Arguments, expected: &Answer) -> Option<Damage> {
+        let mut words = [0; WORDS * WORD];
+        words[..WORD].copy_from_slice(&expected.first.to_ne_bytes());
+        words[WORD..].copy_from_slice(&expected.second.to_ne_bytes());
+        self.answer
+            .damage(&words)
+            .or_else(|| self.text.damage(copied(arguments)))
+    }
+
+    pub fn answer_words(&self) -> [u64; WORDS] {
+        let word = |at: usize| {
+            let bytes = &self.answer.content()[at..at + WORD];
+            u64::from_ne_bytes(bytes.try_into().unwrap())
+        };
+        [word(0), word(WORD)]
+    }
+}
+
+/// What of the text lies in the guarded buffer.
+fn copied<'a>(arguments: &Arguments<'a>) -> &'a [u8] {
+    match arguments.place {
+        Place::Any | Place::At(_) => arguments.text,
+        Place::Null | Place::Itself => &[],
+    }
+}

@@ -1,0 +1,84 @@
+//! Runs one call on inputs and compares each answer, and every byte lent, with what has to be.
+
+use crate::buffers::{Buffers, Damage, ALIGNMENTS};
+use crate::calls::{Arguments, Call};
+use crate::hex::shortened;
+use crate::inputs::Family;
+use crate::library::Lent;
+use crate::oracle::Answer;
+use crate::random::Random;
+
+/// So many differences are described, the others counted.
+const DESCRIBED: usize = 5;
+
+pub struct Comparison<'a> {
+    call: &'a Call,
+    library: &'a dyn Fn(&Lent) -> u32,
+    buffers: Buffers,
+    pub compared: usize,
+    pub differences: usize,
+    pub descriptions: Vec<String>,
+}
+
+impl<'a> Comparison<'a> {
+    /// `library` stands for the call, so that a wrong one can take its place.
+    pub fn new(call: &'a Call, library: &'a dyn Fn(&Lent) -> u32) -> Self {
+        Comparison {
+            call,
+            library,
+            buffers: Buffers::new(),
+            compared: 0,
+            differences: 0,
+            descriptions: vec![],
+        }
+    }
+
+    pub fn try_all(&mut self, family: Family, random: &mut Random) {
+        family(random, &mut |arguments| self.compare(&arguments));
+    }
+
+    fn compare(&mut self, arguments: &Arguments) {
+        let expected = (self.call.expected)(arguments);
+        let lent = self.buffers.lend(arguments, self.compared);
+        let number = (self.library)(&lent);
+        let damage = self.buffers.damage(arguments, &expected);
+        self.compared += 1;
+        if number != expected.number || damage.is_some() {
+            self.differ(arguments, &lent, expected, number, damage);
+        }
+    }
+
+    #[cold]
+    fn differ(
+        &mut self,
+        arguments: &Arguments,
+        lent: &Lent,
+        expected: Answer,
+        number: u32,
+        damage: Option<Damage>,
+    ) {
+        self.differences += 1;
+        if self.descriptions.len() == DESCRIBED {
+            return;
+        }
+        let [first, second] = self.buffers.answer_words();
+        let mut description = format!(
+            "{}: {} bytes at address {} modulo {ALIGNMENTS}: {}\n  \
+             expected {} {} {}\n  found    {number} {first} {second}",
+            self.call.name,
+            lent.text_length,
+            lent.text as usize % ALIGNMENTS,
+            shortened(arguments.text),
+            expected.number,
+            expected.first,
+            expected.second,
+        );
+        if let Some(damage) = damage {
+            description += &format!(
+                "\n  byte {} of {} is {:02x} and has to be {:02x}",
+                damage.offset, damage.buffer, damage.found, damage.expected
+            );
+        }
+        self.descriptions.push(description);
+    }
+}

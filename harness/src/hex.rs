@@ -1,0 +1,19 @@
+//! Bytes as lower-case hexadecimal digits.
+
+/// `-` stands for no bytes.
+pub fn hex(bytes: &[u8]) -> String {
+    if bytes.is_empty() {
+        return "-".to_string();
+    }
+    bytes.iter().map(|byte| format!("{byte:02x}")).collect()
+}
+
+/// Long texts by their ends; they can be made again from the seed.
+pub fn shortened(bytes: &[u8]) -> String {
+    const END: usize = 256;
+    if bytes.len() <= 2 * END {
+        return hex(bytes);
+    }
+    let (head, tail) = (&bytes[..END], &bytes[bytes.len() - END..]);
+    format!("{} ... {}", hex(head), hex(tail))
+}

@@ -1,0 +1,81 @@
+//! Compares the library with the unchanged Rust that it takes the place of, and measures both.
+
+mod benchmark;
+mod buffers;
+mod calls;
+mod comparison;
+mod differential;
+mod hex;
+mod inputs;
+mod library;
+mod oracle;
+mod random;
+mod self_test;
+mod stored;
+
+use std::process::ExitCode;
+use std::time::Duration;
+use std::{env, fs, io};
+
+const USAGE: &str = "\
+harness differential [--seed N] [--minutes M]   compare every call with the Rust
+harness self-test                               check that wrong libraries are caught
+harness stored [FILE]                           write a sample of the Rust's answers
+harness benchmark                               measure every call against the Rust";
+
+const DEFAULT_SEED: u64 = 1;
+
+fn main() -> ExitCode {
+    let words: Vec<String> = env::args().skip(1).collect();
+    let words: Vec<&str> = words.iter().map(String::as_str).collect();
+    match run(&words) {
+        Some(true) => ExitCode::SUCCESS,
+        Some(false) => ExitCode::FAILURE,
+        None => {
+            eprintln!("{USAGE}");
+            ExitCode::from(2)
+        }
+    }
+}
+
+/// Whether the command passed; nothing for words that are no command.
+fn run(words: &[&str]) -> Option<bool> {
+    match words {
+        ["differential", options @ ..] => differential(options),
+        ["self-test"] => Some(self_test::run()),
+        ["stored"] => Some(passed(stored::write(&mut io::stdout()))),
+        ["stored", file] => Some(passed(store(file))),
+        ["benchmark"] => {
+            benchmark::run();
+            Some(true)
+        }
+        _ => None,
+    }
+}
+
+fn differential(options: &[&str]) -> Option<bool> {
+    let mut seed = DEFAULT_SEED;
+    let mut minutes = 0.0;
+    for option in options.chunks(2) {
+        match option {
+            ["--seed", number] => seed = number.parse().ok()?,
+            ["--minutes", number] => minutes = number.parse().ok()?,
+            _ => return None,
+        }
+    }
+    let time = Duration::try_from_secs_f64(minutes * 60.0).ok()?;
+    Some(differential::run(seed, time))
+}
+
+fn store(file: &str) -> io::Result<()> {
+    let mut text = vec![];
+    stored::write(&mut text)?;
+    fs::write(file, text)
+}
+
+fn passed(result: io::Result<()>) -> bool {
+    if let Err(error) = &result {
+        eprintln!("stored: {error}");
+    }
+    result.is_ok()
+}
