@@ -1,0 +1,10 @@
+-- Each call whole: from the arguments to number, answer words and lent buffers (document 01, and the C header). Assumes nothing.
+use mathlib.Core.List.{List, []}
+use Prim.Native.Nat.{ℕ}
+use lib.ListN.{length}
+use Rattle.text.specs.Call.{Called, callOf, andThen, textCheck}
+use Rattle.text.specs.declared.Answer.the-variants.{Done}
+
+-- document 01, UTF-8: 1 and 5, else the text's length
+unfoldable pub checkUtf8Call : List ℕ → Called
+checkUtf8Call text = callOf (andThen (textCheck text) (Done (length text) 0)) []
