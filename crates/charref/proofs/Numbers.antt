@@ -1,0 +1,94 @@
+-- Laws of character numbers: a digit at a time, zeros in front, and what a character is. Assumes nothing.
+use mathlib.Core.Path.{_≡_, refl, sym, _∙_, ap}
+use Prim.Native.Nat.{ℕ, zero, suc, _+_, _*_, _≤_, _<_}
+use native.Mathlib.Omega.{arith}
+use native.Mathlib.Numerals.{add-one}
+use native.Mathlib.Nat.{mul-le-mul, one-mul, mul-zero}
+use mathlib.Core.Bool.{Bool, true, false, _||_}
+use mathlib.Core.Option.{Option, none, some}
+use mathlib.Core.List.{List, [], _∷_, _++_}
+use lib.Dec.{eqb, ltb}
+use lib.ListN.{length, getD, drop, replicate, drop-of-length-le}
+use lib.Seq.{drop-cons}
+use borrow.Author.Tests.{lt-ltb, le-ltb}
+use Rattle.text.specs.Bytes.{pick, within}
+use Rattle.charref.specs.CharRef.{digitValue, digit, numberFrom, small, inBase, judge, charNumber, anyCharacter}
+use Rattle.charref.specs.declared.Parsed.{Parsed}
+use Rattle.charref.specs.declared.Parsed.the-variants.{Value, Signed, NoNumber}
+
+-- ---- a digit at a time
+
+pub digit-some : (base b : ℕ) → digitValue b < base → digit base b ≡ some (digitValue b)
+unfolding digit
+digit-some base b h = rw (lt-ltb (digitValue b) base h)
+
+pub digit-none : (base b : ℕ) → base ≤ digitValue b → digit base b ≡ none
+unfolding digit
+digit-none base b h = rw (le-ltb (digitValue b) base h)
+
+pub number-step : (base n b : ℕ) (bs : List ℕ) → digitValue b < base
+    → numberFrom base n (b ∷ bs) ≡ numberFrom base (base * n + digitValue b) bs
+unfolding numberFrom
+number-step base n b bs h = rw (digit-some base b h, numberFrom)
+
+pub number-stop : (base n b : ℕ) (bs : List ℕ) → base ≤ digitValue b → numberFrom base n (b ∷ bs) ≡ none
+unfolding numberFrom
+number-stop base n b bs h = rw (digit-none base b h, numberFrom)
+
+-- more digits make no smaller number, so one over 32 bits stays so
+pub too-large : (base n : ℕ) (bs : List ℕ) → 1 ≤ base → 4294967295 < n → small (numberFrom base n bs) ≡ NoNumber
+unfolding small numberFrom
+too-large base n [] h k = rw (lt-ltb 4294967295 n k)
+too-large base n (b ∷ bs) h k = go (λ d. too-large base (base * n + d) bs h (more d)) (digit base b)
+  where
+    more : (d : ℕ) → 4294967295 < base * n + d
+    more d =
+        let m : 1 * n ≤ base * n = mul-le-mul {n₂ = base} {m₂ = n} h (omega arith) in
+        omega (arith, one-mul n)
+
+    go : ((d : ℕ) → small (numberFrom base (base * n + d) bs) ≡ NoNumber)
+        → (o : Option ℕ) → small (elim o [ none ↦ none | some d ↦ numberFrom base (base * n + d) bs ]) ≡ NoNumber
+    go ih none = refl
+    go ih (some d) = ih d
+
+-- ---- where the reader stands at `i`
+
+module _ (base n i : ℕ) (s : List ℕ) where
+  pub at-end : length s ≤ i → n ≤ 4294967295 → small (numberFrom base n (drop i s)) ≡ Value n
+  unfolding small numberFrom
+  at-end h k = rw (drop-of-length-le s h, le-ltb 4294967295 n k)
+
+  at : i < length s → numberFrom base n (drop i s) ≡ numberFrom base n (getD s i 0 ∷ drop (i + 1) s)
+  at h = rw (add-one i, drop-cons s i 0 h)
+
+  pub at-digit : i < length s → (d : ℕ) → d ≡ digitValue (getD s i 0) → d < base
+      → numberFrom base n (drop i s) ≡ numberFrom base (base * n + d) (drop (i + 1) s)
+  at-digit h d e k =
+      at h ∙ number-step base n (getD s i 0) (drop (i + 1) s) (omega arith)
+      ∙ ap (λ (v : ℕ). numberFrom base (base * n + v) (drop (i + 1) s)) (sym e)
+
+  pub at-none : i < length s → (d : ℕ) → d ≡ digitValue (getD s i 0) → base ≤ d → small (numberFrom base n (drop i s)) ≡ NoNumber
+  at-none h d e k =
+      ap small (at h ∙ number-stop base n (getD s i 0) (drop (i + 1) s) (omega arith)) ∙ (unfold small in refl)
+
+-- a value of 32 bits times the base fits 64 bits
+pub product : (base n : ℕ) → base ≤ 16 → n ≤ 4294967295 → base * n ≤ 68719476720
+product base n h k = mul-le-mul {n₂ = 16} {m₂ = 4294967295} h k
+
+-- ---- zeros in front
+
+zero-digit : digitValue 48 ≡ 0
+unfolding digitValue
+zero-digit = refl
+
+pub leading-zero : (base : ℕ) (bs : List ℕ) → 1 ≤ base → numberFrom base 0 (48 ∷ bs) ≡ numberFrom base 0 bs
+leading-zero base bs h =
+    number-step base 0 48 bs (rw zero-digit h)
+    ∙ ap (λ (n : ℕ). numberFrom base n bs) (rw (zero-digit, mul-zero base))
+
+pub leading-zeros : (base k : ℕ) (bs : List ℕ) → 1 ≤ base → numberFrom base 0 (replicate k 48 ++ bs) ≡ numberFrom base 0 bs
+leading-zeros base zero bs h = refl
+leading-zeros base (suc k) bs h = leading-zero base (replicate k 48 ++ bs) h ∙ leading-zeros base k bs h
+
+pub at-zero : (base i : ℕ) (s : List ℕ) → 1 ≤ base → i < length s → getD s i 0 ≡ 48 → numberFrom base 0 (drop (i + 1) s) ≡ numberFrom base 0 (drop i s)
+at-zero base i s h k e = sym (at base 0 i s k ∙ rw e (leading-zero base (drop (i + 1) s) h))
