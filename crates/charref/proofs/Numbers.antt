@@ -1,20 +1,23 @@
 -- Laws of character numbers: a digit at a time, zeros in front, and what a character is. Assumes nothing.
 use mathlib.Core.Path.{_≡_, refl, sym, _∙_, ap}
-use Prim.Native.Nat.{ℕ, zero, suc, _+_, _*_, _≤_, _<_}
+use Prim.Native.Nat.{ℕ, zero, suc, _+_, _*_, _-_, _≤_, _<_}
 use native.Mathlib.Omega.{arith}
+use mathlib.Core.Logic.{_≢_, _⊎_, inl, inr}
 use native.Mathlib.Numerals.{add-one}
 use native.Mathlib.Nat.{mul-le-mul, one-mul, mul-zero}
 use mathlib.Core.Bool.{Bool, true, false, _||_}
 use mathlib.Core.Option.{Option, none, some}
 use mathlib.Core.List.{List, [], _∷_, _++_}
 use lib.Dec.{eqb, ltb}
-use lib.ListN.{length, getD, drop, replicate, drop-of-length-le}
-use lib.Seq.{drop-cons}
-use borrow.Author.Tests.{lt-ltb, le-ltb}
+use lib.ListN.{length, getD, take, drop, replicate, drop-of-length-le}
+use lib.Seq.{drop-cons, take-all}
+use borrow.Author.Tests.{lt-ltb, le-ltb, ne-eqb}
 use Rattle.text.specs.Bytes.{pick, within}
 use Rattle.charref.specs.CharRef.{digitValue, digit, numberFrom, small, inBase, judge, charNumber, anyCharacter}
 use Rattle.charref.specs.declared.Parsed.{Parsed}
 use Rattle.charref.specs.declared.Parsed.the-variants.{Value, Signed, NoNumber}
+use Rattle.charref.specs.declared.CharNumber.{CharNumber}
+use Rattle.charref.specs.declared.CharNumber.the-variants.{Char, InvalidNumber}
 
 -- ---- a digit at a time
 
@@ -92,3 +95,39 @@ leading-zeros base (suc k) bs h = leading-zero base (replicate k 48 ++ bs) h ∙
 
 pub at-zero : (base i : ℕ) (s : List ℕ) → 1 ≤ base → i < length s → getD s i 0 ≡ 48 → numberFrom base 0 (drop (i + 1) s) ≡ numberFrom base 0 (drop i s)
 at-zero base i s h k e = sym (at base 0 i s k ∙ rw e (leading-zero base (drop (i + 1) s) h))
+
+-- ---- the sign, and the base
+
+pub base-none : (base : ℕ) (s : List ℕ) → length s ≡ 0 → NoNumber ≡ inBase base s
+unfolding inBase
+base-none base [] h = refl
+base-none base (b ∷ s) h = absurd (omega arith)
+
+pub base-sign : (base : ℕ) (s : List ℕ) → length s ≢ 0 → (getD s 0 0 ≡ 43) ⊎ (getD s 0 0 ≡ 45) → Signed ≡ inBase base s
+unfolding inBase
+base-sign base [] h e = absurd (h refl)
+base-sign base (b ∷ s) h (inl e) = rw e
+base-sign base (b ∷ s) h (inr e) = rw e
+
+pub base-digits : (base : ℕ) (s : List ℕ) → length s ≢ 0 → ((getD s 0 0 ≡ 43) ⊎ (getD s 0 0 ≡ 45) → ⊥)
+    → small (numberFrom base 0 s) ≡ inBase base s
+unfolding inBase
+base-digits base [] h k = absurd (h refl)
+base-digits base (b ∷ s) h k = rw (ne-eqb b 43 (λ e. k (inl e)), ne-eqb b 45 (λ e. k (inr e)))
+
+pub char-none : (legal : ℕ → CharNumber) (s : List ℕ) → length s ≡ 0 → InvalidNumber ≡ charNumber legal s
+unfolding charNumber
+char-none legal [] h = refl
+char-none legal (b ∷ s) h = absurd (omega arith)
+
+pub char-hex : (legal : ℕ → CharNumber) (s : List ℕ) → length s ≢ 0 → getD s 0 0 ≡ 120
+    → judge legal (inBase 16 (take (length s - 1) (drop 1 s))) ≡ charNumber legal s
+unfolding charNumber
+char-hex legal [] h e = absurd (h refl)
+char-hex legal (b ∷ s) h e = rw (take-all (length (b ∷ s) - 1) s (omega arith), e)
+
+pub char-decimal : (legal : ℕ → CharNumber) (s : List ℕ) → length s ≢ 0 → getD s 0 0 ≢ 120
+    → judge legal (inBase 10 s) ≡ charNumber legal s
+unfolding charNumber
+char-decimal legal [] h e = absurd (h refl)
+char-decimal legal (b ∷ s) h e = rw (ne-eqb b 120 e)
