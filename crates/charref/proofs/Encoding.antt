@@ -2,11 +2,13 @@
 use mathlib.Core.Path.{_≡_, refl, sym, _∙_, ap}
 use Prim.Native.Nat.{ℕ, _+_, _/_, _%_, _≤_, _<_}
 use native.Mathlib.Omega.{arith}
+use native.Mathlib.Nat.{zero-add}
 use mathlib.Core.Bool.{Bool, true, false}
 use mathlib.Core.Logic.{_≢_}
-use mathlib.Core.List.{List, [], _∷_}
+use mathlib.Core.List.{List, [], _∷_, _++_}
 use lib.Dec.{eqb, ltb}
-use lib.ListN.{length}
+use lib.ListN.{length, drop}
+use lib.Seq.{sets, sets-eq, lt-length-sets}
 use borrow.Author.Tests.{eqb-true, eqb-false, ne-eqb, ltb-true, ltb-false, lt-ltb, le-ltb, le-leb, lt-leb}
 use Rattle.text.specs.Bytes.{pick, within}
 use Rattle.text.specs.Utf8.{State, between, next, after, WellFormed}
@@ -63,6 +65,28 @@ encode-at-least n =
 pub encode-at-most : (n : ℕ) → length (encode n) ≤ 4
 encode-at-most n =
     by-size (λ (l : List ℕ). length l ≤ 4) n (λ a. omega arith) (λ a b. omega arith) (λ a b. omega arith) (λ a. omega arith)
+
+-- ---- they stand at the start of what they were written over
+
+pub least-2 : (n : ℕ) → 0x80 ≤ n → 2 ≤ length (encode n)
+least-2 n h =
+    by-size (λ (l : List ℕ). 2 ≤ length l) n (λ a. omega arith) (λ a b. omega arith) (λ a b. omega arith) (λ a. omega arith)
+
+pub least-3 : (n : ℕ) → 0x800 ≤ n → 3 ≤ length (encode n)
+least-3 n h =
+    by-size (λ (l : List ℕ). 3 ≤ length l) n (λ a. omega arith) (λ a b. omega arith) (λ a b. omega arith) (λ a. omega arith)
+
+pub least-4 : (n : ℕ) → 0x10000 ≤ n → 4 ≤ length (encode n)
+least-4 n h =
+    by-size (λ (l : List ℕ). 4 ≤ length l) n (λ a. omega arith) (λ a b. omega arith) (λ a b. omega arith) (λ a. omega arith)
+
+-- there is room for the next byte after those stored
+pub room : (n k : ℕ) (stored out : List ℕ) → length (encode n) ≤ length out → k < length (encode n) → k < length (sets out 0 stored)
+room n k stored out h l = lt-length-sets out 0 stored (omega arith)
+
+pub written : (n : ℕ) (bytes out : List ℕ) → encode n ≡ bytes → length (encode n) ≤ length out
+    → (length bytes ≡ length (encode n)) × (sets out 0 bytes ≡ encode n ++ drop (length (encode n)) out)
+written n bytes out e h = rw e (refl, sets-eq bytes out 0 (rw zero-add (rw e at h)) ∙ rw zero-add)
 
 -- ---- they are well-formed
 
