@@ -1,2 +1,3 @@
-pub mod Numbers
 pub mod Encoding
+pub mod Numbers
+mod Examples

@@ -11,13 +11,15 @@ use mathlib.Core.List.{List, [], _∷_, _++_}
 use lib.Dec.{eqb, ltb}
 use lib.ListN.{length, getD, take, drop, replicate, drop-of-length-le}
 use lib.Seq.{drop-cons, take-all}
-use borrow.Author.Tests.{lt-ltb, le-ltb, ne-eqb}
+use borrow.Author.Tests.{lt-ltb, le-ltb, ltb-false, ne-eqb, eqb-false}
 use Rattle.text.specs.Bytes.{pick, within}
-use Rattle.charref.specs.CharRef.{digitValue, digit, numberFrom, small, inBase, judge, charNumber, anyCharacter}
+use Rattle.text.specs.Utf8.{WellFormed}
+use Rattle.charref.specs.CharRef.{digitValue, digit, numberFrom, small, inBase, judge, charNumber, anyCharacter, encode}
 use Rattle.charref.specs.declared.Parsed.{Parsed}
 use Rattle.charref.specs.declared.Parsed.the-variants.{Value, Signed, NoNumber}
 use Rattle.charref.specs.declared.CharNumber.{CharNumber}
-use Rattle.charref.specs.declared.CharNumber.the-variants.{Char, InvalidNumber}
+use Rattle.charref.specs.declared.CharNumber.the-variants.{Char, InvalidNumber, InvalidCodepoint, IllegalCharacter}
+use Rattle.charref.proofs.Encoding.{encode-well-formed}
 
 -- ---- a digit at a time
 
@@ -115,6 +117,11 @@ unfolding inBase
 base-digits base [] h k = absurd (h refl)
 base-digits base (b ∷ s) h k = rw (ne-eqb b 43 (λ e. k (inl e)), ne-eqb b 45 (λ e. k (inr e)))
 
+-- a zero in front changes no answer, unless it hides a sign
+pub base-zero : (base b : ℕ) (bs : List ℕ) → 1 ≤ base → b ≢ 43 → b ≢ 45 → inBase base (48 ∷ b ∷ bs) ≡ inBase base (b ∷ bs)
+unfolding inBase
+base-zero base b bs h p m = rw (ne-eqb b 43 p, ne-eqb b 45 m) (ap small (leading-zero base (b ∷ bs) h))
+
 pub char-none : (legal : ℕ → CharNumber) (s : List ℕ) → length s ≡ 0 → InvalidNumber ≡ charNumber legal s
 unfolding charNumber
 char-none legal [] h = refl
@@ -131,3 +138,42 @@ pub char-decimal : (legal : ℕ → CharNumber) (s : List ℕ) → length s ≢ 
 unfolding charNumber
 char-decimal legal [] h e = absurd (h refl)
 char-decimal legal (b ∷ s) h e = rw (ne-eqb b 120 e)
+
+-- ---- what a character is
+
+-- not 0, no surrogate, at most U+10FFFF
+pub record Character (n : ℕ) : Type 0 where
+  pub positive : 0 < n
+  pub no-surrogate : within 0xD800 0xDFFF n ≡ false
+  pub most : n ≤ 1114111
+
+-- for every rule that names no other character than the one it is asked for
+module _ (legal : ℕ → CharNumber) (own : (m n : ℕ) → legal m ≡ Char n → m ≡ n) where
+  pub judge-character : (p : Parsed) (n : ℕ) → judge legal p ≡ Char n → Character n
+  unfolding judge
+  judge-character Signed n e = absurd (let z : _≡_ {A = ℕ} 0 1 = cc in omega arith)
+  judge-character NoNumber n e = absurd (let z : _≡_ {A = ℕ} 0 1 = cc in omega arith)
+  judge-character (Value m) n e = go (eqb m 0) refl (within 0xD800 0xDFFF m) refl (ltb 1114111 m) refl e
+    where
+      go : (t : Bool) → eqb m 0 ≡ t → (u : Bool) → within 0xD800 0xDFFF m ≡ u → (v : Bool) → ltb 1114111 m ≡ v
+          → pick t IllegalCharacter (pick (u || v) (InvalidCodepoint m) (legal m)) ≡ Char n → Character n
+      go true a u b v c e = absurd (let z : _≡_ {A = ℕ} 0 1 = cc in omega arith)
+      go false a true b v c e = absurd (let z : _≡_ {A = ℕ} 0 1 = cc in omega arith)
+      go false a false b true c e = absurd (let z : _≡_ {A = ℕ} 0 1 = cc in omega arith)
+      go false a false b false c e =
+          let q : m ≡ n = own m n e in
+          let z : m ≢ 0 = eqb-false m 0 a in
+          record { positive = omega arith; no-surrogate = rw q at b; most = omega (arith, ltb-false 1114111 m c) }
+
+  pub legal-character : (text : List ℕ) (n : ℕ) → charNumber legal text ≡ Char n → Character n
+  unfolding charNumber
+  legal-character [] n e = judge-character NoNumber n e
+  legal-character (b ∷ bs) n e = judge-character (pick (eqb b 120) (inBase 16 bs) (inBase 10 (b ∷ bs))) n e
+
+pub charNumber-character : (text : List ℕ) (n : ℕ) → charNumber anyCharacter text ≡ Char n → Character n
+charNumber-character text n e = legal-character anyCharacter (λ m k q. cc) text n e
+
+pub charNumber-well-formed : (text : List ℕ) (n : ℕ) → charNumber anyCharacter text ≡ Char n → WellFormed (encode n)
+charNumber-well-formed text n e =
+    let h : Character n = charNumber-character text n e in
+    encode-well-formed n (h .no-surrogate) (h .most)
