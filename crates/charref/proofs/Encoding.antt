@@ -1,5 +1,5 @@
 -- Laws of the UTF-8 of a character: its bytes by the size of the number, their count, and that they are well-formed. Assumes nothing.
-use mathlib.Core.Path.{_≡_, refl, sym, _∙_, ap}
+use mathlib.Core.Path.{_≡_, refl, _∙_}
 use Prim.Native.Nat.{ℕ, _+_, _/_, _%_, _≤_, _<_}
 use native.Mathlib.Omega.{arith}
 use native.Mathlib.Nat.{zero-add}
@@ -11,8 +11,8 @@ use lib.ListN.{length, drop}
 use lib.Seq.{sets, sets-eq, lt-length-sets}
 use borrow.Author.Tests.{eqb-true, eqb-false, ne-eqb, ltb-true, ltb-false, lt-ltb, le-ltb, le-leb, lt-leb}
 use Rattle.text.specs.Bytes.{pick, within}
-use Rattle.text.specs.Utf8.{State, between, next, after, WellFormed}
-use Rattle.text.proofs.Bytes.{pick-by, pick-both, inside, above, either}
+use Rattle.text.specs.Utf8.{between, after, WellFormed}
+use Rattle.text.proofs.Bytes.{pick-by, inside, above, either}
 use Rattle.charref.specs.CharRef.{encode}
 
 -- ---- its bytes, by the size of the number

@@ -1,9 +1,9 @@
--- Character numbers, the text after `#` of a reference (document 01), and the UTF-8 of a character (RFC 3629). Assumes nothing.
+-- Character numbers (document 01, Character numbers and Refusals by place) and the UTF-8 of a character (RFC 3629). Assumes nothing.
 use Prim.Native.Nat.{ℕ, _+_, _-_, _*_, _/_, _%_}
-use mathlib.Core.Bool.{Bool, true, false, _&&_, _||_}
+use mathlib.Core.Bool.{_||_}
 use mathlib.Core.Option.{Option, none, some}
 use mathlib.Core.List.{List, [], _∷_}
-use lib.Dec.{eqb, leb, ltb}
+use lib.Dec.{eqb, ltb}
 use Rattle.text.specs.Bytes.{pick, within}
 use Rattle.text.specs.declared.Answer.{Answer}
 use Rattle.text.specs.declared.Answer.the-variants.{Done, Refused}

@@ -6,8 +6,8 @@ ghost use lib.ListN.{length, drop};
 ghost use Rattle.charref.specs.CharRef.{digitValue, numberFrom, small, inBase, judge, charNumber, anyCharacter, numberAnswer, encode};
 use text::Answer;
 
-// What the digits write.
-pub enum Parsed {
+// What the digits write: a value of 32 bits, or what refuses them, 12 or 13.
+enum Parsed {
     Value(u32),
     Signed,
     NoNumber,

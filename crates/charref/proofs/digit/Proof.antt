@@ -1,63 +1,50 @@
+-- `charref::digit` gives the digit's value: in each branch every range test of `digitValue` is decided by the tests that led there. Assumes nothing.
 use Rattle.charref.specs.CharRef.{digitValue}
 use Rattle.text.proofs.Bytes.{inside, above, below}
 use native.Mathlib.Omega.{arith}
 use borrow.Author.Needs.{needs}
 use Rattle.charref.proofs.digit.Statement.{statement}
 use Rattle.charref.proofs.digit.Tie as tie
-use Rattle.charref.proofs.digit.Reads as reads
-use Rattle.charref.proofs.digit.Lts as lts
 
--- src/lib.rt:30:9
 returns : tie.Need-returns
 unfolding digitValue
 returns c = let b = c .before .args .b in rw (below 48 57 b (omega arith), below 65 70 b (omega arith), below 97 102 b (omega arith))
 
--- src/lib.rt:33:16
 cast-result : tie.Need-cast-result
 cast-result c = search needs
 
--- src/lib.rt:33:9
 returns-2 : tie.Need-returns-2
 unfolding digitValue
 returns-2 c = let b = c .before .before .args .b in rw (inside 48 57 b (omega arith) (omega arith))
 
--- src/lib.rt:36:9
 returns-3 : tie.Need-returns-3
 unfolding digitValue
 returns-3 c = let b = c .before .before .before .args .b in rw (above 48 57 b (omega arith), below 65 70 b (omega arith), below 97 102 b (omega arith))
 
--- src/lib.rt:39:17
 sub-result : tie.Need-sub-result
 sub-result c = search needs
 
--- src/lib.rt:39:16
 cast-result-2 : tie.Need-cast-result-2
 cast-result-2 c = search needs
 
--- src/lib.rt:39:9
 returns-4 : tie.Need-returns-4
 unfolding digitValue
 returns-4 c = let b = c .before .before .before .before .args .b in rw (above 48 57 b (omega arith), inside 65 70 b (omega arith) (omega arith))
 
--- src/lib.rt:42:9
 returns-5 : tie.Need-returns-5
 unfolding digitValue
 returns-5 c = let b = c .before .before .before .before .before .args .b in rw (above 48 57 b (omega arith), above 65 70 b (omega arith), below 97 102 b (omega arith))
 
--- src/lib.rt:45:17
 sub-result-2 : tie.Need-sub-result-2
 sub-result-2 c = search needs
 
--- src/lib.rt:45:16
 cast-result-3 : tie.Need-cast-result-3
 cast-result-3 c = search needs
 
--- src/lib.rt:45:9
 returns-6 : tie.Need-returns-6
 unfolding digitValue
 returns-6 c = let b = c .before .before .before .before .before .before .args .b in rw (above 48 57 b (omega arith), above 65 70 b (omega arith), inside 97 102 b (omega arith) (omega arith))
 
--- src/lib.rt:26:1
 returns-7 : tie.Need-returns-7
 unfolding digitValue
 returns-7 c = let b = c .before .before .before .before .before .before .args .b in rw (above 48 57 b (omega arith), above 65 70 b (omega arith), above 97 102 b (omega arith))

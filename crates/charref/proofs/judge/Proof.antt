@@ -1,38 +1,29 @@
+-- `charref::judge` judges what was parsed, case by case. Assumes nothing.
 use Rattle.charref.specs.CharRef.{judge, anyCharacter}
-use mathlib.Core.Path.{_≡_, sym, _∙_, ap}
+use mathlib.Core.Path.{sym, _∙_, ap}
 use borrow.Author.Needs.{needs}
 use Rattle.charref.proofs.judge.Statement.{statement}
 use Rattle.charref.proofs.judge.Tie as tie
-use Rattle.charref.proofs.judge.Reads as reads
-use Rattle.charref.proofs.judge.Lts as lts
-use Rattle.charref.proofs.judge_value.Reads as judge-value-reads
 
--- src/lib.rt:121:23
 enum-known-p : tie.Need-enum-known-p
 enum-known-p c = search needs
 
--- src/lib.rt:121:29
 judge-value-requires : tie.Need-judge-value-requires
 judge-value-requires c κs = search needs
 
--- src/lib.rt:122:27
 enum-told : tie.Need-enum-told
 enum-told c = search needs
 
--- src/lib.rt:123:29
 enum-told-2 : tie.Need-enum-told-2
 enum-told-2 c = search needs
 
--- src/lib.rt:117:1
 returns : tie.Need-returns
 returns c = c .judge-value .ensures ∙ sym (ap (judge anyCharacter) (c .before .before .p .given .1))
 
--- src/lib.rt:117:1
 returns-2 : tie.Need-returns-2
 unfolding judge
 returns-2 c = sym (ap (judge anyCharacter) (c .enum-told .given .1))
 
--- src/lib.rt:117:1
 returns-3 : tie.Need-returns-3
 unfolding judge
 returns-3 c = sym (ap (judge anyCharacter) (c .enum-told2 .given .1))

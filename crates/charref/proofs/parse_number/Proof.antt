@@ -1,57 +1,43 @@
+-- `charref::parse_number` meets its contract: the three cases of `charNumber`, with the digits after x as a part of the text. Assumes nothing.
 use Rattle.charref.proofs.Numbers.{char-none, char-hex, char-decimal}
 use Rattle.charref.specs.CharRef.{judge, anyCharacter}
-use mathlib.Core.Path.{_≡_, sym, _∙_, ap}
+use mathlib.Core.Path.{_∙_, ap}
 use borrow.Author.Needs.{needs}
 use Rattle.charref.proofs.parse_number.Statement.{statement}
 use Rattle.charref.proofs.parse_number.Tie as tie
-use Rattle.charref.proofs.parse_number.Reads as reads
-use Rattle.charref.proofs.parse_number.Lts as lts
-use Rattle.charref.proofs.from_str_radix.Reads as from-str-radix-reads
-use Rattle.charref.proofs.judge.Reads as judge-reads
 
--- src/lib.rt:132:9
 returns : tie.Need-returns
 returns c = char-none anyCharacter (c .before .before .args .text .now) (c .if1 .taken)
 
--- src/lib.rt:134:8
 shared-slice-read-if2 : tie.Need-shared-slice-read-if2
 shared-slice-read-if2 c = search needs
 
--- src/lib.rt:135:37
 sub-from-str-radix : tie.Need-sub-from-str-radix
 sub-from-str-radix c = search needs
 
--- src/lib.rt:135:37
 part-from-str-radix-start : tie.Need-part-from-str-radix-start
 part-from-str-radix-start c = search needs
 
--- src/lib.rt:135:37
 part-from-str-radix-end : tie.Need-part-from-str-radix-end
 part-from-str-radix-end c = search needs
 
--- src/lib.rt:135:22
 from-str-radix-requires : tie.Need-from-str-radix-requires
 from-str-radix-requires c κs = search needs
 
--- src/lib.rt:135:9
 judge-requires : tie.Need-judge-requires
 judge-requires c κs = search needs
 
--- src/lib.rt:135:9
 returns-2 : tie.Need-returns-2
 returns-2 c =
     c .judge .ensures ∙ ap (judge anyCharacter) (c .before .from-str-radix .ensures)
     ∙ char-hex anyCharacter (c .before .before .before .before .before .before .before .args .text .now) (c .before .before .before .before .before .if1 .left) (c .before .before .before .if2 .taken)
 
--- src/lib.rt:137:11
 from-str-radix-requires-2 : tie.Need-from-str-radix-requires-2
 from-str-radix-requires-2 c κs = search needs
 
--- src/lib.rt:137:5
 judge-requires-2 : tie.Need-judge-requires-2
 judge-requires-2 c κs = search needs
 
--- src/lib.rt:128:1
 returns-3 : tie.Need-returns-3
 returns-3 c =
     c .judge2 .ensures ∙ ap (judge anyCharacter) (c .before .from-str-radix2 .ensures)

@@ -1,3 +1,4 @@
+-- `charref::skip_zeros` passes zeros only. The invariant: what is left writes the same number in every base. Assumes nothing.
 use native.Mathlib.Omega.{arith}
 use lib.ListN.{length, drop}
 use Prim.Native.Nat.{ℕ, _≤_, _-_}
@@ -7,8 +8,6 @@ use Rattle.charref.proofs.Numbers.{at-zero}
 use borrow.Author.Needs.{needs}
 use Rattle.charref.proofs.skip_zeros.Statement.{statement}
 use Rattle.charref.proofs.skip_zeros.Tie as tie
-use Rattle.charref.proofs.skip_zeros.Reads as reads
-use Rattle.charref.proofs.skip_zeros.Lts as lts
 
 abbrev Inv-loop : tie.InvT-loop
 Inv-loop text i₀ i = (i ≤ length text) × ((base : ℕ) → 1 ≤ base → numberFrom base 0 (drop i text) ≡ numberFrom base 0 text)
@@ -16,33 +15,26 @@ Inv-loop text i₀ i = (i ≤ length text) × ((base : ℕ) → 1 ≤ base → n
 abbrev μ-loop : tie.MeasureT-loop
 μ-loop text i₀ i = length text - i
 
--- src/lib.rt:56:5
 loop-holds : tie.Need-loop-holds Inv-loop μ-loop
 loop-holds c = search needs
 
--- src/lib.rt:57:12
 shared-slice-read-if1 : tie.Need-shared-slice-read-if1 Inv-loop μ-loop
 shared-slice-read-if1 c = search needs
 
--- src/lib.rt:58:13
 returns : tie.Need-returns Inv-loop μ-loop
 returns c = search needs
 
--- src/lib.rt:60:9
 add-i : tie.Need-add-i Inv-loop μ-loop
 add-i c = search needs
 
--- src/lib.rt:56:5
 loop-less : tie.Need-loop-less Inv-loop μ-loop
 loop-less c = search needs
 
--- src/lib.rt:56:5
 loop-again : tie.Need-loop-again Inv-loop μ-loop
 loop-again c =
     let l = c .before .before .before .loop in
     (omega arith, λ base h. at-zero base (l .i) (c .before .before .before .before .args .text .now) h (omega arith) (c .if1 .left) ∙ l .inv .1 base h)
 
--- src/lib.rt:51:1
 returns-2 : tie.Need-returns-2 Inv-loop μ-loop
 returns-2 c = search needs
 
