@@ -34,8 +34,6 @@ pub encode-4 : (n : ℕ) → 0x10000 ≤ n
 unfolding encode
 encode-4 n g = rw (le-ltb n 0x80 (omega arith), le-ltb n 0x800 (omega arith), le-ltb n 0x10000 g)
 
--- ---- their count
-
 -- what holds of each form holds of the encoding
 module _ (P : List ℕ → Type 0) (n : ℕ)
     (p1 : n < 0x80 → P (n ∷ []))
@@ -49,6 +47,8 @@ module _ (P : List ℕ → Type 0) (n : ℕ)
         pick-by P (ltb n 0x80) (λ a. p1 (ltb-true n 0x80 a)) λ a.
         pick-by P (ltb n 0x800) (λ b. p2 (ltb-false n 0x80 a) (ltb-true n 0x800 b)) λ b.
         pick-by P (ltb n 0x10000) (λ c. p3 (ltb-false n 0x800 b) (ltb-true n 0x10000 c)) λ c. p4 (ltb-false n 0x10000 c)
+
+-- ---- their count
 
 pub encode-length : (n : ℕ) → length (encode n) ≡ pick (ltb n 0x80) 1 (pick (ltb n 0x800) 2 (pick (ltb n 0x10000) 3 4))
 encode-length n =
@@ -66,8 +66,6 @@ pub encode-at-most : (n : ℕ) → length (encode n) ≤ 4
 encode-at-most n =
     by-size (λ (l : List ℕ). length l ≤ 4) n (λ a. omega arith) (λ a b. omega arith) (λ a b. omega arith) (λ a. omega arith)
 
--- ---- they stand at the start of what they were written over
-
 pub least-2 : (n : ℕ) → 0x80 ≤ n → 2 ≤ length (encode n)
 least-2 n h =
     by-size (λ (l : List ℕ). 2 ≤ length l) n (λ a. omega arith) (λ a b. omega arith) (λ a b. omega arith) (λ a. omega arith)
@@ -79,6 +77,8 @@ least-3 n h =
 pub least-4 : (n : ℕ) → 0x10000 ≤ n → 4 ≤ length (encode n)
 least-4 n h =
     by-size (λ (l : List ℕ). 4 ≤ length l) n (λ a. omega arith) (λ a b. omega arith) (λ a b. omega arith) (λ a. omega arith)
+
+-- ---- they stand at the start of what they were written over
 
 -- there is room for the next byte after those stored
 pub room : (n k : ℕ) (stored out : List ℕ) → length (encode n) ≤ length out → k < length (encode n) → k < length (sets out 0 stored)

@@ -62,7 +62,7 @@ fn skip_zeros(text: &[u8]) -> usize
     i
 }
 
-// A byte that is no digit and a value over 32 bits have the same answer, so both end the loop at once.
+// In the place of Rust's u32::from_str_radix. A byte that is no digit and a value over 32 bits have the same answer, so both end the loop at once.
 fn digits(text: &[u8], base: u64) -> Parsed
     requires { ⌜ (1 ≤ base) × (base ≤ 16) ⌝ }
     ensures { λ r. ⌜ r ≡ small (numberFrom base 0 (now (text .entry))) ⌝ }
@@ -83,6 +83,7 @@ fn digits(text: &[u8], base: u64) -> Parsed
     Parsed::Value(value as u32)
 }
 
+// A sign has an answer of its own, so it is looked for before the digits are read.
 fn from_str_radix(text: &[u8], base: u64) -> Parsed
     requires { ⌜ (1 ≤ base) × (base ≤ 16) ⌝ }
     ensures { λ r. ⌜ r ≡ inBase base (now (text .entry)) ⌝ }
@@ -137,6 +138,7 @@ pub fn parse_number(text: &[u8]) -> CharNumber
     judge(from_str_radix(text, 10))
 }
 
+// Document 01's number and values.
 pub fn answer_of(n: CharNumber) -> Answer
     ensures { λ r. ⌜ r ≡ numberAnswer n ⌝ }
 {
