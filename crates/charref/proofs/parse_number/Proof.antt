@@ -1,0 +1,60 @@
+-- `charref::parse_number` meets its contract: the three cases of `charNumber`, with the digits after x as a part of the text. Assumes nothing.
+use Rattle.charref.proofs.Numbers.{char-none, char-hex, char-decimal}
+use Rattle.charref.specs.CharRef.{judge, anyCharacter}
+use mathlib.Core.Path.{_∙_, ap}
+use borrow.Author.Needs.{needs}
+use Rattle.charref.proofs.parse_number.Statement.{statement}
+use Rattle.charref.proofs.parse_number.Tie as tie
+
+returns : tie.Need-returns
+returns c = char-none anyCharacter (c .before .before .args .text .now) (c .if1 .taken)
+
+shared-slice-read-if2 : tie.Need-shared-slice-read-if2
+shared-slice-read-if2 c = search needs
+
+sub-from-str-radix : tie.Need-sub-from-str-radix
+sub-from-str-radix c = search needs
+
+part-from-str-radix-start : tie.Need-part-from-str-radix-start
+part-from-str-radix-start c = search needs
+
+part-from-str-radix-end : tie.Need-part-from-str-radix-end
+part-from-str-radix-end c = search needs
+
+from-str-radix-requires : tie.Need-from-str-radix-requires
+from-str-radix-requires c κs = search needs
+
+judge-requires : tie.Need-judge-requires
+judge-requires c κs = search needs
+
+returns-2 : tie.Need-returns-2
+returns-2 c =
+    c .judge .ensures ∙ ap (judge anyCharacter) (c .before .from-str-radix .ensures)
+    ∙ char-hex anyCharacter (c .before .before .before .before .before .before .before .args .text .now) (c .before .before .before .before .before .if1 .left) (c .before .before .before .if2 .taken)
+
+from-str-radix-requires-2 : tie.Need-from-str-radix-requires-2
+from-str-radix-requires-2 c κs = search needs
+
+judge-requires-2 : tie.Need-judge-requires-2
+judge-requires-2 c κs = search needs
+
+returns-3 : tie.Need-returns-3
+returns-3 c =
+    c .judge2 .ensures ∙ ap (judge anyCharacter) (c .before .from-str-radix2 .ensures)
+    ∙ char-decimal anyCharacter (c .before .before .before .before .before .before .args .text .now) (c .before .before .before .before .if1 .left) (c .before .before .if2 .left)
+
+pub parse-number-spec : {M : Type 1} → statement M
+parse-number-spec =
+    tie.close
+    (tie.spec
+    returns
+    shared-slice-read-if2
+    sub-from-str-radix
+    part-from-str-radix-start
+    part-from-str-radix-end
+    from-str-radix-requires
+    judge-requires
+    returns-2
+    from-str-radix-requires-2
+    judge-requires-2
+    returns-3)

@@ -1,0 +1,214 @@
+// Character numbers, the text after `#` of a reference, and the UTF-8 of a character.
+ghost use mathlib.Core.Path.{_≡_};
+ghost use Prim.Native.Nat.{ℕ, _≤_};
+ghost use mathlib.Core.List.{_++_};
+ghost use lib.ListN.{length, drop};
+ghost use Rattle.charref.specs.CharRef.{digitValue, numberFrom, small, inBase, judge, charNumber, anyCharacter, numberAnswer, encode};
+use text::Answer;
+
+// What the digits write: a value of 32 bits, or what refuses them, 12 or 13.
+enum Parsed {
+    Value(u32),
+    Signed,
+    NoNumber,
+}
+
+// A character, or the refusal of its number: 12, 13, 14 with the value, 15.
+pub enum CharNumber {
+    Char(u32),
+    UnexpectedSign,
+    InvalidNumber,
+    InvalidCodepoint(u32),
+    IllegalCharacter,
+}
+
+// 16 where the byte is no digit of base 10 or 16.
+fn digit(b: u8) -> u64
+    ensures { λ r. ⌜ r ≡ digitValue b ⌝ }
+{
+    if b < 48 {
+        return 16;
+    }
+    if b <= 57 {
+        return (b - 48) as u64;
+    }
+    if b < 65 {
+        return 16;
+    }
+    if b <= 70 {
+        return (b - 55) as u64;
+    }
+    if b < 97 {
+        return 16;
+    }
+    if b <= 102 {
+        return (b - 87) as u64;
+    }
+    16
+}
+
+// How many bytes to skip: zeros in front change no number, and this loop passes them faster.
+fn skip_zeros(text: &[u8]) -> usize
+    ensures within { λ r. ⌜ r ≤ length (now (text .entry)) ⌝ }
+    ensures same { λ r. ⌜ ((base : ℕ) → 1 ≤ base → numberFrom base 0 (drop r (now (text .entry))) ≡ numberFrom base 0 (now (text .entry))) ⌝ }
+{
+    let mut i: usize = 0;
+    while i < text.len() {
+        if text[i] != b'0' {
+            return i;
+        }
+        i += 1;
+    }
+    i
+}
+
+// In the place of Rust's u32::from_str_radix. A byte that is no digit and a value over 32 bits have the same answer, so both end the loop at once.
+fn digits(text: &[u8], base: u64) -> Parsed
+    requires { ⌜ (1 ≤ base) × (base ≤ 16) ⌝ }
+    ensures { λ r. ⌜ r ≡ small (numberFrom base 0 (now (text .entry))) ⌝ }
+{
+    let mut value: u64 = 0;
+    let mut i = skip_zeros(text);
+    while i < text.len() {
+        let d = digit(text[i]);
+        if base <= d {
+            return Parsed::NoNumber;
+        }
+        value = base * value + d;
+        if 4294967295 < value {
+            return Parsed::NoNumber;
+        }
+        i += 1;
+    }
+    Parsed::Value(value as u32)
+}
+
+// A sign has an answer of its own, so it is looked for before the digits are read.
+fn from_str_radix(text: &[u8], base: u64) -> Parsed
+    requires { ⌜ (1 ≤ base) × (base ≤ 16) ⌝ }
+    ensures { λ r. ⌜ r ≡ inBase base (now (text .entry)) ⌝ }
+{
+    if text.len() == 0 {
+        return Parsed::NoNumber;
+    }
+    match text[0] {
+        b'+' | b'-' => Parsed::Signed,
+        _ => digits(text, base),
+    }
+}
+
+fn judge_value(n: u32) -> CharNumber
+    ensures { λ r. ⌜ r ≡ judge anyCharacter (Parsed.Value n) ⌝ }
+{
+    if n == 0 {
+        return CharNumber::IllegalCharacter;
+    }
+    if n < 0xD800 {
+        return CharNumber::Char(n);
+    }
+    if n <= 0xDFFF {
+        return CharNumber::InvalidCodepoint(n);
+    }
+    if 1114111 < n {
+        return CharNumber::InvalidCodepoint(n);
+    }
+    CharNumber::Char(n)
+}
+
+fn judge(p: Parsed) -> CharNumber
+    ensures { λ r. ⌜ r ≡ judge anyCharacter p ⌝ }
+{
+    match p {
+        Parsed::Value(n) => judge_value(n),
+        Parsed::Signed => CharNumber::UnexpectedSign,
+        Parsed::NoNumber => CharNumber::InvalidNumber,
+    }
+}
+
+// The text after `#`.
+pub fn parse_number(text: &[u8]) -> CharNumber
+    ensures { λ r. ⌜ r ≡ charNumber anyCharacter (now (text .entry)) ⌝ }
+{
+    if text.len() == 0 {
+        return CharNumber::InvalidNumber;
+    }
+    if text[0] == b'x' {
+        return judge(from_str_radix(&text[1..], 16));
+    }
+    judge(from_str_radix(text, 10))
+}
+
+// Document 01's number and values.
+pub fn answer_of(n: CharNumber) -> Answer
+    ensures { λ r. ⌜ r ≡ numberAnswer n ⌝ }
+{
+    match n {
+        CharNumber::Char(c) => Answer::Done {
+            first: c as u64,
+            second: 0,
+        },
+        CharNumber::UnexpectedSign => Answer::Refused {
+            number: 12,
+            first: 0,
+            second: 0,
+        },
+        CharNumber::InvalidNumber => Answer::Refused {
+            number: 13,
+            first: 0,
+            second: 0,
+        },
+        CharNumber::InvalidCodepoint(v) => Answer::Refused {
+            number: 14,
+            first: v as u64,
+            second: 0,
+        },
+        CharNumber::IllegalCharacter => Answer::Refused {
+            number: 15,
+            first: 0,
+            second: 0,
+        },
+    }
+}
+
+// How many bytes `encode_utf8` writes.
+pub fn utf8_length(n: u32) -> usize
+    ensures { λ r. ⌜ r ≡ length (encode n) ⌝ }
+{
+    if n < 0x80 {
+        return 1;
+    }
+    if n < 0x800 {
+        return 2;
+    }
+    if n < 0x10000 {
+        return 3;
+    }
+    4
+}
+
+// Writes the character at the start of `out`, and keeps the rest.
+pub fn encode_utf8(n: u32, out: &mut [u8]) -> usize
+    requires { ⌜ (n ≤ 1114111) × (length (encode n) ≤ length (now out)) ⌝ }
+    ensures { λ r. ⌜ (r ≡ length (encode n)) × (now (out .exit) ≡ encode n ++ drop (length (encode n)) (now (out .entry))) ⌝ }
+{
+    if n < 0x80 {
+        out[0] = n as u8;
+        return 1;
+    }
+    if n < 0x800 {
+        out[0] = (0xC0 + n / 64) as u8;
+        out[1] = (0x80 + n % 64) as u8;
+        return 2;
+    }
+    if n < 0x10000 {
+        out[0] = (0xE0 + n / 4096) as u8;
+        out[1] = (0x80 + n / 64 % 64) as u8;
+        out[2] = (0x80 + n % 64) as u8;
+        return 3;
+    }
+    out[0] = (0xF0 + n / 262144) as u8;
+    out[1] = (0x80 + n / 4096 % 64) as u8;
+    out[2] = (0x80 + n / 64 % 64) as u8;
+    out[3] = (0x80 + n % 64) as u8;
+    4
+}
