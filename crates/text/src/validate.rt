@@ -279,17 +279,18 @@ fn char_width(text: &[u8], i: usize) -> usize
     4
 }
 
-// Blocks of ASCII from a character's start on.
-fn ascii_blocks(text: &[u8], from: usize) -> usize
+// Blocks of ASCII of that size from a character's start on.
+fn ascii_blocks(text: &[u8], from: usize, size: usize) -> usize
     requires { ⌜ Prefix (now text) from ⌝ }
+    requires { ⌜ 0 < size ⌝ }
     ensures { λ r. ⌜ Prefix (now (text .entry)) r ⌝ }
 {
     let mut i = from;
-    while 128 <= text.len() - i {
-        if 0x80 <= highest(text, i, 128) {
+    while size <= text.len() - i {
+        if 0x80 <= highest(text, i, size) {
             return i;
         }
-        i += 128;
+        i += size;
     }
     i
 }
@@ -350,8 +351,9 @@ fn last_chars(text: &[u8], from: usize) -> usize
 pub fn utf8_end(text: &[u8]) -> usize
     ensures { λ r. ⌜ r ≡ utf8End (now (text .entry)) ⌝ }
 {
-    let ascii = ascii_blocks(text, 0);
-    let begun = first_chars(text, ascii);
+    let far = ascii_blocks(text, 0, 128);
+    let near = ascii_blocks(text, far, 32);
+    let begun = first_chars(text, near);
     let whole = whole_blocks(text, begun);
     last_chars(text, whole)
 }
