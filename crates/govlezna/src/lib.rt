@@ -1,28 +1,30 @@
 // The calls that C sees: integers, byte slices and references to numbers, no `requires`. Each promise is one equation.
 use text::Answer;
 ghost use mathlib.Core.Path.{_≡_};
-ghost use mathlib.Core.List.{List, []};
+ghost use mathlib.Core.List.{List, [], _∷_};
 ghost use Prim.Native.Nat.{ℕ};
 ghost use Rattle.text.specs.Call.{called, callOf};
 ghost use Rattle.govlezna.specs.Calls.{checkUtf8Call, parseNumberCall};
 
-// Writes both answer words and gives the number.
+// Writes both answer words and hands the number on.
+fn answered(number: u32, first: u64, second: u64, answer: &mut [u64; 2]) -> u32
+    ensures { λ r. ⌜ (r ≡ number) × (now (answer .exit) ≡ first ∷ second ∷ []) ⌝ }
+{
+    *answer = [first, second];
+    number
+}
+
+// An answer as C sees it; whatever buffers are lent besides are the caller's to state.
 fn put(result: Answer, answer: &mut [u64; 2]) -> u32
     ensures { λ r. ⌜ ((buffers : List (List ℕ)) → called r (now (answer .exit)) buffers ≡ callOf result buffers) ⌝ }
 {
     match result {
-        Answer::Done { first, second } => {
-            *answer = [first, second];
-            0
-        }
+        Answer::Done { first, second } => answered(0, first, second, answer),
         Answer::Refused {
             number,
             first,
             second,
-        } => {
-            *answer = [first, second];
-            number
-        }
+        } => answered(number, first, second, answer),
     }
 }
 
@@ -53,13 +55,13 @@ pub extern "C" fn govlezna_check_utf8(text: &[u8], answer: &mut [u64; 2]) -> u32
 pub extern "C" fn govlezna_parse_number(text: &[u8], answer: &mut [u64; 2]) -> u32
     ensures { λ r. ⌜ called r (now (answer .exit)) [] ≡ parseNumberCall (now (text .entry)) ⌝ }
 {
-    let checked = text::check_text(text);
+    let valid = text::check_text(text);
     let Answer::Done {
         first: _,
         second: _,
-    } = checked
+    } = valid
     else {
-        return put(checked, answer);
+        return put(valid, answer);
     };
     put(charref::answer_of(charref::parse_number(text)), answer)
 }

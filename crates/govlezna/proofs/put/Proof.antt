@@ -1,27 +1,46 @@
-use mathlib.Core.Path.{sym, ap}
-use Rattle.text.specs.Call.{callOf}
+use mathlib.Core.Path.{sym, ap, ap₂, _∙_}
+use mathlib.Core.List.{List}
+use Prim.Native.Nat.{ℕ}
+use Rattle.text.specs.Call.{called, callOf}
 use Rattle.text.specs.declared.Answer.{Answer}
 use borrow.Author.Needs.{needs}
 use Rattle.govlezna.proofs.put.Statement.{statement}
 use Rattle.govlezna.proofs.put.Tie as tie
 use Rattle.govlezna.proofs.put.Reads as reads
 use Rattle.govlezna.proofs.put.Lts as lts
+use Rattle.govlezna.proofs.answered.Reads as answered-reads
 
--- src/lib.rt:15:24
+-- src/lib.rt:22:24
 enum-known-result : tie.Need-enum-known-result
 enum-known-result c = search needs
 
--- src/lib.rt:19:27
+-- src/lib.rt:22:43
+answered-requires : tie.Need-answered-requires
+answered-requires c κs = search needs
+
+-- src/lib.rt:23:27
 enum-known-result-2 : tie.Need-enum-known-result-2
 enum-known-result-2 c = search needs
 
--- src/lib.rt:11:1
-returns : tie.Need-returns
-returns c = λ buffers. sym (ap (λ (a : Answer). callOf a buffers) (c .before .before .result .given .1))
+-- src/lib.rt:23:54
+answered-requires-2 : tie.Need-answered-requires-2
+answered-requires-2 c κs = search needs
 
--- src/lib.rt:11:1
+-- src/lib.rt:18:1
+returns : tie.Need-returns
+returns c = λ buffers. ap₂ (λ (n : ℕ) (words : List ℕ). called n words buffers) (c .answered .ensures .0) (c .answered .ensures .1) ∙ sym (ap (λ (a : Answer). callOf a buffers) (c .before .before .before .result .given .1))
+
+-- src/lib.rt:18:1
 returns-2 : tie.Need-returns-2
-returns-2 c = λ buffers. sym (ap (λ (a : Answer). callOf a buffers) (c .before .before .result2 .given .1))
+returns-2 c = λ buffers. ap₂ (λ (n : ℕ) (words : List ℕ). called n words buffers) (c .answered2 .ensures .0) (c .answered2 .ensures .1) ∙ sym (ap (λ (a : Answer). callOf a buffers) (c .before .before .before .result2 .given .1))
 
 pub put-spec : {M : Type 1} → statement M
-put-spec = tie.close (tie.spec enum-known-result enum-known-result-2 returns returns-2)
+put-spec =
+    tie.close
+    (tie.spec
+    enum-known-result
+    answered-requires
+    enum-known-result-2
+    answered-requires-2
+    returns
+    returns-2)
