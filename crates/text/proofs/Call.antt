@@ -1,7 +1,8 @@
 -- Checks one after the other: the first that refuses answers. Assumes nothing.
 use mathlib.Core.Path.{_≡_, refl, sym, _∙_, ap}
+use mathlib.Core.List.{List}
 use Prim.Native.Nat.{ℕ}
-use Rattle.text.specs.Call.{andThen}
+use Rattle.text.specs.Call.{Called, andThen, callOf, guarded}
 use Rattle.text.specs.declared.Answer.{Answer}
 use Rattle.text.specs.declared.Answer.the-variants.{Done, Refused}
 
@@ -10,3 +11,13 @@ stops later e q = q ∙ sym (ap (λ (a : Answer). andThen a later) (sym e ∙ q)
 
 pub goes-on : {r checked : Answer} (later : Answer) {first second : ℕ} → r ≡ checked → r ≡ Done first second → later ≡ andThen checked later
 goes-on later e q = sym (ap (λ (a : Answer). andThen a later) (sym e ∙ q))
+
+-- the same of a call: what it leaves behind where the checks refuse, and where they let it pass
+pub halts : {r checked : Answer} (buffers : List (List ℕ)) (rest : Called) {number first second : ℕ}
+    → r ≡ checked → r ≡ Refused number first second → callOf r buffers ≡ guarded checked buffers rest
+halts buffers rest e q =
+    ap (λ (a : Answer). callOf a buffers) q ∙ sym (ap (λ (a : Answer). guarded a buffers rest) (sym e ∙ q))
+
+pub passes : {r checked : Answer} (buffers : List (List ℕ)) (rest : Called) {first second : ℕ}
+    → r ≡ checked → r ≡ Done first second → rest ≡ guarded checked buffers rest
+passes buffers rest e q = sym (ap (λ (a : Answer). guarded a buffers rest) (sym e ∙ q))

@@ -1,8 +1,8 @@
 -- What a call answers, and the checks of its arguments (document 01, Refusals by place). Assumes nothing.
 use Prim.Native.Nat.{ℕ}
 use mathlib.Core.Bool.{Bool}
-use mathlib.Core.List.{List, [], _∷_}
-use lib.ListN.{length}
+use mathlib.Core.List.{List, [], _∷_, _++_}
+use lib.ListN.{length, drop}
 use lib.Dec.{eqb, ltb}
 use Rattle.text.specs.Bytes.{pick}
 use Rattle.text.specs.Version.{knownVersion}
@@ -26,6 +26,21 @@ andThen (Refused number first second) later = Refused number first second
 
 abbrev pub passed : Answer
 passed = Done 0 0
+
+-- a refusal by the checks of the arguments leaves every lent buffer; else what the call does
+abbrev pub guarded : Answer → List (List ℕ) → Called → Called
+guarded (Done first second) buffers rest = rest
+guarded (Refused number first second) buffers rest = called number (first ∷ second ∷ []) buffers
+
+-- the value in the first bytes of the output, whose rest keeps its bytes
+abbrev pub laid : List ℕ → List ℕ → List ℕ
+laid value out = value ++ drop (length value) out
+
+-- refusal 19: output shorter than the result, with the length needed; else the result's length and the second answer word
+unfoldable pub finish : List ℕ → ℕ → List ℕ → Called
+finish value second out =
+    pick (ltb (length out) (length value)) (called 19 (length value ∷ 0 ∷ []) (out ∷ []))
+    (called 0 (length value ∷ second ∷ []) (laid value out ∷ []))
 
 -- refusal 1: text over 16,777,216 bytes
 unfoldable pub lengthCheck : List ℕ → Answer

@@ -1,8 +1,8 @@
-use mathlib.Core.Path.{_≡_, sym, ap, _∙_}
+use mathlib.Core.Path.{ap, _∙_}
 use mathlib.Core.List.{[]}
 use Rattle.text.specs.Call.{callOf}
 use Rattle.text.specs.declared.Answer.{Answer}
-use Rattle.text.proofs.Call.{stops, goes-on}
+use Rattle.text.proofs.Call.{halts, passes}
 use Rattle.charref.specs.CharRef.{numberAnswer}
 use Rattle.govlezna.specs.Calls.{parseNumberCall}
 use borrow.Author.Needs.{needs}
@@ -15,44 +15,45 @@ use Rattle.charref.proofs.parse_number.Reads as parse-number-reads
 use Rattle.govlezna.proofs.put.Reads as put-reads
 use Rattle.text.proofs.check_text.Reads as check-text-reads
 
--- src/lib.rt:56:9
+-- src/lib.rt:58:9
 check-text-requires : tie.Need-check-text-requires
 check-text-requires c κs = search needs
 
 enum-told : tie.Need-enum-told
 enum-told c = search needs
 
--- src/lib.rt:58:29
+-- src/lib.rt:64:27
 enum-told-2 : tie.Need-enum-told-2
 enum-told-2 c = search needs
 
--- src/lib.rt:58:9
+-- src/lib.rt:64:9
 put-requires : tie.Need-put-requires
 put-requires c κs = search needs
 
--- src/lib.rt:58:9
+-- src/lib.rt:64:9
 returns : tie.Need-returns
 unfolding parseNumberCall
-returns c = c .put .ensures [] ∙ ap (λ (a : Answer). callOf a []) (stops _ (c .before .before .before .before .check-text .ensures) (c .before .before .enum-told2 .given .1))
+returns c = c .put .ensures [] ∙ halts [] _ (c .before .before .before .before .check-text .ensures) (c .before .before .enum-told2 .given .1)
 
--- src/lib.rt:60:28
+-- src/lib.rt:66:28
 parse-number-requires : tie.Need-parse-number-requires
 parse-number-requires c κs = search needs
 
--- src/lib.rt:60:9
+-- src/lib.rt:66:9
 answer-of-requires : tie.Need-answer-of-requires
 answer-of-requires c κs = search needs
 
--- src/lib.rt:60:5
+-- src/lib.rt:66:5
 put-requires-2 : tie.Need-put-requires-2
 put-requires-2 c κs = search needs
 
--- src/lib.rt:52:1
+-- src/lib.rt:54:1
 returns-2 : tie.Need-returns-2
 unfolding parseNumberCall
 returns-2 c =
     c .put2 .ensures []
-    ∙ ap (λ (a : Answer). callOf a []) (c .before .before .answer-of .ensures ∙ ap numberAnswer (c .before .before .before .parse-number .ensures) ∙ goes-on _ (c .before .before .before .before .before .before .check-text .ensures) (c .before .before .before .before .enum-told .given .1))
+    ∙ ap (λ (a : Answer). callOf a []) (c .before .before .answer-of .ensures ∙ ap numberAnswer (c .before .before .before .parse-number .ensures))
+    ∙ passes [] _ (c .before .before .before .before .before .before .check-text .ensures) (c .before .before .before .before .enum-told .given .1)
 
 pub govlezna-parse-number-spec : {M : Type 1} → statement M
 govlezna-parse-number-spec =
