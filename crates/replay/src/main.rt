@@ -1,5 +1,14 @@
-// Replays the stored results of the oracle. So far it only has what reads the fields of a line.
+// Replays the stored results of the oracle, which standard input holds, and prints what differs.
+// One result to a line, as `check_utf8 TEXT = NUMBER FIRST SECOND`: the call, its arguments, and
+// what was answered. Fields stand between single spaces, bytes in lower-case hexadecimal, `-` for
+// none, and numbers in decimal. An empty line, or one that starts with `#`, is passed over.
+mod calls;
 mod fields;
+mod lines;
 mod values;
 
-fn main() {}
+fn main() {
+    let mut line = io::buffer();
+    let p = lines::replay_all(&mut line);
+    lines::report_counts(p);
+}
