@@ -5,3 +5,4 @@ pub mod FirstByte
 pub mod Blocks
 pub mod Characters
 pub mod Call
+pub mod Words

@@ -1,6 +1,6 @@
 -- UTF-8 by blocks: the terms in which the fast code is proved equal to the definition. No promise of a call rests on these.
 -- Assumes nothing.
-use Prim.Native.Nat.{ℕ, _+_, _≤_, _<_}
+use Prim.Native.Nat.{ℕ, _+_, _*_, _≤_, _<_}
 use mathlib.Core.Path.{_≡_}
 use mathlib.Core.Bool.{Bool, true, false, not, _&&_, _||_, Bool·beq}
 use mathlib.Core.List.{List}
@@ -28,6 +28,13 @@ pub record Character (text : List ℕ) (i width : ℕ) : Type 0 where
 -- each of the `count` bytes from `i` on is at most `top`
 pub record AtMost (text : List ℕ) (i count top : ℕ) : Type 0 where
   pub at-most : (k : ℕ) → k < count → getD text (i + k) 0 ≤ top
+
+-- the eight bytes from `i` on as one number, the first the lowest
+abbrev pub wordAt : List ℕ → ℕ → ℕ
+wordAt text i =
+    getD text i 0 + getD text (i + 1) 0 * 0x100 + getD text (i + 2) 0 * 0x10000 + getD text (i + 3) 0 * 0x1000000
+    + getD text (i + 4) 0 * 0x100000000 + getD text (i + 5) 0 * 0x10000000000 + getD text (i + 6) 0 * 0x1000000000000
+    + getD text (i + 7) 0 * 0x100000000000000
 
 -- what a character of that width wants after its second byte
 abbrev pub wanted : ℕ → State

@@ -1,11 +1,68 @@
 // The end of the longest well-formed prefix (RFC 3629): by blocks of 32 bytes where these are whole characters, else character by
 // character. A block's bytes are tested side by side, each against the three before it, so that the loops run on vectors.
 ghost use mathlib.Core.Path.{_≡_};
-ghost use Prim.Native.Nat.{ℕ, _+_, _<_, _≤_};
+ghost use Prim.Native.Nat.{ℕ, _+_, _*_, _<_, _≤_};
 ghost use mathlib.Core.Bool.{false};
 ghost use lib.ListN.{length, getD};
 ghost use Rattle.text.specs.Utf8.{utf8End};
-ghost use Rattle.text.specs.Blocks.{AtMost, Whole, Prefix, Character, Leads, Fitting, Edge, misfit, misfit3, misfit2};
+ghost use Rattle.text.specs.Blocks.{wordAt, AtMost, Whole, Prefix, Character, Leads, Fitting, Edge, misfit, misfit3, misfit2};
+
+fn wide(b: u8) -> u64
+    ensures { λ r. ⌜ (r ≡ b) × (r < 0x100) ⌝ }
+{
+    b as u64
+}
+
+// The eight bytes from i on as one number. Written as this sum it is compiled to one load.
+fn word(text: &[u8], i: usize) -> u64
+    requires { ⌜ i + 8 ≤ length (now text) ⌝ }
+    ensures { λ r. ⌜ r ≡ wordAt (now (text .entry)) i ⌝ }
+{
+    wide(text[i])
+        + wide(text[i + 1]) * 0x100
+        + wide(text[i + 2]) * 0x10000
+        + wide(text[i + 3]) * 0x1000000
+        + wide(text[i + 4]) * 0x100000000
+        + wide(text[i + 5]) * 0x10000000000
+        + wide(text[i + 6]) * 0x1000000000000
+        + wide(text[i + 7]) * 0x100000000000000
+}
+
+// The highest bit of each of the eight bytes from i on; 0 where all are ASCII.
+fn high_bits(text: &[u8], i: usize) -> u64
+    requires { ⌜ i + 8 ≤ length (now text) ⌝ }
+    ensures { λ r. ⌜ (r ≡ 0 → AtMost (now (text .entry)) i 8 0x7f) ⌝ }
+{
+    word(text, i) & 0x8080808080808080
+}
+
+// The same of so many words, joined.
+fn joined_bits(text: &[u8], i: usize, words: usize) -> u64
+    requires { ⌜ i + 8 * words ≤ length (now text) ⌝ }
+    ensures { λ r. ⌜ (r ≡ 0 → AtMost (now (text .entry)) i (8 * words) 0x7f) ⌝ }
+{
+    let mut bits: u64 = 0;
+    for k in 0..words {
+        bits = bits | high_bits(text, i + 8 * k);
+    }
+    bits
+}
+
+// Blocks of so many words of ASCII, from a character's start on.
+fn ascii_blocks(text: &[u8], from: usize, words: usize) -> usize
+    requires { ⌜ Prefix (now text) from ⌝ }
+    requires { ⌜ (0 < words) × (words ≤ 8) ⌝ }
+    ensures { λ r. ⌜ Prefix (now (text .entry)) r ⌝ }
+{
+    let mut i = from;
+    while 8 * words <= text.len() - i {
+        if joined_bits(text, i, words) != 0 {
+            return i;
+        }
+        i += 8 * words;
+    }
+    i
+}
 
 fn larger(a: u8, b: u8) -> u8
     ensures { λ r. ⌜ (a ≤ r) × (b ≤ r) ⌝ }
@@ -13,13 +70,13 @@ fn larger(a: u8, b: u8) -> u8
     if a < b { b } else { a }
 }
 
-// The highest of the count bytes from i on.
-fn highest(text: &[u8], i: usize, count: usize) -> u8
-    requires { ⌜ i + count ≤ length (now text) ⌝ }
-    ensures { λ r. ⌜ AtMost (now (text .entry)) i count r ⌝ }
+// The highest of the 32 bytes from i on.
+fn highest(text: &[u8], i: usize) -> u8
+    requires { ⌜ i + 32 ≤ length (now text) ⌝ }
+    ensures { λ r. ⌜ AtMost (now (text .entry)) i 32 r ⌝ }
 {
     let mut top: u8 = 0;
-    for k in 0..count {
+    for k in 0..32usize {
         top = larger(top, text[i + k]);
     }
     top
@@ -279,22 +336,6 @@ fn char_width(text: &[u8], i: usize) -> usize
     4
 }
 
-// Blocks of ASCII of that size from a character's start on.
-fn ascii_blocks(text: &[u8], from: usize, size: usize) -> usize
-    requires { ⌜ Prefix (now text) from ⌝ }
-    requires { ⌜ 0 < size ⌝ }
-    ensures { λ r. ⌜ Prefix (now (text .entry)) r ⌝ }
-{
-    let mut i = from;
-    while size <= text.len() - i {
-        if 0x80 <= highest(text, i, size) {
-            return i;
-        }
-        i += size;
-    }
-    i
-}
-
 // Characters one by one until three bytes lie behind.
 fn first_chars(text: &[u8], from: usize) -> usize
     requires { ⌜ Prefix (now text) from ⌝ }
@@ -321,7 +362,7 @@ fn whole_blocks(text: &[u8], from: usize) -> usize
     }
     let mut i = from;
     while 32 <= text.len() - i {
-        let top = highest(text, i, 32);
+        let top = highest(text, i);
         let width = block_width(text, i - 3, top);
         if width == 0 {
             return i;
@@ -347,13 +388,24 @@ fn last_chars(text: &[u8], from: usize) -> usize
     i
 }
 
+// Whole characters by blocks, where there is a block.
+fn skip_blocks(text: &[u8], from: usize) -> usize
+    requires { ⌜ Prefix (now text) from ⌝ }
+    ensures { λ r. ⌜ Prefix (now (text .entry)) r ⌝ }
+{
+    if text.len() - from < 32 {
+        return from;
+    }
+    whole_blocks(text, first_chars(text, from))
+}
+
 // The end of the longest well-formed prefix.
 pub fn utf8_end(text: &[u8]) -> usize
     ensures { λ r. ⌜ r ≡ utf8End (now (text .entry)) ⌝ }
 {
-    let far = ascii_blocks(text, 0, 128);
-    let near = ascii_blocks(text, far, 32);
-    let begun = first_chars(text, near);
-    let whole = whole_blocks(text, begun);
-    last_chars(text, whole)
+    let far = ascii_blocks(text, 0, 8);
+    let near = ascii_blocks(text, far, 4);
+    let blocks = skip_blocks(text, near);
+    let words = ascii_blocks(text, blocks, 1);
+    last_chars(text, words)
 }

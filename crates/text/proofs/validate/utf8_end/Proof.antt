@@ -6,31 +6,30 @@ use Rattle.text.proofs.validate.utf8_end.Tie as tie
 use Rattle.text.proofs.validate.utf8_end.Reads as reads
 use Rattle.text.proofs.validate.utf8_end.Lts as lts
 use Rattle.text.proofs.validate.ascii_blocks.Reads as ascii-blocks-reads
-use Rattle.text.proofs.validate.first_chars.Reads as first-chars-reads
 use Rattle.text.proofs.validate.last_chars.Reads as last-chars-reads
-use Rattle.text.proofs.validate.whole_blocks.Reads as whole-blocks-reads
+use Rattle.text.proofs.validate.skip_blocks.Reads as skip-blocks-reads
 
--- src/validate.rt:354:9
+-- src/validate.rt:406:9
 ascii-blocks-requires : tie.Need-ascii-blocks-requires
 ascii-blocks-requires c κs = (none-prefix _, omega arith)
 
--- src/validate.rt:355:9
+-- src/validate.rt:407:9
 ascii-blocks-requires-2 : tie.Need-ascii-blocks-requires-2
-ascii-blocks-requires-2 c κs = (c .ascii-blocks .ensures, omega arith)
+ascii-blocks-requires-2 c κs = search needs
 
--- src/validate.rt:356:9
-first-chars-requires : tie.Need-first-chars-requires
-first-chars-requires c κs = search needs
+-- src/validate.rt:408:9
+skip-blocks-requires : tie.Need-skip-blocks-requires
+skip-blocks-requires c κs = search needs
 
--- src/validate.rt:357:9
-whole-blocks-requires : tie.Need-whole-blocks-requires
-whole-blocks-requires c κs = search needs
+-- src/validate.rt:409:9
+ascii-blocks-requires-3 : tie.Need-ascii-blocks-requires-3
+ascii-blocks-requires-3 c κs = search needs
 
--- src/validate.rt:358:5
+-- src/validate.rt:410:5
 last-chars-requires : tie.Need-last-chars-requires
 last-chars-requires c κs = search needs
 
--- src/validate.rt:351:1
+-- src/validate.rt:403:1
 returns : tie.Need-returns
 returns c = search needs
 
@@ -40,7 +39,7 @@ utf8-end-spec =
     (tie.spec
     ascii-blocks-requires
     ascii-blocks-requires-2
-    first-chars-requires
-    whole-blocks-requires
+    skip-blocks-requires
+    ascii-blocks-requires-3
     last-chars-requires
     returns)

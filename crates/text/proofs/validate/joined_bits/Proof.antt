@@ -1,0 +1,72 @@
+use mathlib.Core.Path.{_≡_}
+use Prim.Native.Nat.{ℕ, _+_, _*_, _-_, _≤_, _<_}
+use native.Mathlib.Omega.{arith}
+use borrow.Author.Count.{below-none}
+use Rattle.text.specs.Blocks.{AtMost}
+use Rattle.text.proofs.Words.{or-none, at-most-append}
+use borrow.Author.Needs.{needs}
+use Rattle.text.proofs.validate.joined_bits.Statement.{statement}
+use Rattle.text.proofs.validate.joined_bits.Tie as tie
+use Rattle.text.proofs.validate.joined_bits.Reads as reads
+use Rattle.text.proofs.validate.joined_bits.Lts as lts
+use Rattle.text.proofs.validate.high_bits.Reads as high-bits-reads
+
+abbrev Inv-loop : tie.InvT-loop
+Inv-loop text i words bits₀ k₀ bits k = (k ≤ words) × (bits ≡ 0 → AtMost text i (8 * k) 0x7f)
+
+abbrev μ-loop : tie.MeasureT-loop
+μ-loop text i words bits₀ k₀ bits k = words - k
+
+-- src/validate.rt:45:5
+loop-holds : tie.Need-loop-holds Inv-loop μ-loop
+loop-holds c = (search needs, λ e. record { at-most = below-none _ })
+
+-- src/validate.rt:46:43
+mul-high-bits : tie.Need-mul-high-bits Inv-loop μ-loop
+mul-high-bits c = omega (arith, c .before .before .before .pre, c .before .loop .inv .0)
+
+-- src/validate.rt:46:39
+add-high-bits : tie.Need-add-high-bits Inv-loop μ-loop
+add-high-bits c = omega (arith, c .before .before .before .pre, c .before .loop .inv .0)
+
+-- src/validate.rt:46:23
+high-bits-requires : tie.Need-high-bits-requires Inv-loop μ-loop
+high-bits-requires c κs = omega (arith, c .before .before .before .pre, c .before .loop .inv .0)
+
+-- src/validate.rt:45:9
+add-k : tie.Need-add-k Inv-loop μ-loop
+add-k c = search needs
+
+-- src/validate.rt:45:5
+loop-less : tie.Need-loop-less Inv-loop μ-loop
+loop-less c = search needs
+
+-- src/validate.rt:45:5
+loop-again : tie.Need-loop-again Inv-loop μ-loop
+loop-again c = (
+  search needs,
+  λ e.
+      let z = or-none (c .before .before .loop .bits) (c .high-bits .result) e in
+      let q : 8 * c .before .before .loop .k + 8 ≡ 8 * (c .before .before .loop .k + 1) = omega arith in
+      rw q at (at-most-append _ _ _ 8 _ (c .before .before .loop .inv .1 (z .0)) (c .high-bits .ensures (z .1))),
+)
+
+-- src/validate.rt:40:1
+returns : tie.Need-returns Inv-loop μ-loop
+returns c =
+    λ e. let q : c .before .loop .k ≡ c .before .before .before .args .words = omega (arith, c .before .loop .inv .0) in rw q at (c .before .loop .inv .1 e)
+
+pub joined-bits-spec : {M : Type 1} → statement M
+joined-bits-spec =
+    tie.close
+    (tie.spec
+    Inv-loop
+    μ-loop
+    loop-holds
+    mul-high-bits
+    add-high-bits
+    high-bits-requires
+    add-k
+    loop-less
+    loop-again
+    returns)
