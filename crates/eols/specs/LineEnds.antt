@@ -1,4 +1,6 @@
 -- Line ends (XML 1.0, 2.11; XML 1.1, 2.11), with the version as a parameter. Assumes nothing.
+use mathlib.Core.Path.{_≡_}
+use mathlib.Core.Logic.{_⊎_}
 use Prim.Native.Nat.{ℕ, zero, suc}
 use mathlib.Core.List.{List, [], _∷_}
 use lib.ListN.{length}
@@ -40,3 +42,8 @@ eolsFrom r zero (b ∷ bs) = eolByte (lineEnd r (b ∷ bs)) b ∷ eolsFrom r (eo
 unfoldable pub eols : Rule → List ℕ → List ℕ
 unfolding eolsFrom
 eols r text = eolsFrom r 0 text
+
+-- 2.11: no line end but LF
+abbrev pub Normal : Rule → List ℕ → Type 0
+Normal r [] = Unit {0}
+Normal r (b ∷ bs) = ((lineEnd r (b ∷ bs) ≡ 0) ⊎ (b ≡ 10)) × Normal r bs
