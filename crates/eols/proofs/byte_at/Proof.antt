@@ -1,0 +1,26 @@
+use mathlib.Core.List.{[]}
+use mathlib.Core.Path.{_≡_, refl, sym, ap, _∙_}
+use Prim.Native.Nat.{ℕ, _+_, _-_, _≤_, _<_}
+use native.Mathlib.Omega.{arith}
+use lib.ListN.{length, drop, getD}
+use Rattle.eols.proofs.LineEnds.{begins-out, begins-one}
+use borrow.Author.Needs.{needs}
+use Rattle.eols.proofs.byte_at.Statement.{statement}
+use Rattle.eols.proofs.byte_at.Tie as tie
+use Rattle.eols.proofs.byte_at.Reads as reads
+use Rattle.eols.proofs.byte_at.Lts as lts
+
+-- src/lib.rt:71:9
+returns : tie.Need-returns
+returns c = begins-out (c .before .args .b) [] (c .before .args .text .now) (c .before .args .i) (c .if1 .taken)
+
+-- src/lib.rt:73:5
+shared-slice-read-result : tie.Need-shared-slice-read-result
+shared-slice-read-result c = search needs
+
+-- src/lib.rt:67:1
+returns-2 : tie.Need-returns-2
+returns-2 c = begins-one (c .before .before .args .b) (c .before .before .args .text .now) (c .before .before .args .i) (c .before .if1 .left)
+
+pub byte-at-spec : {M : Type 1} → statement M
+byte-at-spec = tie.close (tie.spec returns shared-slice-read-result returns-2)
