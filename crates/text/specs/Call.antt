@@ -54,6 +54,10 @@ versionCheck version = pick (knownVersion version) passed (Refused 4 0 0)
 unfoldable pub utf8Check : List ℕ → Answer
 utf8Check text = pick (eqb (utf8End text) (length text)) passed (Refused 5 (utf8End text) 0)
 
+-- the checks of a call: 1, then those of its other arguments (2 to 4), then 5
+abbrev pub argumentCheck : List ℕ → Answer → Answer
+argumentCheck text others = andThen (lengthCheck text) (andThen others (utf8Check text))
+
 -- the checks of a call that has a text and nothing else
 abbrev pub textCheck : List ℕ → Answer
 textCheck text = andThen (lengthCheck text) (utf8Check text)

@@ -1,6 +1,6 @@
 // Argument checks that all calls share: the text's length (refusal 1), the version byte (4), UTF-8 (5).
 ghost use mathlib.Core.Path.{_≡_};
-ghost use Rattle.text.specs.Call.{lengthCheck, versionCheck, utf8Check, textCheck};
+ghost use Rattle.text.specs.Call.{lengthCheck, versionCheck, utf8Check, textCheck, argumentCheck};
 
 pub mod validate;
 
@@ -80,6 +80,28 @@ pub fn check_text(text: &[u8]) -> Answer
     } = length
     else {
         return length;
+    };
+    check_utf8(text)
+}
+
+// Refusal 1, then what the call's other arguments give, then 5.
+pub fn check_arguments(text: &[u8], others: Answer) -> Answer
+    ensures { λ r. ⌜ r ≡ argumentCheck (now (text .entry)) others ⌝ }
+{
+    let length = check_length(text);
+    let Answer::Done {
+        first: _,
+        second: _,
+    } = length
+    else {
+        return length;
+    };
+    let Answer::Done {
+        first: _,
+        second: _,
+    } = others
+    else {
+        return others;
     };
     check_utf8(text)
 }
