@@ -2,7 +2,9 @@
 use mathlib.Core.List.{List, [], _∷_}
 use Prim.Native.Nat.{ℕ}
 use lib.ListN.{length}
-use Rattle.text.specs.Call.{Called, called, callOf, guarded, textCheck}
+use Rattle.text.specs.Call.{Called, called, callOf, guarded, textCheck, argumentCheck, versionCheck, finish}
+use Rattle.text.specs.Version.{ruleOf}
+use Rattle.eols.specs.LineEnds.{eols}
 use Rattle.charref.specs.CharRef.{charNumber, anyCharacter, numberAnswer}
 
 -- document 01, UTF-8: 1 and 5, else the text's length
@@ -12,3 +14,8 @@ checkUtf8Call text = guarded (textCheck text) [] (called 0 (length text ∷ 0 �
 -- document 01, character numbers: 1 and 5, then 12 to 15, else the character's number
 unfoldable pub parseNumberCall : List ℕ → Called
 parseNumberCall text = guarded (textCheck text) [] (callOf (numberAnswer (charNumber anyCharacter text)) [])
+
+-- document 01, line ends: 1, 4 and 5, then 19, else the text with its line ends normalized
+unfoldable pub normalizeEolsCall : List ℕ → ℕ → List ℕ → Called
+normalizeEolsCall text version out =
+    guarded (argumentCheck text (versionCheck version)) (out ∷ []) (finish (eols (ruleOf version) text) 0 out)

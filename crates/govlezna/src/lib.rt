@@ -4,7 +4,7 @@ ghost use mathlib.Core.Path.{_≡_};
 ghost use mathlib.Core.List.{List, [], _∷_};
 ghost use Prim.Native.Nat.{ℕ};
 ghost use Rattle.text.specs.Call.{called, callOf};
-ghost use Rattle.govlezna.specs.Calls.{checkUtf8Call, parseNumberCall};
+ghost use Rattle.govlezna.specs.Calls.{checkUtf8Call, parseNumberCall, normalizeEolsCall};
 
 // Writes both answer words and hands the number on.
 fn answered(number: u32, first: u64, second: u64, answer: &mut [u64; 2]) -> u32
@@ -64,4 +64,25 @@ pub extern "C" fn govlezna_parse_number(text: &[u8], answer: &mut [u64; 2]) -> u
         return put(valid, answer);
     };
     put(charref::answer_of(charref::parse_number(text)), answer)
+}
+
+// Every line end of the version becomes LF. Success: the length written.
+#[no_mangle]
+pub extern "C" fn govlezna_normalize_eols(
+    text: &[u8],
+    version: u8,
+    out: &mut [u8],
+    answer: &mut [u64; 2],
+) -> u32
+    ensures { λ r. ⌜ called r (now (answer .exit)) (now (out .exit) ∷ []) ≡ normalizeEolsCall (now (text .entry)) version (now (out .entry)) ⌝ }
+{
+    let version_checked = text::check_arguments(text, text::check_version(version));
+    let Answer::Done {
+        first: _,
+        second: _,
+    } = version_checked
+    else {
+        return put(version_checked, answer);
+    };
+    put(eols::normalize_eols(text, version, out), answer)
 }

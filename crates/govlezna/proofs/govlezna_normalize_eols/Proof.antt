@@ -1,0 +1,76 @@
+use mathlib.Core.Path.{_≡_, ap, _∙_}
+use mathlib.Core.List.{[], _∷_}
+use Rattle.text.specs.Call.{argumentCheck}
+use Rattle.text.specs.declared.Answer.{Answer}
+use Rattle.text.proofs.Call.{halts, passes}
+use Rattle.govlezna.specs.Calls.{normalizeEolsCall}
+use borrow.Author.Needs.{needs}
+use Rattle.govlezna.proofs.govlezna_normalize_eols.Statement.{statement}
+use Rattle.govlezna.proofs.govlezna_normalize_eols.Tie as tie
+use Rattle.govlezna.proofs.govlezna_normalize_eols.Reads as reads
+use Rattle.govlezna.proofs.govlezna_normalize_eols.Lts as lts
+use Rattle.eols.proofs.normalize_eols.Reads as normalize-eols-reads
+use Rattle.govlezna.proofs.put.Reads as put-reads
+use Rattle.text.proofs.check_arguments.Reads as check-arguments-reads
+use Rattle.text.proofs.check_version.Reads as check-version-reads
+
+-- src/lib.rt:74:55
+check-version-requires : tie.Need-check-version-requires
+check-version-requires c κs = search needs
+
+-- src/lib.rt:74:9
+check-arguments-requires : tie.Need-check-arguments-requires
+check-arguments-requires c κs = search needs
+
+enum-told : tie.Need-enum-told
+enum-told c = search needs
+
+-- src/lib.rt:76:37
+enum-told-2 : tie.Need-enum-told-2
+enum-told-2 c = search needs
+
+-- src/lib.rt:76:9
+put-requires : tie.Need-put-requires
+put-requires c κs = search needs
+
+-- src/lib.rt:76:9
+returns : tie.Need-returns
+unfolding normalizeEolsCall
+returns c =
+    c .put .ensures (c .before .before .before .before .before .before .before .before .args .out .now ∷ [])
+    ∙ halts (c .before .before .before .before .before .before .before .before .args .out .now ∷ []) _ (c .before .before .before .before .check-arguments .ensures ∙ ap (argumentCheck (c .before .before .before .before .before .before .before .before .args .text .now)) (c .before .before .before .before .before .check-version .ensures)) (c .before .before .enum-told2 .given .1)
+
+-- src/lib.rt:78:9
+normalize-eols-requires : tie.Need-normalize-eols-requires
+normalize-eols-requires c κs = search needs
+
+-- src/lib.rt:78:5
+put-requires-2 : tie.Need-put-requires-2
+put-requires-2 c κs = search needs
+
+-- src/lib.rt:70:1
+same-length : tie.Need-same-length
+same-length c = search needs
+
+-- src/lib.rt:70:1
+returns-2 : tie.Need-returns-2
+unfolding normalizeEolsCall
+returns-2 c =
+    c .put2 .ensures _
+    ∙ c .before .before .before .before .normalize-eols .ensures
+    ∙ passes (c .before .before .before .before .before .before .before .before .before .before .before .before .args .out .now ∷ []) _ (c .before .before .before .before .before .before .before .before .check-arguments .ensures ∙ ap (argumentCheck (c .before .before .before .before .before .before .before .before .before .before .before .before .args .text .now)) (c .before .before .before .before .before .before .before .before .before .check-version .ensures)) (c .before .before .before .before .before .before .enum-told .given .1)
+
+pub govlezna-normalize-eols-spec : {M : Type 1} → statement M
+govlezna-normalize-eols-spec =
+    tie.close
+    (tie.spec
+    check-version-requires
+    check-arguments-requires
+    enum-told
+    enum-told-2
+    put-requires
+    returns
+    normalize-eols-requires
+    put-requires-2
+    same-length
+    returns-2)
