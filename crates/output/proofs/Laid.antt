@@ -1,0 +1,53 @@
+-- Writing after what is already written: the laws of `laid`, a value in the first bytes of a buffer whose rest keeps its bytes. Assumes nothing.
+use mathlib.Core.Path.{_≡_, refl, sym, ap, _∙_}
+use mathlib.Core.List.{List, [], _∷_, _++_, append-assoc, append-nil}
+use Prim.Native.Nat.{ℕ, suc, _+_, _-_, _≤_, _<_}
+use native.Mathlib.Omega.{arith}
+use native.Mathlib.Nat.{le-refl}
+use native.Mathlib.Numerals.{add-one}
+use lib.ListN.{length, take, drop, getD, set, length-append, length-drop, drop-of-length-le}
+use lib.Seq.{length-take-le, take-suc, take-all, take-append-seam, drop-append-seam, drop-drop, drop-cons, set-append-seam}
+use borrow.Rule.Slice.PartMut.{midOf, putMid}
+use Rattle.text.specs.Call.{laid}
+
+pub laid-none : (old : List ℕ) → laid [] old ≡ old
+laid-none old = refl
+
+-- the buffer keeps its length
+pub laid-length : (value old : List ℕ) → length value ≤ length old → length (laid value old) ≡ length old
+laid-length value old h = rw (length-append, length-drop) (omega arith)
+
+-- what lies behind the value is what lay there
+pub laid-rest : (value old : List ℕ) → drop (length value) (laid value old) ≡ drop (length value) old
+laid-rest value old = drop-append-seam value (drop (length value) old)
+
+pub laid-append : (value more old : List ℕ) → value ++ laid more (drop (length value) old) ≡ laid (value ++ more) old
+laid-append value more old = rw (drop-drop, length-append, append-assoc)
+
+-- the part of a buffer from `at` to its end, and the buffer with another list in its place
+pub rest-part : (at : ℕ) (buffer : List ℕ) → midOf at (length buffer - at) buffer ≡ drop at buffer
+rest-part at buffer = take-all (length buffer - at) (drop at buffer) (rw length-drop (le-refl _))
+
+pub rest-put : (at : ℕ) (buffer ys : List ℕ) → putMid at (length buffer - at) buffer ys ≡ take at buffer ++ ys
+rest-put at buffer ys =
+    let e : drop (length buffer - at) (drop at buffer) ≡ [] = drop-of-length-le (drop at buffer) {i = length buffer - at} (rw length-drop (le-refl _)) in
+    rw (e, append-nil)
+
+-- after a call that is lent the rest of the output, `&mut out[at..]`, and writes `more` at its start
+pub laid-more : (value more old : List ℕ) {at : ℕ} {buffer part : List ℕ}
+    → buffer ≡ laid value old → at ≡ length value → part ≡ laid more (midOf at (length buffer - at) buffer)
+    → putMid at (length buffer - at) buffer part ≡ laid (value ++ more) old
+laid-more value more old {at} {buffer} {part} e q p =
+    rest-put at buffer part
+    ∙ rw (p, rest-part at buffer, e, q, laid-rest value old, take-append-seam value (drop (length value) old)) (laid-append value more old)
+
+-- after the store of one byte
+pub laid-byte : (value old : List ℕ) (b : ℕ) → length value < length old → set (laid value old) (length value) b ≡ laid (value ++ (b ∷ [])) old
+laid-byte value old b h =
+    rw (drop-cons old (length value) 0 h, set-append-seam value (getD old (length value) 0) (drop (suc (length value)) old) b, length-append, append-assoc, add-one)
+
+-- after one byte more of a run
+pub laid-next : (run old : List ℕ) (i : ℕ) → i < length run → length run ≤ length old → set (laid (take i run) old) i (getD run i 0) ≡ laid (take (i + 1) run) old
+laid-next run old i h g =
+    let e : length (take i run) ≡ i = length-take-le i run (omega arith) in
+    rw (add-one i, take-suc run i 0 h) (ap (λ (n : ℕ). set (laid (take i run) old) n (getD run i 0)) (sym e) ∙ laid-byte (take i run) old (getD run i 0) (rw e (omega arith)))
