@@ -1,2 +1,4 @@
+pub mod View
+pub mod Write
 pub mod Scan
 pub mod Levels

@@ -4,9 +4,10 @@ ghost use mathlib.Core.Bool.{false};
 ghost use mathlib.Core.List.{[], _∷_};
 ghost use Prim.Native.Nat.{_+_, _≤_, _<_};
 ghost use lib.ListN.{length, take, drop};
+ghost use Rattle.text.specs.Bytes.{pick};
 ghost use Rattle.text.specs.Call.{laid, finish, callOf};
 ghost use Rattle.escape.specs.Escape.{writeByte, write, levelOf, levelSet, levelCheck, reference};
-ghost use Rattle.escape.specs.Scan.{escapedBy, charsSet, levelChars, Plain, Run, WholeRun};
+ghost use Rattle.escape.specs.Scan.{escapedBy, addedBy, charsSet, levelChars, Plain, Run, WholeRun};
 use text::Answer;
 
 // The characters that are escaped besides `<`, `&` and CR: LF and TAB, `'`, `"`, `>`.
@@ -152,4 +153,47 @@ pub fn escape_char(b: u8, out: &mut [u8]) -> usize
             1
         }
     }
+}
+
+fn when(test: bool, count: u8) -> u8
+    ensures { λ r. ⌜ (r ≡ pick test count 0) × (r ≤ count) ⌝ }
+{
+    if test { count } else { 0 }
+}
+
+// How many bytes more than the byte itself is written for it.
+fn added(chars: EscapeChars, b: u8) -> u8
+    ensures { λ r. ⌜ r ≡ addedBy chars b ⌝ }
+{
+    let three = (b == b'<') | ((b == b'>') & chars.gt) | ((b == b'\t') & chars.blanks);
+    let four = (b == b'&') | (b == b'\r') | ((b == b'\n') & chars.blanks);
+    let five = ((b == b'\'') & chars.apos) | ((b == b'"') & chars.quot);
+    when(three, 3) + when(four, 4) + when(five, 5)
+}
+
+// The same of `count` bytes from i on: so few that the sum is a byte, as the vectors' lanes are.
+fn added_part(text: &[u8], i: usize, count: usize, chars: EscapeChars) -> u8
+    requires { ⌜ (i + count ≤ length (now text)) × (count ≤ 32) ⌝ }
+    ensures { λ r. ⌜ r + count ≡ length (write (charsSet chars) (take count (drop i (now (text .entry))))) ⌝ }
+{
+    let mut n: u8 = 0;
+    for k in 0..count {
+        n += added(chars, text[i + k]);
+    }
+    n
+}
+
+// The length of the escaped text.
+pub fn escaped_length(text: &[u8], chars: EscapeChars) -> usize
+    requires { ⌜ length (now text) ≤ 16777216 ⌝ }
+    ensures { λ r. ⌜ r ≡ length (write (charsSet chars) (now (text .entry))) ⌝ }
+{
+    let mut n: usize = 0;
+    let mut i: usize = 0;
+    while 32 <= text.len() - i {
+        n += added_part(text, i, 32, chars) as usize;
+        i += 32;
+    }
+    let rest = text.len() - i;
+    n + added_part(text, i, rest, chars) as usize + text.len()
 }
