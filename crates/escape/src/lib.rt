@@ -6,7 +6,7 @@ ghost use Prim.Native.Nat.{_+_, _≤_, _<_};
 ghost use lib.ListN.{length, take, drop};
 ghost use Rattle.text.specs.Bytes.{pick};
 ghost use Rattle.text.specs.Call.{laid, finish, callOf};
-ghost use Rattle.escape.specs.Escape.{writeByte, write, levelOf, levelSet, levelCheck, reference};
+ghost use Rattle.escape.specs.Escape.{write, levelOf, levelSet, levelCheck, reference};
 ghost use Rattle.escape.specs.Scan.{escapedBy, addedBy, charsSet, levelChars, Plain, Run, WholeRun};
 use text::Answer;
 
@@ -196,4 +196,44 @@ pub fn escaped_length(text: &[u8], chars: EscapeChars) -> usize
     }
     let rest = text.len() - i;
     n + added_part(text, i, rest, chars) as usize + text.len()
+}
+
+// Writes the escaped text at the start of `out`, and keeps the rest.
+pub fn write_escaped(text: &[u8], chars: EscapeChars, out: &mut [u8])
+    requires { ⌜ length (write (charsSet chars) (now text)) ≤ length (now out) ⌝ }
+    ensures { λ _. ⌜ now (out .exit) ≡ laid (write (charsSet chars) (now (text .entry))) (now (out .entry)) ⌝ }
+{
+    let mut at: usize = 0;
+    let mut i: usize = 0;
+    loop {
+        let end = next_escaped(text, i, chars);
+        output::put_run(&text[i..end], &mut out[at..]);
+        at += end - i;
+        if end == text.len() {
+            return;
+        }
+        at += escape_char(text[end], &mut out[at..]);
+        i = end + 1;
+    }
+}
+
+// One of the four levels. Counts first, so that 19 leaves the output as it is.
+pub fn escape(text: &[u8], level: u8, out: &mut [u8]) -> Answer
+    requires { ⌜ length (now text) ≤ 16777216 ⌝ }
+    ensures { λ r. ⌜ callOf r (now (out .exit) ∷ []) ≡ finish (write (levelSet (levelOf level)) (now (text .entry))) 0 (now (out .entry)) ⌝ }
+{
+    let chars = escape_chars(level);
+    let length = escaped_length(text, chars);
+    if out.len() < length {
+        return Answer::Refused {
+            number: 19,
+            first: length as u64,
+            second: 0,
+        };
+    }
+    write_escaped(text, chars, out);
+    Answer::Done {
+        first: length as u64,
+        second: 0,
+    }
 }
