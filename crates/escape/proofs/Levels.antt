@@ -3,11 +3,12 @@ use mathlib.Core.Path.{_≡_, refl}
 use mathlib.Core.Bool.{Bool, true, false, _&&_}
 use mathlib.Core.Logic.{_≢_}
 use mathlib.Core.List.{List, [], _∷_}
-use Prim.Native.Nat.{ℕ, _+_, _≤_, _<_}
+use Prim.Native.Nat.{ℕ, _+_, _*_, _≤_, _<_}
 use native.Mathlib.Omega.{arith}
 use lib.Dec.{leb, lit≤}
 use lib.ListN.{length, take, drop, getD, length-append, length-drop}
 use lib.Seq.{getD-drop}
+use Rattle.text.specs.Utf8.{WellFormed}
 use Rattle.text.proofs.Bytes.{contrary}
 use Rattle.text.proofs.Utf8.{allAscii}
 use borrow.Author.Tests.{ne-eqb}
@@ -15,7 +16,7 @@ use Rattle.text.specs.Call.{laid}
 use Rattle.escape.specs.Escape.{Level, writeByte, write, full, partial, minimal, attribute, escaped, reference, levelSet}
 use Rattle.escape.specs.Scan.{addedBy, charsSet, levelChars}
 use Rattle.escape.specs.declared.EscapeChars.{EscapeChars}
-use Rattle.escape.proofs.Write.{Sized, Ascii, byte-most, write-next}
+use Rattle.escape.proofs.Write.{Sized, Ascii, byte-most, write-next, write-least, write-most, write-well-formed}
 use Rattle.escape.proofs.View.{Kind, Other, is-lt, is-gt, is-amp, is-apos, is-quot, is-cr, is-lf, is-tab, is-other, kind}
 
 -- a byte that no level replaces
@@ -153,3 +154,14 @@ level-ascii level =
       written = λ b e. reference-ascii b (kind b) (escaped-ascii level b (kind b) e);
       some = λ b e. reference-least b (kind b);
     }
+
+-- ---- what every level keeps: the written length is at least the text's and at most 6 times it, and UTF-8 stays UTF-8
+
+pub escape-least : (level : Level) (text : List ℕ) → length text ≤ length (write (levelSet level) text)
+escape-least level text = write-least (levelSet level) (level-sized level) text
+
+pub escape-most : (level : Level) (text : List ℕ) → length (write (levelSet level) text) ≤ 6 * length text
+escape-most level text = write-most (levelSet level) (level-sized level) text
+
+pub escape-well-formed : (level : Level) (text : List ℕ) → WellFormed text → WellFormed (write (levelSet level) text)
+escape-well-formed level text h = write-well-formed (levelSet level) (level-ascii level) text h
