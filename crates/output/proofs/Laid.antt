@@ -41,6 +41,13 @@ laid-more value more old {at} {buffer} {part} e q p =
     rest-put at buffer part
     ∙ rw (p, rest-part at buffer, e, q, laid-rest value old, take-append-seam value (drop (length value) old)) (laid-append value more old)
 
+-- and there is room for it where there is room for both
+pub laid-room : (value more old : List ℕ) {at : ℕ} {buffer : List ℕ}
+    → buffer ≡ laid value old → at ≡ length value → length (value ++ more) ≤ length old → length more ≤ length (midOf at (length buffer - at) buffer)
+laid-room value more old {at} {buffer} e q h =
+    let l : length value + length more ≤ length old = rw length-append at h in
+    rw (rest-part at buffer, length-drop, e, laid-length value old (omega arith)) (omega arith)
+
 -- after the store of one byte
 pub laid-byte : (value old : List ℕ) (b : ℕ) → length value < length old → set (laid value old) (length value) b ≡ laid (value ++ (b ∷ [])) old
 laid-byte value old b h =

@@ -1,0 +1,167 @@
+-- The references that the levels write, and the four levels as sets. Assumes nothing.
+use mathlib.Core.Path.{_≡_, refl}
+use mathlib.Core.Bool.{Bool, true, false, _&&_}
+use mathlib.Core.Logic.{_≢_}
+use mathlib.Core.List.{List, [], _∷_}
+use Prim.Native.Nat.{ℕ, _+_, _*_, _≤_, _<_}
+use native.Mathlib.Omega.{arith}
+use lib.Dec.{leb, lit≤}
+use lib.ListN.{length, take, drop, getD, length-append, length-drop}
+use lib.Seq.{getD-drop}
+use Rattle.text.specs.Utf8.{WellFormed}
+use Rattle.text.proofs.Bytes.{contrary}
+use Rattle.text.proofs.Utf8.{allAscii}
+use borrow.Author.Tests.{ne-eqb}
+use Rattle.text.specs.Call.{laid}
+use Rattle.escape.specs.Escape.{Level, writeByte, write, full, partial, minimal, attribute, escaped, reference, levelSet}
+use Rattle.escape.specs.Scan.{addedBy, charsSet, levelChars}
+use Rattle.escape.specs.declared.EscapeChars.{EscapeChars}
+use Rattle.escape.proofs.Write.{Sized, Ascii, byte-most, write-next, write-least, write-most, write-well-formed}
+use Rattle.escape.proofs.View.{Kind, Other, is-lt, is-gt, is-amp, is-apos, is-quot, is-cr, is-lf, is-tab, is-other, kind}
+
+-- a byte that no level replaces
+pub reference-other : (b : ℕ) → b ≢ 60 → b ≢ 62 → b ≢ 38 → b ≢ 39 → b ≢ 34 → b ≢ 13 → b ≢ 10 → b ≢ 9 → reference b ≡ b ∷ []
+unfolding reference
+reference-other b lt gt amp apos quot cr lf tab =
+    rw (ne-eqb b 60 lt, ne-eqb b 62 gt, ne-eqb b 38 amp, ne-eqb b 39 apos, ne-eqb b 34 quot, ne-eqb b 13 cr, ne-eqb b 10 lf, ne-eqb b 9 tab)
+
+-- a writer of these bytes is a writer of the reference that they are
+pub reference-room : (b : ℕ) (bytes out : List ℕ) → reference b ≡ bytes → length (reference b) ≤ length out → length bytes ≤ length out
+reference-room b bytes out e h = rw e at h
+
+pub reference-put : (b : ℕ) (bytes out : List ℕ) {count : ℕ} {new : List ℕ} → reference b ≡ bytes
+    → (count ≡ length bytes) × (new ≡ laid bytes out) → (count ≡ length (reference b)) × (new ≡ laid (reference b) out)
+reference-put b bytes out e p = rw e p
+
+-- the flags of a level name the bytes that it replaces
+pub chars-level : (level : Level) → charsSet (levelChars level) ≡ levelSet level
+unfolding charsSet levelChars levelSet
+chars-level full = refl
+chars-level partial = refl
+chars-level minimal = refl
+chars-level attribute = refl
+
+-- ---- the count
+
+and-false : (t : Bool) → t && false ≡ false
+and-false true = refl
+and-false false = refl
+
+added-at : (blanks apos quot gt : Bool) (b : ℕ) → Kind b
+    → addedBy (record { blanks = blanks; apos = apos; quot = quot; gt = gt }) b + 1 ≡ length (writeByte (charsSet (record { blanks = blanks; apos = apos; quot = quot; gt = gt })) b)
+unfolding addedBy charsSet
+added-at blanks apos quot gt b is-lt = simp and-false
+added-at blanks apos quot true b is-gt = simp and-false
+added-at blanks apos quot false b is-gt = simp and-false
+added-at blanks apos quot gt b is-amp = simp and-false
+added-at blanks true quot gt b is-apos = simp and-false
+added-at blanks false quot gt b is-apos = simp and-false
+added-at blanks apos true gt b is-quot = simp and-false
+added-at blanks apos false gt b is-quot = simp and-false
+added-at blanks apos quot gt b is-cr = simp and-false
+added-at true apos quot gt b is-lf = refl
+added-at false apos quot gt b is-lf = simp and-false
+added-at true apos quot gt b is-tab = refl
+added-at false apos quot gt b is-tab = simp and-false
+added-at blanks apos quot gt b (is-other o) =
+    rw (o .no-lt, o .no-gt, o .no-amp, o .no-apos, o .no-quot, o .no-cr, o .no-lf, o .no-tab) (simp and-false)
+
+pub added-length : (chars : EscapeChars) (b : ℕ) → addedBy chars b + 1 ≡ length (writeByte (charsSet chars) b)
+added-length chars b = added-at (chars .blanks) (chars .apos) (chars .quot) (chars .gt) b (kind b)
+
+-- ---- their replacements: 1 to 6 bytes, ASCII for ASCII
+
+pub reference-least : (b : ℕ) → Kind b → 1 ≤ length (reference b)
+unfolding reference
+reference-least b is-lt = lit≤ tt
+reference-least b is-gt = lit≤ tt
+reference-least b is-amp = lit≤ tt
+reference-least b is-apos = lit≤ tt
+reference-least b is-quot = lit≤ tt
+reference-least b is-cr = lit≤ tt
+reference-least b is-lf = lit≤ tt
+reference-least b is-tab = lit≤ tt
+reference-least b (is-other o) = rw (o .no-lt, o .no-gt, o .no-amp, o .no-apos, o .no-quot, o .no-cr, o .no-lf, o .no-tab) (lit≤ tt)
+
+pub reference-most : (b : ℕ) → Kind b → length (reference b) ≤ 6
+unfolding reference
+reference-most b is-lt = lit≤ tt
+reference-most b is-gt = lit≤ tt
+reference-most b is-amp = lit≤ tt
+reference-most b is-apos = lit≤ tt
+reference-most b is-quot = lit≤ tt
+reference-most b is-cr = lit≤ tt
+reference-most b is-lf = lit≤ tt
+reference-most b is-tab = lit≤ tt
+reference-most b (is-other o) = rw (o .no-lt, o .no-gt, o .no-amp, o .no-apos, o .no-quot, o .no-cr, o .no-lf, o .no-tab) (lit≤ tt)
+
+pub chars-sized : (chars : EscapeChars) → Sized (charsSet chars)
+unfolding charsSet
+chars-sized chars = record { least = λ b e. reference-least b (kind b); most = λ b e. reference-most b (kind b) }
+
+pub level-sized : (level : Level) → Sized (levelSet level)
+unfolding levelSet
+level-sized level = record { least = λ b e. reference-least b (kind b); most = λ b e. reference-most b (kind b) }
+
+pub added-most : (chars : EscapeChars) (b : ℕ) → addedBy chars b ≤ 5
+added-most chars b = omega (arith, added-length chars b, byte-most (charsSet chars) (chars-sized chars) b)
+
+-- the count of a part, with one byte more
+pub count-next : (chars : EscapeChars) (text : List ℕ) (i k n m : ℕ) → i + k < length text
+    → n + k ≡ length (write (charsSet chars) (take k (drop i text))) → m ≡ addedBy chars (getD text (i + k) 0)
+    → n + m + (k + 1) ≡ length (write (charsSet chars) (take (k + 1) (drop i text)))
+count-next chars text i k n m h e q =
+    rw (write-next (charsSet chars) (drop i text) k (rw length-drop (omega arith)), length-append, getD-drop)
+    (omega (arith, e, q, added-length chars (getD text (i + k) 0)))
+
+reference-ascii : (b : ℕ) → Kind b → leb b 0x7F ≡ true → allAscii (reference b) ≡ true
+unfolding reference
+reference-ascii b is-lt e = refl
+reference-ascii b is-gt e = refl
+reference-ascii b is-amp e = refl
+reference-ascii b is-apos e = refl
+reference-ascii b is-quot e = refl
+reference-ascii b is-cr e = refl
+reference-ascii b is-lf e = refl
+reference-ascii b is-tab e = refl
+reference-ascii b (is-other o) e =
+    rw (o .no-lt, o .no-gt, o .no-amp, o .no-apos, o .no-quot, o .no-cr, o .no-lf, o .no-tab, e)
+
+escaped-other : (level : Level) (b : ℕ) → Other b → escaped level b ≡ false
+unfolding escaped
+escaped-other minimal b o = rw (o .no-lt, o .no-amp, o .no-cr)
+escaped-other partial b o = rw (o .no-gt, o .no-lt, o .no-amp, o .no-cr)
+escaped-other full b o = rw (o .no-apos, o .no-quot, o .no-gt, o .no-lt, o .no-amp, o .no-cr)
+escaped-other attribute b o =
+    rw (o .no-lf, o .no-tab, o .no-apos, o .no-quot, o .no-gt, o .no-lt, o .no-amp, o .no-cr)
+
+escaped-ascii : (level : Level) (b : ℕ) → Kind b → escaped level b ≡ true → leb b 0x7F ≡ true
+escaped-ascii level b is-lt e = refl
+escaped-ascii level b is-gt e = refl
+escaped-ascii level b is-amp e = refl
+escaped-ascii level b is-apos e = refl
+escaped-ascii level b is-quot e = refl
+escaped-ascii level b is-cr e = refl
+escaped-ascii level b is-lf e = refl
+escaped-ascii level b is-tab e = refl
+escaped-ascii level b (is-other o) e = contrary e (escaped-other level b o)
+
+pub level-ascii : (level : Level) → Ascii (levelSet level)
+unfolding levelSet
+level-ascii level =
+    record {
+      picked = λ b e. escaped-ascii level b (kind b) e;
+      written = λ b e. reference-ascii b (kind b) (escaped-ascii level b (kind b) e);
+      some = λ b e. reference-least b (kind b);
+    }
+
+-- ---- what every level keeps: the written length is at least the text's and at most 6 times it, and UTF-8 stays UTF-8
+
+pub escape-least : (level : Level) (text : List ℕ) → length text ≤ length (write (levelSet level) text)
+escape-least level text = write-least (levelSet level) (level-sized level) text
+
+pub escape-most : (level : Level) (text : List ℕ) → length (write (levelSet level) text) ≤ 6 * length text
+escape-most level text = write-most (levelSet level) (level-sized level) text
+
+pub escape-well-formed : (level : Level) (text : List ℕ) → WellFormed text → WellFormed (write (levelSet level) text)
+escape-well-formed level text h = write-well-formed (levelSet level) (level-ascii level) text h

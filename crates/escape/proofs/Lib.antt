@@ -1,0 +1,5 @@
+pub mod View
+pub mod Write
+pub mod Scan
+pub mod Written
+pub mod Levels

@@ -1,0 +1,239 @@
+// The escape levels: the length is counted first, then runs of copied bytes and replacements are written in turn.
+ghost use mathlib.Core.Path.{_≡_};
+ghost use mathlib.Core.Bool.{false};
+ghost use mathlib.Core.List.{[], _∷_};
+ghost use Prim.Native.Nat.{_+_, _≤_, _<_};
+ghost use lib.ListN.{length, take, drop};
+ghost use Rattle.text.specs.Bytes.{pick};
+ghost use Rattle.text.specs.Call.{laid, finish, callOf};
+ghost use Rattle.escape.specs.Escape.{write, levelOf, levelSet, levelCheck, reference};
+ghost use Rattle.escape.specs.Scan.{escapedBy, addedBy, charsSet, levelChars, Plain, Run, WholeRun};
+use text::Answer;
+
+// The characters that are escaped besides `<`, `&` and CR: LF and TAB, `'`, `"`, `>`.
+pub struct EscapeChars {
+    pub blanks: bool,
+    pub apos: bool,
+    pub quot: bool,
+    pub gt: bool,
+}
+
+// Refusal 4.
+pub fn check_level(level: u8) -> Answer
+    ensures { λ r. ⌜ r ≡ levelCheck level ⌝ }
+{
+    if 3 < level {
+        return Answer::Refused {
+            number: 4,
+            first: 0,
+            second: 0,
+        };
+    }
+    Answer::Done {
+        first: 0,
+        second: 0,
+    }
+}
+
+// The level as flags, so that the loops test no level.
+pub fn escape_chars(level: u8) -> EscapeChars
+    ensures { λ r. ⌜ r ≡ levelChars (levelOf level) ⌝ }
+{
+    if level == 0 {
+        return EscapeChars {
+            blanks: false,
+            apos: true,
+            quot: true,
+            gt: true,
+        };
+    }
+    if level == 1 {
+        return EscapeChars {
+            blanks: false,
+            apos: false,
+            quot: false,
+            gt: true,
+        };
+    }
+    if level == 2 {
+        return EscapeChars {
+            blanks: false,
+            apos: false,
+            quot: false,
+            gt: false,
+        };
+    }
+    EscapeChars {
+        blanks: true,
+        apos: true,
+        quot: true,
+        gt: true,
+    }
+}
+
+// Without branches, so that the block loops run on vectors.
+fn escapes(chars: EscapeChars, b: u8) -> bool
+    ensures { λ r. ⌜ r ≡ escapedBy chars b ⌝ }
+{
+    (chars.blanks & ((b == b'\n') | (b == b'\t')))
+        | (chars.apos & (b == b'\''))
+        | (chars.quot & (b == b'"'))
+        | (chars.gt & (b == b'>'))
+        | (b == b'<')
+        | (b == b'&')
+        | (b == b'\r')
+}
+
+// Is one of the 32 bytes from i on escaped?
+fn any_escaped(text: &[u8], i: usize, chars: EscapeChars) -> bool
+    requires { ⌜ i + 32 ≤ length (now text) ⌝ }
+    ensures { λ r. ⌜ (r ≡ false → Plain (charsSet chars) (now (text .entry)) i (i + 32)) ⌝ }
+{
+    let mut hit = false;
+    for k in 0..32usize {
+        hit = hit | escapes(chars, text[i + k]);
+    }
+    hit
+}
+
+// Blocks of 32 bytes of which none is escaped.
+fn skip_plain(text: &[u8], from: usize, chars: EscapeChars) -> usize
+    requires { ⌜ from ≤ length (now text) ⌝ }
+    ensures { λ r. ⌜ Run (charsSet chars) (now (text .entry)) from r ⌝ }
+{
+    let mut i = from;
+    while 32 <= text.len() - i {
+        if any_escaped(text, i, chars) {
+            return i;
+        }
+        i += 32;
+    }
+    i
+}
+
+// The next byte from `from` on that is escaped, or the end.
+fn next_escaped(text: &[u8], from: usize, chars: EscapeChars) -> usize
+    requires { ⌜ from ≤ length (now text) ⌝ }
+    ensures { λ r. ⌜ WholeRun (charsSet chars) (now (text .entry)) from r ⌝ }
+{
+    let mut i = skip_plain(text, from, chars);
+    while i < text.len() {
+        if escapes(chars, text[i]) {
+            return i;
+        }
+        i += 1;
+    }
+    i
+}
+
+fn put(reference: &[u8], out: &mut [u8]) -> usize
+    requires { ⌜ length (now reference) ≤ length (now out) ⌝ }
+    ensures { λ r. ⌜ (r ≡ length (now (reference .entry))) × (now (out .exit) ≡ laid (now (reference .entry)) (now (out .entry))) ⌝ }
+{
+    output::put_run(reference, out);
+    reference.len()
+}
+
+// Writes the reference to the byte at the start of `out`, and keeps the rest.
+pub fn escape_char(b: u8, out: &mut [u8]) -> usize
+    requires { ⌜ length (reference b) ≤ length (now out) ⌝ }
+    ensures { λ r. ⌜ (r ≡ length (reference b)) × (now (out .exit) ≡ laid (reference b) (now (out .entry))) ⌝ }
+{
+    match b {
+        b'<' => put(b"&lt;", out),
+        b'>' => put(b"&gt;", out),
+        b'&' => put(b"&amp;", out),
+        b'\'' => put(b"&apos;", out),
+        b'"' => put(b"&quot;", out),
+        b'\r' => put(b"&#13;", out),
+        b'\n' => put(b"&#10;", out),
+        b'\t' => put(b"&#9;", out),
+        _ => {
+            out[0] = b;
+            1
+        }
+    }
+}
+
+fn when(test: bool, count: u8) -> u8
+    ensures { λ r. ⌜ (r ≡ pick test count 0) × (r ≤ count) ⌝ }
+{
+    if test { count } else { 0 }
+}
+
+// How many bytes more than the byte itself is written for it.
+fn added(chars: EscapeChars, b: u8) -> u8
+    ensures { λ r. ⌜ r ≡ addedBy chars b ⌝ }
+{
+    let three = (b == b'<') | ((b == b'>') & chars.gt) | ((b == b'\t') & chars.blanks);
+    let four = (b == b'&') | (b == b'\r') | ((b == b'\n') & chars.blanks);
+    let five = ((b == b'\'') & chars.apos) | ((b == b'"') & chars.quot);
+    when(three, 3) + when(four, 4) + when(five, 5)
+}
+
+// The same of `count` bytes from i on: so few that the sum is a byte, as the vectors' lanes are.
+fn added_part(text: &[u8], i: usize, count: usize, chars: EscapeChars) -> u8
+    requires { ⌜ (i + count ≤ length (now text)) × (count ≤ 32) ⌝ }
+    ensures { λ r. ⌜ r + count ≡ length (write (charsSet chars) (take count (drop i (now (text .entry))))) ⌝ }
+{
+    let mut n: u8 = 0;
+    for k in 0..count {
+        n += added(chars, text[i + k]);
+    }
+    n
+}
+
+// The length of the escaped text.
+pub fn escaped_length(text: &[u8], chars: EscapeChars) -> usize
+    requires { ⌜ length (now text) ≤ 16777216 ⌝ }
+    ensures { λ r. ⌜ r ≡ length (write (charsSet chars) (now (text .entry))) ⌝ }
+{
+    let mut n: usize = 0;
+    let mut i: usize = 0;
+    while 32 <= text.len() - i {
+        n += added_part(text, i, 32, chars) as usize;
+        i += 32;
+    }
+    let rest = text.len() - i;
+    n + added_part(text, i, rest, chars) as usize + text.len()
+}
+
+// Writes the escaped text at the start of `out`, and keeps the rest.
+pub fn write_escaped(text: &[u8], chars: EscapeChars, out: &mut [u8])
+    requires { ⌜ length (write (charsSet chars) (now text)) ≤ length (now out) ⌝ }
+    ensures { λ _. ⌜ now (out .exit) ≡ laid (write (charsSet chars) (now (text .entry))) (now (out .entry)) ⌝ }
+{
+    let mut at: usize = 0;
+    let mut i: usize = 0;
+    loop {
+        let end = next_escaped(text, i, chars);
+        output::put_run(&text[i..end], &mut out[at..]);
+        at += end - i;
+        if end == text.len() {
+            return;
+        }
+        at += escape_char(text[end], &mut out[at..]);
+        i = end + 1;
+    }
+}
+
+// One of the four levels. Counts first, so that 19 leaves the output as it is.
+pub fn escape(text: &[u8], level: u8, out: &mut [u8]) -> Answer
+    requires { ⌜ length (now text) ≤ 16777216 ⌝ }
+    ensures { λ r. ⌜ callOf r (now (out .exit) ∷ []) ≡ finish (write (levelSet (levelOf level)) (now (text .entry))) 0 (now (out .entry)) ⌝ }
+{
+    let chars = escape_chars(level);
+    let length = escaped_length(text, chars);
+    if out.len() < length {
+        return Answer::Refused {
+            number: 19,
+            first: length as u64,
+            second: 0,
+        };
+    }
+    write_escaped(text, chars, out);
+    Answer::Done {
+        first: length as u64,
+        second: 0,
+    }
+}
