@@ -1,1 +1,3 @@
 pub mod Trim
+pub mod CData
+pub mod Blocks
