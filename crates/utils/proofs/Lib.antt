@@ -1,2 +1,3 @@
 pub mod Trim
 pub mod Cuts
+pub mod Pieces

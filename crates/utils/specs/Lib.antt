@@ -1,3 +1,4 @@
 pub mod Trim
 pub mod CData
 pub mod Blocks
+pub mod Pieces
