@@ -10,7 +10,10 @@ use lib.Seq.{take-at, drop-at, drop-drop, getD-drop, take-append-add}
 use lib.Dec.{eqb, ltb}
 use borrow.Author.Tests.{eqb-true, eq-eqb, ne-eqb, le-ltb}
 use Rattle.text.specs.Bytes.{pick, begins}
+use Rattle.text.specs.Utf8.{WellFormed}
 use Rattle.text.proofs.Bytes.{contrary, and-left, and-right}
+use Rattle.text.proofs.Utf8.{split-ascii, ascii-well-formed}
+use Rattle.utils.proofs.Boundary.{start-inside}
 use Rattle.utils.specs.CData.{closing, firstCut, stepped, pieceFrom, outside, cdataStep}
 use Rattle.utils.specs.Pieces.{holds, piecesIn, pieces, joined, AtCut, cursorAt, calls, handed}
 use Rattle.utils.specs.declared.Cursor.{Cursor}
@@ -283,7 +286,28 @@ hand (suc n) t u o j count d h l c = go (split n u) (hand n t)
         ∙ ap (λ (i : ℕ). stepped (Part o i) (o + i) 0 ∷ handed (o + i) (piecesIn n (62 ∷ rest)) j) (sym k)
         ∙ sym (ap (λ (ps : List (List ℕ)). handed o ps j) e ∙ handed-cons o p (piecesIn n (62 ∷ rest)) j v)
 
--- from offset 0, not finished, where the text does not start inside a character
-pub calls-handed : (t : List ℕ) (j : ℕ) → outside t 0 ≡ false → calls (length (pieces t) + j) t (cursorAt 0 0) ≡ handed 0 (pieces t) j
+-- from offset 0, not finished: the pieces in turn, then "no more" as often as it is called, with the cursor left as it is
+pub calls-handed : (t : List ℕ) (j : ℕ) → WellFormed t → calls (length (pieces t) + j) t (cursorAt 0 0) ≡ handed 0 (pieces t) j
 unfolding pieces
-calls-handed t j h = hand (length t + 1) t t 0 j (length (piecesIn (length t + 1) t) + j) refl h (omega arith) refl
+calls-handed t j w = hand (length t + 1) t t 0 j (length (piecesIn (length t + 1) t) + j) refl (start-inside t w) (omega arith) refl
+
+-- ---- UTF-8
+
+whole-in : (n : ℕ) (t : List ℕ) (k : ℕ) → WellFormed t → WellFormed (getD (piecesIn n t) k [])
+unfolding piecesIn
+whole-in zero t k w = ascii-well-formed [] refl
+whole-in (suc n) t k w = go k (split n t) (λ rest m. whole-in n (62 ∷ rest) m)
+  where
+    go : (k : ℕ) → Split n t → ((rest : List ℕ) (m : ℕ) → WellFormed (62 ∷ rest) → WellFormed (getD (piecesIn n (62 ∷ rest)) m []))
+        → WellFormed (getD (piecesIn (suc n) t) k [])
+    go zero (one f q e) ih = rw e w
+    go (suc m) (one f q e) ih = rw e (ascii-well-formed [] refl)
+    go zero (more xs rest s f q e) ih = rw e (split-ascii (xs ++ (93 ∷ 93 ∷ [])) rest 62 (omega arith) (subst WellFormed s w) .0)
+    go (suc m) (more xs rest s f q e) ih =
+        let r : (xs ++ (93 ∷ 93 ∷ [])) ++ (62 ∷ rest) ≡ (xs ++ (93 ∷ [])) ++ (93 ∷ 62 ∷ rest) =
+        append-assoc xs (93 ∷ 93 ∷ []) (62 ∷ rest) ∙ sym (append-assoc xs (93 ∷ []) (93 ∷ 62 ∷ rest)) in
+        rw e (ih rest m (split-ascii (xs ++ (93 ∷ [])) (62 ∷ rest) 93 (omega arith) (subst WellFormed (s ∙ r) w) .1))
+
+pub pieces-whole : (t : List ℕ) (k : ℕ) → WellFormed t → WellFormed (getD (pieces t) k [])
+unfolding pieces
+pieces-whole t k w = whole-in (length t + 1) t k w
