@@ -45,6 +45,11 @@ pub start-at : (t : List ℕ) (i : ℕ) → i ≡ blanks t → record { start = 
 unfolding trimStart
 start-at t i e = ap (λ (n : ℕ). record { start = n; length = length t - n }) e
 
+pub start-none : (t : List ℕ) → length t ≡ blanks t → record { start = length t; length = 0 } ≡ trimStart t
+start-none t e =
+    let none : 0 ≡ length t - length t = omega arith in
+    ap (λ (n : ℕ). record { start = length t; length = n }) none ∙ start-at t (length t) e
+
 -- ---- the end
 
 -- the length of the first `e` bytes without the white space at their end

@@ -52,7 +52,7 @@ pub fn trim_xml_start(text: &[u8]) -> Part
         i += 1;
     }
     Part {
-        start: i,
+        start: text.len(),
         length: 0,
     }
 }

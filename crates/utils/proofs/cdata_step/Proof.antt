@@ -16,7 +16,7 @@ returns-2 : tie.Need-returns-2
 returns-2 c = step-finished (c .before .before .before .before .before .args .text .now) (c .before .before .before .before .before .args .cursor) (sym (c .before .before .before .is-outside .ensures) ∙ c .before .before .if1 .left) (c .if2 .taken)
 
 piece-end-requires : tie.Need-piece-end-requires
-piece-end-requires c κs = inside-le (c .before .before .before .before .before .args .text .now) (c .before .before .before .before .before .args .cursor .offset) (sym (c .before .before .before .is-outside .ensures) ∙ c .before .before .if1 .left)
+piece-end-requires c κs = omega (arith, inside-le (c .before .before .before .before .before .args .text .now) (c .before .before .before .before .before .args .cursor .offset) (sym (c .before .before .before .is-outside .ensures) ∙ c .before .before .if1 .left))
 
 sub-if3 : tie.Need-sub-if3
 sub-if3 c = search needs

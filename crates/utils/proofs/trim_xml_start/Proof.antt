@@ -5,7 +5,7 @@ use lib.ListN.{length, drop}
 use native.Mathlib.Omega.{arith}
 use mathlib.Core.Path.{_≡_, refl, sym, _∙_, ap}
 use Rattle.utils.specs.Trim.{blanks}
-use Rattle.utils.proofs.Trim.{blank-on, blank-stop, blank-over, start-at}
+use Rattle.utils.proofs.Trim.{blank-on, blank-stop, blank-over, start-at, start-none}
 use borrow.Author.Needs.{needs}
 use Rattle.utils.proofs.trim_xml_start.Statement.{statement}
 use Rattle.utils.proofs.trim_xml_start.Tie as tie
@@ -50,8 +50,7 @@ returns-2 : tie.Need-returns-2 Inv-loop μ-loop
 returns-2 c =
     let l = c .before .loop in
     let t = c .before .before .before .args .text .now in
-    let none : 0 ≡ length t - l .i = omega arith in
-    ap (λ (n : ℕ). record { start = l .i; length = n }) none ∙ start-at t (l .i) (sym (blank-over t (l .i) (omega arith)) ∙ l .inv .1)
+    start-none t (omega (arith, blank-over t (l .i) (omega arith)))
 
 pub trim-xml-start-spec : {M : Type 1} → statement M
 trim-xml-start-spec =
