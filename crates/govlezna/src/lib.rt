@@ -1,10 +1,12 @@
 // The calls that C sees: integers, byte slices and references to numbers, no `requires`. Each promise is one equation.
 use text::Answer;
+use utils::Part;
 ghost use mathlib.Core.Path.{_≡_};
 ghost use mathlib.Core.List.{List, [], _∷_};
 ghost use Prim.Native.Nat.{ℕ};
 ghost use Rattle.text.specs.Call.{called, callOf};
-ghost use Rattle.govlezna.specs.Calls.{checkUtf8Call, parseNumberCall};
+ghost use Rattle.govlezna.specs.Calls.{checkUtf8Call, parseNumberCall, partCall, trimCall};
+ghost use Rattle.utils.specs.Trim.{trimStart, trimEnd, trimSpaces};
 
 // Writes both answer words and hands the number on.
 fn answered(number: u32, first: u64, second: u64, answer: &mut [u64; 2]) -> u32
@@ -64,4 +66,49 @@ pub extern "C" fn govlezna_parse_number(text: &[u8], answer: &mut [u64; 2]) -> u
         return put(valid, answer);
     };
     put(charref::answer_of(charref::parse_number(text)), answer)
+}
+
+// A part of the text, which a trim finds in any bytes, once the text is checked.
+fn put_part(text: &[u8], part: Part, answer: &mut [u64; 2]) -> u32
+    ensures { λ r. ⌜ called r (now (answer .exit)) [] ≡ partCall (now (text .entry)) part ⌝ }
+{
+    let fine = text::check_text(text);
+    let Answer::Done {
+        first: _,
+        second: _,
+    } = fine
+    else {
+        return put(fine, answer);
+    };
+    put(
+        Answer::Done {
+            first: part.start as u64,
+            second: part.length as u64,
+        },
+        answer,
+    )
+}
+
+// The text without the white space at its start. Success: start, length.
+#[no_mangle]
+pub extern "C" fn govlezna_trim_xml_start(text: &[u8], answer: &mut [u64; 2]) -> u32
+    ensures { λ r. ⌜ called r (now (answer .exit)) [] ≡ trimCall trimStart (now (text .entry)) ⌝ }
+{
+    put_part(text, utils::trim_xml_start(text), answer)
+}
+
+// The text without the white space at its end. Success: start, length.
+#[no_mangle]
+pub extern "C" fn govlezna_trim_xml_end(text: &[u8], answer: &mut [u64; 2]) -> u32
+    ensures { λ r. ⌜ called r (now (answer .exit)) [] ≡ trimCall trimEnd (now (text .entry)) ⌝ }
+{
+    put_part(text, utils::trim_xml_end(text), answer)
+}
+
+// The text without the white space at both ends. Success: start, length.
+#[no_mangle]
+pub extern "C" fn govlezna_trim_xml_spaces(text: &[u8], answer: &mut [u64; 2]) -> u32
+    ensures { λ r. ⌜ called r (now (answer .exit)) [] ≡ trimCall trimSpaces (now (text .entry)) ⌝ }
+{
+    put_part(text, utils::trim_xml_spaces(text), answer)
 }
