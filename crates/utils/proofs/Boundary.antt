@@ -1,17 +1,17 @@
 -- A cursor is outside exactly where the bytes before it are no whole characters; pieces are whole characters. Assumes nothing.
-use mathlib.Core.Path.{_≡_, refl, sym, _∙_, ap, subst}
-use Prim.Native.Nat.{ℕ, zero, suc, _+_, _≤_, _<_}
+use mathlib.Core.Path.{_≡_, refl, sym, _∙_, ap}
+use Prim.Native.Nat.{ℕ, suc, _≤_, _<_}
 use native.Mathlib.Omega.{arith}
-use mathlib.Core.Bool.{Bool, true, false, not, _||_}
-use mathlib.Core.List.{List, [], _∷_, _++_, append-assoc}
+use mathlib.Core.Bool.{Bool, true, false, not}
+use mathlib.Core.List.{List}
 use lib.ListN.{length, take, drop, getD, take-append-drop}
-use lib.Seq.{drop-cons, take-length, getD-drop}
+use lib.Seq.{drop-cons, take-length}
 use lib.Dec.{leb, ltb}
 use borrow.Author.Tests.{ltb-true, ltb-false, le-ltb, leb-true}
 use Rattle.text.specs.Bytes.{pick, within}
 use Rattle.text.specs.Utf8.{State, between, one, two, three, after-e0, after-ed, after-f0, after-f4, broken, first, next, after, isBetween, wellFormed, WellFormed}
 use Rattle.text.proofs.Bytes.{and-left, and-right, inside}
-use Rattle.text.proofs.Utf8.{after-append, never-between, split-ascii, testable}
+use Rattle.text.proofs.Utf8.{after-append, never-between, testable}
 use Rattle.text.proofs.FirstByte.{first-low}
 use Rattle.utils.specs.CData.{outside}
 use Rattle.utils.proofs.Cuts.{at-end}

@@ -1,5 +1,5 @@
 -- Laws of the first cut: where it falls, and the terms of the fast search. Assumes nothing.
-use mathlib.Core.Path.{_≡_, refl, sym, _∙_, ap, ap₂}
+use mathlib.Core.Path.{_≡_, refl, sym, _∙_, ap}
 use Prim.Native.Nat.{ℕ, zero, suc, _+_, _-_, _≤_, _<_}
 use native.Mathlib.Omega.{arith}
 use native.Mathlib.Numerals.{add-one}
@@ -8,13 +8,12 @@ use mathlib.Core.List.{List, [], _∷_}
 use lib.ListN.{length, drop, getD, length-drop, drop-of-length-le, List·getD-eq-default}
 use lib.Seq.{drop-cons, getD-drop}
 use lib.Dec.{eqb, ltb}
-use borrow.Author.Tests.{lt-ltb, le-ltb, ltb-false, eq-eqb, ne-eqb}
+use borrow.Author.Tests.{le-ltb, ltb-false, eq-eqb, ne-eqb}
 use Rattle.text.specs.Bytes.{pick, begins}
 use Rattle.text.proofs.Bytes.{or-left}
 use Rattle.utils.specs.CData.{closing, firstCut, stepped, outside, cdataStep}
 use Rattle.utils.specs.declared.Cursor.{Cursor}
 use Rattle.utils.specs.declared.Piece.the-variants.{Part, NoMore, Outside}
-use Rattle.utils.specs.declared.Stepped.{Stepped}
 use Rattle.utils.specs.Blocks.{closesAt, Clear, Passed}
 
 -- ---- `]]>` as bytes at three indices

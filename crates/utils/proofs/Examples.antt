@@ -1,6 +1,6 @@
 -- Document 01's seams for CDATA and for blanks alone, computed. Assumes nothing.
 use mathlib.Core.Path.{_≡_, refl}
-use mathlib.Core.List.{List, [], _∷_}
+use mathlib.Core.List.{[], _∷_}
 use Rattle.utils.specs.Trim.{trimStart, trimEnd, trimSpaces}
 use Rattle.utils.specs.CData.{stepped, cdataStep}
 use Rattle.utils.specs.Pieces.{pieces, calls, cursorAt}

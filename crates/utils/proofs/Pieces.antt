@@ -7,9 +7,9 @@ use mathlib.Core.Bool.{Bool, true, false, _&&_, _||_}
 use mathlib.Core.List.{List, [], _∷_, _++_, append-assoc, append-nil}
 use lib.ListN.{length, take, drop, getD, replicate, length-append, length-drop}
 use lib.Seq.{take-at, drop-at, drop-drop, getD-drop, take-append-add}
-use lib.Dec.{eqb, ltb}
+use lib.Dec.{eqb}
 use borrow.Author.Tests.{eqb-true, eq-eqb, ne-eqb, le-ltb}
-use Rattle.text.specs.Bytes.{pick, begins}
+use Rattle.text.specs.Bytes.{begins}
 use Rattle.text.specs.Utf8.{WellFormed}
 use Rattle.text.proofs.Bytes.{contrary, and-left, and-right}
 use Rattle.text.proofs.Utf8.{split-ascii, ascii-well-formed}

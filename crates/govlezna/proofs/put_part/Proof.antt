@@ -1,5 +1,5 @@
 -- `govlezna::put_part`: the checks of the text, then the part. Assumes nothing.
-use mathlib.Core.Path.{ap, _∙_}
+use mathlib.Core.Path.{_∙_}
 use mathlib.Core.List.{[]}
 use Rattle.text.proofs.Call.{halts, passes}
 use Rattle.govlezna.specs.Calls.{partCall}

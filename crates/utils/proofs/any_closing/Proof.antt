@@ -1,12 +1,11 @@
 -- `utils::any_closing` tests each of 32 bytes. The invariant: `]]>` stands at none of those passed. Assumes nothing.
-use Prim.Native.Nat.{ℕ, _+_, _-_, _≤_}
+use Prim.Native.Nat.{_-_, _≤_}
 use native.Mathlib.Omega.{arith}
-use mathlib.Core.Path.{_≡_, refl, sym, _∙_}
+use mathlib.Core.Path.{_≡_, sym, _∙_}
 use mathlib.Core.Bool.{false}
 use borrow.Author.Count.{below-none, below-more}
 use Rattle.text.proofs.Bytes.{or-left, or-right}
 use Rattle.utils.specs.Blocks.{Clear}
-use Rattle.utils.proofs.Cuts.{no-gt}
 use borrow.Author.Needs.{needs}
 use Rattle.utils.proofs.any_closing.Statement.{statement}
 use Rattle.utils.proofs.any_closing.Tie as tie

@@ -1,7 +1,7 @@
 -- `utils::any_gt`: where no byte is `>`, no `]]>` ends. The invariant: none stands at the bytes passed. Assumes nothing.
-use Prim.Native.Nat.{ℕ, _+_, _-_, _≤_}
+use Prim.Native.Nat.{_+_, _-_, _≤_}
 use native.Mathlib.Omega.{arith}
-use mathlib.Core.Path.{_≡_, refl, sym, _∙_}
+use mathlib.Core.Path.{_≡_}
 use mathlib.Core.Bool.{false}
 use borrow.Author.Count.{below-none, below-more}
 use Rattle.text.proofs.Bytes.{or-left, or-right}

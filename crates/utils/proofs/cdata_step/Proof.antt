@@ -1,6 +1,6 @@
 -- `utils::cdata_step` is the definition's step, case by case. Assumes nothing.
 use native.Mathlib.Omega.{arith}
-use mathlib.Core.Path.{_≡_, refl, sym, _∙_}
+use mathlib.Core.Path.{sym, _∙_}
 use Rattle.utils.proofs.Cuts.{inside-le, step-outside, step-finished, step-last, step-cut}
 use borrow.Author.Needs.{needs}
 use Rattle.utils.proofs.cdata_step.Statement.{statement}

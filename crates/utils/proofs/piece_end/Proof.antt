@@ -1,7 +1,7 @@
 -- `utils::piece_end` finds the first cut. The invariant: the piece goes on to where the loop is. Assumes nothing.
-use Prim.Native.Nat.{ℕ, _+_, _-_, _≤_}
+use Prim.Native.Nat.{_-_}
 use native.Mathlib.Omega.{arith}
-use mathlib.Core.Path.{_≡_, refl, sym, _∙_}
+use mathlib.Core.Path.{sym, _∙_}
 use lib.ListN.{length}
 use Rattle.utils.specs.Blocks.{Passed}
 use Rattle.utils.proofs.Cuts.{passed-block, end-cut, end-last, clear-one}

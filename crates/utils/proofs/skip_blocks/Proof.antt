@@ -1,11 +1,10 @@
 -- `utils::skip_blocks` passes blocks in which no `]]>` stands. The invariant: the piece goes on to where the loop is. Assumes nothing.
 use mathlib.Core.Logic.{⊎-elim}
-use Prim.Native.Nat.{ℕ, _+_, _-_, _≤_}
+use Prim.Native.Nat.{_-_}
 use native.Mathlib.Omega.{arith}
-use mathlib.Core.Path.{_≡_, refl, sym, _∙_}
 use lib.ListN.{length}
 use Rattle.utils.specs.Blocks.{Passed}
-use Rattle.utils.proofs.Cuts.{passed-none, passed-block}
+use Rattle.utils.proofs.Cuts.{passed-block}
 use borrow.Author.Needs.{needs}
 use Rattle.utils.proofs.skip_blocks.Statement.{statement}
 use Rattle.utils.proofs.skip_blocks.Tie as tie

@@ -1,10 +1,10 @@
 -- `utils::trim_xml_end` counts from the end. The invariant: what is kept of the first `end` bytes is what is kept of the text. Assumes nothing.
 use borrow.Author.Tests.{not-true, not-false}
-use Prim.Native.Nat.{ℕ, _+_, _≤_, _-_}
+use Prim.Native.Nat.{_≤_, _-_}
 use lib.ListN.{length}
 use native.Mathlib.Omega.{arith}
 use mathlib.Core.List.{reverse}
-use mathlib.Core.Path.{_≡_, refl, sym, _∙_, ap}
+use mathlib.Core.Path.{_≡_, sym, _∙_}
 use Rattle.utils.specs.Trim.{blanks}
 use Rattle.utils.proofs.Trim.{kept, kept-on, kept-stop, kept-whole, end-at}
 use borrow.Author.Needs.{needs}

@@ -1,6 +1,4 @@
 -- `utils::trim_xml_spaces` trims the end of what `trim_xml_start` leaves. Assumes nothing.
-use mathlib.Core.Path.{_≡_, refl, sym, _∙_, ap}
-use native.Mathlib.Omega.{arith}
 use Rattle.utils.proofs.Trim.{start-fits, spaces-at}
 use borrow.Author.Needs.{needs}
 use Rattle.utils.proofs.trim_xml_spaces.Statement.{statement}

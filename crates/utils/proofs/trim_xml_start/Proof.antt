@@ -1,9 +1,9 @@
 -- `utils::trim_xml_start` counts the white space in front. The invariant: the bytes passed and the blanks still to come make the count. Assumes nothing.
 use borrow.Author.Tests.{not-true, not-false}
-use Prim.Native.Nat.{ℕ, _+_, _≤_, _-_}
+use Prim.Native.Nat.{_+_, _≤_, _-_}
 use lib.ListN.{length, drop}
 use native.Mathlib.Omega.{arith}
-use mathlib.Core.Path.{_≡_, refl, sym, _∙_, ap}
+use mathlib.Core.Path.{_≡_, sym, _∙_}
 use Rattle.utils.specs.Trim.{blanks}
 use Rattle.utils.proofs.Trim.{blank-on, blank-stop, blank-over, start-at, start-none}
 use borrow.Author.Needs.{needs}
