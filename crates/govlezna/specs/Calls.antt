@@ -5,6 +5,13 @@ use lib.ListN.{length}
 use Rattle.text.specs.Call.{Called, called, callOf, guarded, textCheck, argumentCheck, versionCheck, finish}
 use Rattle.text.specs.Version.{ruleOf}
 use Rattle.eols.specs.LineEnds.{eols}
+use Rattle.text.specs.declared.Answer.{Answer}
+use Rattle.text.specs.declared.Answer.the-variants.{Done, Refused}
+use Rattle.utils.specs.declared.Part.{Part}
+use Rattle.utils.specs.declared.Cursor.{Cursor}
+use Rattle.utils.specs.declared.Stepped.{Stepped}
+use Rattle.utils.specs.CData.{cdataStep, pieceAnswer}
+use Rattle.govlezna.specs.declared.CDataNext.{CDataNext}
 use Rattle.charref.specs.CharRef.{charNumber, anyCharacter, numberAnswer}
 
 -- document 01, UTF-8: 1 and 5, else the text's length
@@ -19,3 +26,25 @@ parseNumberCall text = guarded (textCheck text) [] (callOf (numberAnswer (charNu
 unfoldable pub normalizeEolsCall : List ℕ → ℕ → List ℕ → Called
 normalizeEolsCall text version out =
     guarded (argumentCheck text (versionCheck version)) (out ∷ []) (finish (eols (ruleOf version) text) 0 out)
+
+-- document 01, trimming: 1 and 5, else the part's start and length
+unfoldable pub partCall : List ℕ → Part → Called
+partCall text part = guarded (textCheck text) [] (called 0 (part .start ∷ part .length ∷ []) [])
+
+unfoldable pub trimCall : (List ℕ → Part) → List ℕ → Called
+unfolding partCall
+trimCall trim text = partCall text (trim text)
+
+-- an answer and the cursor that it leaves
+abbrev pub cursorLeft : Answer → Cursor → CDataNext
+cursorLeft (Done first second) next = record { number = 0; words = first ∷ second ∷ []; next = next }
+cursorLeft (Refused number first second) next = record { number = number; words = first ∷ second ∷ []; next = next }
+
+-- a refusal by the checks of the text leaves the cursor; else what the step does
+abbrev pub cursorGuarded : Answer → Cursor → Stepped → CDataNext
+cursorGuarded (Done first second) cursor step = cursorLeft (pieceAnswer (step .piece)) (step .next)
+cursorGuarded (Refused number first second) cursor step = cursorLeft (Refused number first second) cursor
+
+-- document 01, CDATA: 1 and 5, then 20; the piece, or "no more"; the cursor changes with a piece only
+unfoldable pub cdataNextCall : List ℕ → Cursor → CDataNext
+cdataNextCall text cursor = cursorGuarded (textCheck text) cursor (cdataStep text cursor)

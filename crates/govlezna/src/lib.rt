@@ -1,10 +1,21 @@
 // The calls that C sees: integers, byte slices and references to numbers, no `requires`. Each promise is one equation.
 use text::Answer;
+use utils::Cursor;
+use utils::Part;
 ghost use mathlib.Core.Path.{_≡_};
 ghost use mathlib.Core.List.{List, [], _∷_};
 ghost use Prim.Native.Nat.{ℕ};
 ghost use Rattle.text.specs.Call.{called, callOf};
-ghost use Rattle.govlezna.specs.Calls.{checkUtf8Call, parseNumberCall, normalizeEolsCall};
+ghost use Rattle.govlezna.specs.Calls.{checkUtf8Call, parseNumberCall, normalizeEolsCall, partCall, trimCall, cursorLeft, cdataNextCall};
+ghost use Rattle.govlezna.specs.declared.CDataNext.{CDataNext};
+ghost use Rattle.utils.specs.Trim.{trimStart, trimEnd, trimSpaces};
+
+// All that `govlezna_cdata_next` leaves behind: its number, the answer words and the cursor.
+struct CDataNext {
+    number: u32,
+    words: [u64; 2],
+    next: Cursor,
+}
 
 // Writes both answer words and hands the number on.
 fn answered(number: u32, first: u64, second: u64, answer: &mut [u64; 2]) -> u32
@@ -85,4 +96,102 @@ pub extern "C" fn govlezna_normalize_eols(
         return put(version_checked, answer);
     };
     put(eols::normalize_eols(text, version, out), answer)
+}
+
+// A part of the text, which a trim finds in any bytes, once the text is checked.
+fn put_part(text: &[u8], part: Part, answer: &mut [u64; 2]) -> u32
+    ensures { λ r. ⌜ called r (now (answer .exit)) [] ≡ partCall (now (text .entry)) part ⌝ }
+{
+    let fine = text::check_text(text);
+    let Answer::Done {
+        first: _,
+        second: _,
+    } = fine
+    else {
+        return put(fine, answer);
+    };
+    put(
+        Answer::Done {
+            first: part.start as u64,
+            second: part.length as u64,
+        },
+        answer,
+    )
+}
+
+// The text without the white space at its start. Success: start, length.
+#[no_mangle]
+pub extern "C" fn govlezna_trim_xml_start(text: &[u8], answer: &mut [u64; 2]) -> u32
+    ensures { λ r. ⌜ called r (now (answer .exit)) [] ≡ trimCall trimStart (now (text .entry)) ⌝ }
+{
+    put_part(text, utils::trim_xml_start(text), answer)
+}
+
+// The text without the white space at its end. Success: start, length.
+#[no_mangle]
+pub extern "C" fn govlezna_trim_xml_end(text: &[u8], answer: &mut [u64; 2]) -> u32
+    ensures { λ r. ⌜ called r (now (answer .exit)) [] ≡ trimCall trimEnd (now (text .entry)) ⌝ }
+{
+    put_part(text, utils::trim_xml_end(text), answer)
+}
+
+// The text without the white space at both ends. Success: start, length.
+#[no_mangle]
+pub extern "C" fn govlezna_trim_xml_spaces(text: &[u8], answer: &mut [u64; 2]) -> u32
+    ensures { λ r. ⌜ called r (now (answer .exit)) [] ≡ trimCall trimSpaces (now (text .entry)) ⌝ }
+{
+    put_part(text, utils::trim_xml_spaces(text), answer)
+}
+
+fn leave(result: Answer, next: Cursor) -> CDataNext
+    ensures { λ r. ⌜ r ≡ cursorLeft result next ⌝ }
+{
+    match result {
+        Answer::Done { first, second } => CDataNext {
+            number: 0,
+            words: [first, second],
+            next,
+        },
+        Answer::Refused {
+            number,
+            first,
+            second,
+        } => CDataNext {
+            number,
+            words: [first, second],
+            next,
+        },
+    }
+}
+
+fn cdata_next(text: &[u8], cursor: Cursor) -> CDataNext
+    ensures { λ r. ⌜ r ≡ cdataNextCall (now (text .entry)) cursor ⌝ }
+{
+    let fine = text::check_text(text);
+    let Answer::Done {
+        first: _,
+        second: _,
+    } = fine
+    else {
+        return leave(fine, cursor);
+    };
+    let step = utils::cdata_step(text, cursor);
+    let piece = step.piece;
+    let next = step.next;
+    leave(utils::piece_answer(piece), next)
+}
+
+// The next piece of the text for a CDATA section; the cursor is lent, and moves on. Success: start, length.
+#[no_mangle]
+pub extern "C" fn govlezna_cdata_next(
+    text: &[u8],
+    cursor: &mut Cursor,
+    answer: &mut [u64; 2],
+) -> u32
+    ensures { λ r. ⌜ record { number = r; words = now (answer .exit); next = now (cursor .exit) } ≡ cdataNextCall (now (text .entry)) (now (cursor .entry)) ⌝ }
+{
+    let s = cdata_next(text, *cursor);
+    *cursor = s.next;
+    *answer = s.words;
+    s.number
 }

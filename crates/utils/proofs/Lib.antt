@@ -1,0 +1,5 @@
+pub mod Trim
+pub mod Cuts
+pub mod Boundary
+pub mod Pieces
+mod Examples

@@ -1,0 +1,65 @@
+-- `utils::piece_end` finds the first cut. The invariant: the piece goes on to where the loop is. Assumes nothing.
+use Prim.Native.Nat.{_-_}
+use native.Mathlib.Omega.{arith}
+use mathlib.Core.Path.{sym, _∙_}
+use lib.ListN.{length}
+use Rattle.utils.specs.Blocks.{Passed}
+use Rattle.utils.proofs.Cuts.{passed-block, end-cut, end-last, clear-one}
+use borrow.Author.Needs.{needs}
+use Rattle.utils.proofs.piece_end.Statement.{statement}
+use Rattle.utils.proofs.piece_end.Tie as tie
+
+abbrev Inv-loop : tie.InvT-loop
+Inv-loop text from i₀ i = Passed text from i
+
+abbrev μ-loop : tie.MeasureT-loop
+μ-loop text from i₀ i = length text - i
+
+skip-blocks-requires : tie.Need-skip-blocks-requires Inv-loop μ-loop
+skip-blocks-requires c κs = search needs
+
+loop-holds : tie.Need-loop-holds Inv-loop μ-loop
+loop-holds c = c .skip-blocks .ensures
+
+sub-loop : tie.Need-sub-loop Inv-loop μ-loop
+sub-loop c = search needs
+
+closes-at-requires : tie.Need-closes-at-requires Inv-loop μ-loop
+closes-at-requires c κs = search needs
+
+add-result : tie.Need-add-result Inv-loop μ-loop
+add-result c = search needs
+
+returns : tie.Need-returns Inv-loop μ-loop
+returns c = end-cut _ _ _ (c .before .before .before .loop .inv) (omega (arith, c .before .before .before .loop .inv .fits)) (sym (c .before .closes-at .ensures) ∙ c .if1 .taken)
+
+add-i : tie.Need-add-i Inv-loop μ-loop
+add-i c = search needs
+
+loop-less : tie.Need-loop-less Inv-loop μ-loop
+loop-less c = search needs
+
+loop-again : tie.Need-loop-again Inv-loop μ-loop
+loop-again c =
+    let l = c .before .before .before .loop in
+    passed-block (c .before .before .before .before .before .before .args .text .now) (c .before .before .before .before .before .before .args .from) (l .i) 1 (l .inv) (omega (arith, l .inv .fits)) (clear-one (c .before .before .before .before .before .before .args .text .now) (l .i) (sym (c .before .closes-at .ensures) ∙ c .if1 .left))
+
+returns-2 : tie.Need-returns-2 Inv-loop μ-loop
+returns-2 c = end-last _ _ _ (c .before .loop .inv) (omega (arith, c .before .loop .inv .fits))
+
+pub piece-end-spec : {M : Type 1} → statement M
+piece-end-spec =
+    tie.close
+    (tie.spec
+    Inv-loop
+    μ-loop
+    skip-blocks-requires
+    loop-holds
+    sub-loop
+    closes-at-requires
+    add-result
+    returns
+    add-i
+    loop-less
+    loop-again
+    returns-2)

@@ -1,0 +1,4 @@
+pub mod Trim
+pub mod CData
+pub mod Blocks
+pub mod Pieces
