@@ -4,6 +4,7 @@ use Prim.Native.Nat.{ℕ}
 use lib.ListN.{length}
 use Rattle.text.specs.Call.{Called, called, callOf, guarded, textCheck, argumentCheck, versionCheck, finish}
 use Rattle.text.specs.Version.{ruleOf}
+use Rattle.escape.specs.Escape.{levelCheck, levelOf, levelSet, write}
 use Rattle.eols.specs.LineEnds.{eols}
 use Rattle.text.specs.declared.Answer.{Answer}
 use Rattle.text.specs.declared.Answer.the-variants.{Done, Refused}
@@ -21,6 +22,11 @@ checkUtf8Call text = guarded (textCheck text) [] (called 0 (length text ∷ 0 �
 -- document 01, character numbers: 1 and 5, then 12 to 15, else the character's number
 unfoldable pub parseNumberCall : List ℕ → Called
 parseNumberCall text = guarded (textCheck text) [] (callOf (numberAnswer (charNumber anyCharacter text)) [])
+
+-- document 01, escape levels: 1, 4 and 5, then 19, else the text escaped at the level
+unfoldable pub escapeCall : List ℕ → ℕ → List ℕ → Called
+escapeCall text level out =
+    guarded (argumentCheck text (levelCheck level)) (out ∷ []) (finish (write (levelSet (levelOf level)) text) 0 out)
 
 -- document 01, line ends: 1, 4 and 5, then 19, else the text with its line ends normalized
 unfoldable pub normalizeEolsCall : List ℕ → ℕ → List ℕ → Called

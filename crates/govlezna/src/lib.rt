@@ -6,7 +6,7 @@ ghost use mathlib.Core.Path.{_≡_};
 ghost use mathlib.Core.List.{List, [], _∷_};
 ghost use Prim.Native.Nat.{ℕ};
 ghost use Rattle.text.specs.Call.{called, callOf};
-ghost use Rattle.govlezna.specs.Calls.{checkUtf8Call, parseNumberCall, normalizeEolsCall, partCall, trimCall, cursorLeft, cdataNextCall};
+ghost use Rattle.govlezna.specs.Calls.{checkUtf8Call, parseNumberCall, escapeCall, normalizeEolsCall, partCall, trimCall, cursorLeft, cdataNextCall};
 ghost use Rattle.govlezna.specs.declared.CDataNext.{CDataNext};
 ghost use Rattle.utils.specs.Trim.{trimStart, trimEnd, trimSpaces};
 
@@ -75,6 +75,27 @@ pub extern "C" fn govlezna_parse_number(text: &[u8], answer: &mut [u64; 2]) -> u
         return put(valid, answer);
     };
     put(charref::answer_of(charref::parse_number(text)), answer)
+}
+
+// The text at one of the four levels. Success: the length written.
+#[no_mangle]
+pub extern "C" fn govlezna_escape(
+    text: &[u8],
+    level: u8,
+    out: &mut [u8],
+    answer: &mut [u64; 2],
+) -> u32
+    ensures { λ r. ⌜ called r (now (answer .exit)) (now (out .exit) ∷ []) ≡ escapeCall (now (text .entry)) level (now (out .entry)) ⌝ }
+{
+    let level_checked = text::check_arguments(text, escape::check_level(level));
+    let Answer::Done {
+        first: _,
+        second: _,
+    } = level_checked
+    else {
+        return put(level_checked, answer);
+    };
+    put(escape::escape(text, level, out), answer)
 }
 
 // Every line end of the version becomes LF. Success: the length written.

@@ -1,8 +1,13 @@
 -- Checks one after the other: the first that refuses answers. Assumes nothing.
 use mathlib.Core.Path.{_≡_, refl, sym, _∙_, ap}
 use mathlib.Core.List.{List}
-use Prim.Native.Nat.{ℕ}
-use Rattle.text.specs.Call.{Called, andThen, callOf, guarded}
+use mathlib.Core.Bool.{Bool, true, false}
+use Prim.Native.Nat.{ℕ, _≤_}
+use native.Mathlib.Omega.{arith}
+use lib.Dec.{ltb}
+use lib.ListN.{length}
+use borrow.Author.Tests.{ltb-false}
+use Rattle.text.specs.Call.{Called, andThen, callOf, guarded, lengthCheck}
 use Rattle.text.specs.declared.Answer.{Answer}
 use Rattle.text.specs.declared.Answer.the-variants.{Done, Refused}
 
@@ -21,3 +26,16 @@ halts buffers rest e q =
 pub passes : {r checked : Answer} (buffers : List (List ℕ)) (rest : Called) {first second : ℕ}
     → r ≡ checked → r ≡ Done first second → rest ≡ guarded checked buffers rest
 passes buffers rest e q = sym (ap (λ (a : Answer). guarded a buffers rest) (sym e ∙ q))
+
+-- where checks that begin with that of the text's length let a call pass, the text is no longer than that
+pub checked-length : (text : List ℕ) (later : Answer) {first second : ℕ} → andThen (lengthCheck text) later ≡ Done first second
+    → length text ≤ 16777216
+unfolding lengthCheck
+checked-length text later {first} {second} e = go (ltb 16777216 (length text)) refl
+  where
+    go : (t : Bool) → ltb 16777216 (length text) ≡ t → length text ≤ 16777216
+    go false h = ltb-false 16777216 (length text) h
+    go true h =
+        let q : Refused 1 (length text) 0 ≡ Done first second = rw h at e in
+        let z : _≡_ {A = ℕ} 0 1 = cc in
+        absurd (omega arith)
