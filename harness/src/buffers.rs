@@ -1,7 +1,8 @@
 //! The memory that a call is lent: filled before the call, with guard bytes on both sides, and
 //! checked whole after it.
 
-use crate::calls::{Arguments, Place};
+use crate::calls::{Arguments, Place, Room};
+use crate::inputs::MOST_SPARE;
 use crate::library::Lent;
 use crate::oracle::{Answer, LONGEST_TEXT};
 
@@ -10,6 +11,8 @@ const GUARD: usize = 64;
 pub const ALIGNMENTS: usize = 64;
 const WORD: usize = std::mem::size_of::<u64>();
 const WORDS: usize = 2;
+/// The longest text at 6 bytes for each of its own, and what is spare.
+const LONGEST_OUTPUT: usize = 6 * LONGEST_TEXT + MOST_SPARE;
 
 /// Buffers and guards take these in turn: a byte that happens to be written as it was is seen at
 /// another turn. A text read past its end goes on with a digit, a lead byte or a continuation byte.
@@ -104,6 +107,7 @@ fn is_filled(bytes: &[u8], fill: u8) -> bool {
 /// All that a call can be lent.
 pub struct Buffers {
     text: Guarded,
+    out: Guarded,
     answer: Guarded,
 }
 
@@ -111,12 +115,13 @@ impl Buffers {
     pub fn new() -> Self {
         Buffers {
             text: Guarded::new("the text", LONGEST_TEXT + 1),
+            out: Guarded::new("the output", LONGEST_OUTPUT),
             answer: Guarded::new("the answer words", WORDS * WORD),
         }
     }
 
     /// Fills the buffers for one call. `turn` picks the fill, and addresses that are left open.
-    pub fn lend(&mut self, arguments: &Arguments, turn: usize) -> Lent {
+    pub fn lend(&mut self, arguments: &Arguments, room: usize, turn: usize) -> Lent {
         let fill = FILLS[turn % FILLS.len()];
         let copied = copied(arguments);
         let alignment = match arguments.place {
@@ -126,6 +131,8 @@ impl Buffers {
         self.text
             .prefill(copied.len(), alignment, fill)
             .copy_from_slice(copied);
+        // Every address of the output meets every address of the text.
+        self.out.prefill(room, turn / ALIGNMENTS % ALIGNMENTS, fill);
         // An array of words is owed no more than a word's alignment.
         self.answer
             .prefill(WORDS * WORD, turn * WORD % ALIGNMENTS, fill);
@@ -136,6 +143,12 @@ impl Buffers {
                 Place::Any | Place::At(_) => self.text.pointer(),
             },
             text_length: arguments.text.len(),
+            choice: arguments.choice,
+            out: match arguments.room {
+                Room::Null => std::ptr::null_mut(),
+                _ => self.out.pointer(),
+            },
+            out_length: room,
             answer: self.answer.pointer().cast(),
         }
     }
@@ -147,6 +160,7 @@ impl Buffers {
         words[WORD..].copy_from_slice(&expected.second.to_ne_bytes());
         self.answer
             .damage(&words)
+            .or_else(|| self.out.damage(&expected.written))
             .or_else(|| self.text.damage(copied(arguments)))
     }
 

@@ -3,12 +3,23 @@
 extern "C" {
     pub fn govlezna_check_utf8(text: *const u8, text_length: usize, answer: *mut u64) -> u32;
     pub fn govlezna_parse_number(text: *const u8, text_length: usize, answer: *mut u64) -> u32;
+    pub fn govlezna_normalize_eols(
+        text: *const u8,
+        text_length: usize,
+        version: u8,
+        out: *mut u8,
+        out_length: usize,
+        answer: *mut u64,
+    ) -> u32;
 }
 
 /// What a call is lent, as C sees it. A call takes the parts that it has.
 pub struct Lent {
     pub text: *const u8,
     pub text_length: usize,
+    pub choice: u8,
+    pub out: *mut u8,
+    pub out_length: usize,
     pub answer: *mut u64,
 }
 
@@ -22,4 +33,15 @@ pub unsafe fn check_utf8(lent: &Lent) -> u32 {
 
 pub unsafe fn parse_number(lent: &Lent) -> u32 {
     govlezna_parse_number(lent.text, lent.text_length, lent.answer)
+}
+
+pub unsafe fn normalize_eols(lent: &Lent) -> u32 {
+    govlezna_normalize_eols(
+        lent.text,
+        lent.text_length,
+        lent.choice,
+        lent.out,
+        lent.out_length,
+        lent.answer,
+    )
 }

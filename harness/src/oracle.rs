@@ -1,6 +1,8 @@
 //! What each call has to answer: the answer of the unchanged Rust, by document 01's numbers.
 
+use crate::calls::Arguments;
 use source::escape::{self, ParseCharRefError};
+use std::borrow::Cow;
 
 /// The Rust under test. Not every part of it has a caller yet.
 #[allow(dead_code, clippy::all)]
@@ -10,12 +12,16 @@ pub mod source {
     include!(concat!(env!("OUT_DIR"), "/source.rs"));
 }
 
-/// Document 01's number, where 0 is success, and the two answer words.
-#[derive(Clone, Copy, Debug, PartialEq, Eq)]
+/// Document 01's number, where 0 is success, and the two answer words; then what a call writes.
+#[derive(Debug)]
 pub struct Answer {
     pub number: u32,
     pub first: u64,
     pub second: u64,
+    /// How long the output is for which this is the answer.
+    pub room: usize,
+    /// The first bytes of the output; the rest is kept.
+    pub written: Vec<u8>,
 }
 
 fn success(first: u64) -> Answer {
@@ -27,6 +33,8 @@ fn refusal(number: u32, first: u64) -> Answer {
         number,
         first,
         second: 0,
+        room: 0,
+        written: vec![],
     }
 }
 
@@ -35,10 +43,15 @@ pub const LONGEST_TEXT: usize = 16_777_216;
 
 /// Refusals 1 and 5, which every call with a text gives first.
 fn checked(text: &[u8]) -> Result<&str, Answer> {
-    if text.len() > LONGEST_TEXT {
-        return Err(refusal(1, text.len() as u64));
-    }
+    length_checked(text)?;
     std::str::from_utf8(text).map_err(|error| refusal(5, error.valid_up_to() as u64))
+}
+
+fn length_checked(text: &[u8]) -> Result<(), Answer> {
+    match text.len() {
+        0..=LONGEST_TEXT => Ok(()),
+        length => Err(refusal(1, length as u64)),
+    }
 }
 
 pub fn check_utf8(text: &[u8]) -> Answer {
@@ -62,5 +75,51 @@ pub fn number_refusal(error: ParseCharRefError) -> Answer {
         ParseCharRefError::InvalidNumber(_) => refusal(13, 0),
         ParseCharRefError::InvalidCodepoint(value) => refusal(14, u64::from(value)),
         ParseCharRefError::IllegalCharacter(_) => refusal(15, 0),
+    }
+}
+
+pub fn normalize_eols(arguments: &Arguments) -> Answer {
+    let rule: Option<Rule> = match arguments.choice {
+        0 | 1 => Some(|text| escape::normalize_xml10_eols(text)),
+        2 => Some(|text| escape::normalize_xml11_eols(text)),
+        _ => None,
+    };
+    written(arguments, rule)
+}
+
+/// What the Rust makes of a text at a level or under a version.
+type Rule = fn(&str) -> Cow<str>;
+
+/// The Rust takes neither a level nor a version as a byte, nor an output: 4 and 19 are document 01's.
+fn written(arguments: &Arguments, rule: Option<Rule>) -> Answer {
+    let text = match rule {
+        None => length_checked(arguments.text).and(Err(refusal(4, 0))),
+        Some(rule) => checked(arguments.text).map(rule),
+    };
+    let result = match text {
+        Ok(text) => text.into_owned().into_bytes(),
+        Err(refusal) => return in_some_room(arguments, refusal),
+    };
+    let needed = result.len();
+    let room = arguments.room.length(needed);
+    match room < needed {
+        true => Answer {
+            room,
+            ..refusal(19, needed as u64)
+        },
+        false => Answer {
+            room,
+            written: result,
+            ..success(needed as u64)
+        },
+    }
+}
+
+/// There is no result whose length could be asked for: the text's, but not of gigabytes.
+fn in_some_room(arguments: &Arguments, refusal: Answer) -> Answer {
+    const MOST: usize = 4096;
+    Answer {
+        room: arguments.room.length(arguments.text.len().min(MOST)),
+        ..refusal
     }
 }

@@ -1,6 +1,6 @@
 //! Puts wrong libraries in the place of the real one: the comparison has to catch each.
 
-use crate::calls::{Call, CALLS};
+use crate::calls::{Call, Form};
 use crate::comparison::Comparison;
 use crate::inputs::{Family, MEBIBYTE, PAGE};
 use crate::library::{Lent, Run};
@@ -36,22 +36,44 @@ const FAULTS: &[(&str, Fault)] = &[
     ("the length's high half not read", halved_length),
 ];
 
+/// Of calls with an output.
+const OUTPUT_FAULTS: &[(&str, Fault)] = &[
+    ("the result's first byte changed", changed_first_of_result),
+    ("the result's last byte changed", changed_last_of_result),
+    ("the byte after the result changed", changed_after_result),
+    (
+        "the output's last byte changed on a refusal",
+        changed_on_refusal,
+    ),
+    ("the output filled before 19", filled_before_19),
+    ("the byte after the output changed", changed_after_output),
+    ("the byte before the output changed", changed_before_output),
+    ("one byte more written than there is room", overwritten),
+    ("an output of just the length refused", refused_exact),
+    ("level or version 255 taken for 0", accepted_choice),
+    ("level or version checked after the bytes", late_choice),
+];
+
 /// True: every wrong library is caught, and the real one is not.
-pub fn run() -> bool {
-    let mut missed = 0;
-    for call in CALLS {
+pub fn run(calls: &[&Call]) -> bool {
+    let (mut tried, mut missed) = (0, 0);
+    for call in calls {
         if is_caught(call, |lent, real| unsafe { real(lent) }, &[]) {
             println!("{}: the library itself differs", call.name);
             missed += 1;
         }
-        for &(name, fault) in FAULTS {
+        let more: &[(&str, Fault)] = match call.form {
+            Form::Text => &[],
+            Form::Output => OUTPUT_FAULTS,
+        };
+        for &(name, fault) in FAULTS.iter().chain(more) {
             let caught = is_caught(call, fault, call.families);
             let verdict = if caught { "caught" } else { "NOT CAUGHT" };
             println!("{}: {name}: {verdict}", call.name);
+            tried += 1;
             missed += usize::from(!caught);
         }
     }
-    let tried = CALLS.len() * FAULTS.len();
     println!("self-test: {tried} wrong libraries, {missed} failures");
     missed == 0
 }
@@ -175,4 +197,97 @@ unsafe fn halved_length(lent: &Lent, real: Run) -> u32 {
         text_length,
         ..*lent
     })
+}
+
+unsafe fn changed_first_of_result(lent: &Lent, real: Run) -> u32 {
+    let number = real(lent);
+    if number == 0 && *lent.answer > 0 {
+        *lent.out ^= 1;
+    }
+    number
+}
+
+unsafe fn changed_last_of_result(lent: &Lent, real: Run) -> u32 {
+    let number = real(lent);
+    if number == 0 && *lent.answer > 0 {
+        *lent.out.add(*lent.answer as usize - 1) ^= 1;
+    }
+    number
+}
+
+unsafe fn changed_after_result(lent: &Lent, real: Run) -> u32 {
+    let number = real(lent);
+    if number == 0 && (*lent.answer as usize) < lent.out_length {
+        *lent.out.add(*lent.answer as usize) ^= 1;
+    }
+    number
+}
+
+unsafe fn changed_on_refusal(lent: &Lent, real: Run) -> u32 {
+    let number = real(lent);
+    if number != 0 && lent.out_length > 0 {
+        *lent.out.add(lent.out_length - 1) ^= 1;
+    }
+    number
+}
+
+unsafe fn filled_before_19(lent: &Lent, real: Run) -> u32 {
+    let number = real(lent);
+    if number == 19 && lent.out_length > 0 {
+        lent.out.write_bytes(b'a', lent.out_length);
+    }
+    number
+}
+
+unsafe fn changed_after_output(lent: &Lent, real: Run) -> u32 {
+    let number = real(lent);
+    flip_output(lent, lent.out_length as isize);
+    number
+}
+
+unsafe fn changed_before_output(lent: &Lent, real: Run) -> u32 {
+    let number = real(lent);
+    flip_output(lent, -1);
+    number
+}
+
+unsafe fn flip_output(lent: &Lent, offset: isize) {
+    if !lent.out.is_null() {
+        *lent.out.offset(offset) ^= 1;
+    }
+}
+
+unsafe fn overwritten(lent: &Lent, real: Run) -> u32 {
+    let out_length = lent.out_length + usize::from(!lent.out.is_null());
+    real(&Lent {
+        out_length,
+        ..*lent
+    })
+}
+
+unsafe fn refused_exact(lent: &Lent, real: Run) -> u32 {
+    let number = real(lent);
+    match number {
+        0 if *lent.answer == lent.out_length as u64 => 19,
+        _ => number,
+    }
+}
+
+unsafe fn accepted_choice(lent: &Lent, real: Run) -> u32 {
+    let choice = match lent.choice {
+        255 => 0,
+        choice => choice,
+    };
+    real(&Lent { choice, ..*lent })
+}
+
+unsafe fn late_choice(lent: &Lent, real: Run) -> u32 {
+    let number = real(lent);
+    match number {
+        4 => match real(&Lent { choice: 0, ..*lent }) {
+            5 => 5,
+            _ => real(lent),
+        },
+        _ => number,
+    }
 }
