@@ -4,13 +4,15 @@ use crate::calls::Call;
 use crate::inputs::number::{written_to_length, Form};
 use crate::inputs::text::{text, Mix};
 use crate::inputs::MEBIBYTE;
-use crate::library::{govlezna_check_utf8, govlezna_normalize_eols, govlezna_parse_number};
-use crate::oracle::{number_refusal, source::escape};
+use crate::library::*;
+use crate::oracle::number_refusal;
+use crate::oracle::source::escape;
+use crate::oracle::source::utils::{self, CDataIterator};
 use crate::random::Random;
 use crate::DEFAULT_SEED;
 use std::borrow::Cow;
 use std::hint::black_box;
-use std::str::from_utf8;
+use std::str::{from_utf8, from_utf8_unchecked};
 use std::time::{Duration, Instant};
 
 const ROUNDS: usize = 100;
@@ -25,6 +27,9 @@ pub fn run(calls: &[&Call]) {
             "check_utf8" => check_utf8(),
             "parse_number" => parse_number(),
             "normalize_eols" => normalize_eols(),
+            "escape" => escape(),
+            "trim_xml_start" | "trim_xml_end" | "trim_xml_spaces" => trim(call.name),
+            "cdata_next" => cdata_next(),
             name => panic!("no rows for {name}"),
         });
     }
@@ -147,6 +152,24 @@ fn parse_number() -> Vec<Row> {
         .collect()
 }
 
+fn escape() -> Vec<Row> {
+    let inputs: [(&str, &[&str], usize); 4] = [
+        ("ASCII", &[], 0),
+        ("sparse", &["<", "&"], 100),
+        ("dense", &["<", "&"], 4),
+        ("multi-byte", &["é", "€", "語", "😀"], 1),
+    ];
+    let sides = |level: u8| -> (&str, Rule) {
+        match level {
+            0 => ("escape, 0", |text| escape::escape(text)),
+            1 => ("escape, 1", |text| escape::partial_escape(text)),
+            2 => ("escape, 2", |text| escape::minimal_escape(text)),
+            _ => ("escape, 3", |text| escape::escape_attribute(text)),
+        }
+    };
+    output_rows(&[0, 1, 2, 3], &inputs, govlezna_escape, sides)
+}
+
 fn normalize_eols() -> Vec<Row> {
     let version_1_1 = ["\r\n", "\r\u{85}", "\u{85}", "\u{2028}"];
     let others = ["½", "°", "€", "…"];
@@ -218,6 +241,130 @@ fn output_row(
 fn made(text: &str, rule: Rule, words: &mut [u64; 2]) -> u32 {
     let result = black_box(rule(text));
     *words = [result.len() as u64, 0];
+    0
+}
+
+fn trim(name: &str) -> Vec<Row> {
+    let (ours, rust, unchecked): (TextCall, TextCall, TextCall) = match name {
+        "trim_xml_start" => (
+            govlezna_trim_xml_start,
+            rust_trim::<START, true>,
+            rust_trim::<START, false>,
+        ),
+        "trim_xml_end" => (
+            govlezna_trim_xml_end,
+            rust_trim::<END, true>,
+            rust_trim::<END, false>,
+        ),
+        _ => (
+            govlezna_trim_xml_spaces,
+            rust_trim::<SPACES, true>,
+            rust_trim::<SPACES, false>,
+        ),
+    };
+    let mut rows = vec![];
+    for size in [64, MEBIBYTE] {
+        let letters = letters_with(&[], 0, size);
+        let blanks = letters_with(&[" ", "\n", "\t", "\r"], 1, size);
+        let around = [&blanks[..32], &letters, &blanks[..32]].concat();
+        for (input, text) in [
+            ("no blanks", letters),
+            ("32 blanks each side", around),
+            ("blanks alone", blanks),
+        ] {
+            rows.push(text_row(name, input, &text, [ours, rust], Some(unchecked)));
+        }
+    }
+    rows
+}
+
+const START: u8 = 0;
+const END: u8 = 1;
+const SPACES: u8 = 2;
+
+unsafe extern "C" fn rust_trim<const WHICH: u8, const CHECKED: bool>(
+    text: *const u8,
+    length: usize,
+    answer: *mut u64,
+) -> u32 {
+    let bytes = std::slice::from_raw_parts(text, length);
+    let text = match CHECKED {
+        true => from_utf8(bytes).unwrap(),
+        false => from_utf8_unchecked(bytes),
+    };
+    let part = match WHICH {
+        START => utils::trim_xml_start(text),
+        END => utils::trim_xml_end(text),
+        _ => utils::trim_xml_spaces(text),
+    };
+    answer.write((part.as_ptr() as usize - text.as_ptr() as usize) as u64);
+    answer.add(1).write(part.len() as u64);
+    0
+}
+
+fn cdata_next() -> Vec<Row> {
+    let inputs: [(&str, &[&str], usize); 3] = [
+        ("first piece, no `>`", &[], 0),
+        ("first piece, many `>`", &[">"], 4),
+        ("first piece, many `]]>`", &["]]>"], 8),
+    ];
+    let mut rows = vec![];
+    for size in [64, MEBIBYTE] {
+        for (input, pieces, distance) in inputs {
+            let text = aligned(&letters_with(pieces, distance, size));
+            let valid = from_utf8(text).unwrap();
+            rows.push(row(
+                "cdata_next",
+                input,
+                size,
+                move |words| next_of_ours(text, &mut Cursor::default(), words),
+                move |words| first_piece(from_utf8(black_box(text)).unwrap(), words),
+                Some(move |words: &mut _| first_piece(black_box(valid), words)),
+            ));
+        }
+    }
+    let text = aligned(&letters_with(&["]]>"], 100, 4096));
+    let valid = from_utf8(text).unwrap();
+    rows.push(row(
+        "cdata_next",
+        "every piece, the text checked for each",
+        text.len(),
+        move |words| {
+            let mut cursor = Cursor::default();
+            let mut count = 0;
+            while next_of_ours(text, &mut cursor, words) == 0 {
+                count += 1;
+            }
+            *words = [count, 0];
+            0
+        },
+        move |words| pieces_of(words, || from_utf8(black_box(text)).unwrap()),
+        Some(move |words: &mut _| pieces_of(words, || valid)),
+    ));
+    rows
+}
+
+fn next_of_ours(text: &[u8], cursor: &mut Cursor, words: &mut [u64; 2]) -> u32 {
+    // SAFETY: text and words are of the lengths stated.
+    unsafe { govlezna_cdata_next(text.as_ptr(), text.len(), cursor, words.as_mut_ptr()) }
+}
+
+#[inline(never)]
+fn first_piece(text: &str, words: &mut [u64; 2]) -> u32 {
+    let piece = CDataIterator::new(text).next().unwrap();
+    *words = [0, piece.len() as u64];
+    0
+}
+
+/// How many pieces there are; `check` runs before each is asked for.
+fn pieces_of(words: &mut [u64; 2], check: impl Fn() -> &'static str) -> u32 {
+    let mut pieces = CDataIterator::new(check());
+    let mut count = 0;
+    while black_box(pieces.next()).is_some() {
+        black_box(check());
+        count += 1;
+    }
+    *words = [count, 0];
     0
 }
 

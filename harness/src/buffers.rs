@@ -3,7 +3,7 @@
 
 use crate::calls::{Arguments, Place, Room};
 use crate::inputs::MOST_SPARE;
-use crate::library::Lent;
+use crate::library::{Cursor, Lent};
 use crate::oracle::{Answer, LONGEST_TEXT};
 
 const GUARD: usize = 64;
@@ -11,6 +11,9 @@ const GUARD: usize = 64;
 pub const ALIGNMENTS: usize = 64;
 const WORD: usize = std::mem::size_of::<u64>();
 const WORDS: usize = 2;
+const CURSOR: usize = std::mem::size_of::<Cursor>();
+/// The offset and the flag; what follows is padding, which may change.
+const CURSOR_FIELDS: usize = WORD + 1;
 /// The longest text at 6 bytes for each of its own, and what is spare.
 const LONGEST_OUTPUT: usize = 6 * LONGEST_TEXT + MOST_SPARE;
 
@@ -108,6 +111,7 @@ fn is_filled(bytes: &[u8], fill: u8) -> bool {
 pub struct Buffers {
     text: Guarded,
     out: Guarded,
+    cursor: Guarded,
     answer: Guarded,
 }
 
@@ -116,6 +120,7 @@ impl Buffers {
         Buffers {
             text: Guarded::new("the text", LONGEST_TEXT + 1),
             out: Guarded::new("the output", LONGEST_OUTPUT),
+            cursor: Guarded::new("the cursor", CURSOR),
             answer: Guarded::new("the answer words", WORDS * WORD),
         }
     }
@@ -133,7 +138,10 @@ impl Buffers {
             .copy_from_slice(copied);
         // Every address of the output meets every address of the text.
         self.out.prefill(room, turn / ALIGNMENTS % ALIGNMENTS, fill);
-        // An array of words is owed no more than a word's alignment.
+        // A cursor and an array of words are owed no more than a word's alignment.
+        self.cursor
+            .prefill(CURSOR, (turn + 3) * WORD % ALIGNMENTS, fill)[..CURSOR_FIELDS]
+            .copy_from_slice(&fields(arguments.cursor));
         self.answer
             .prefill(WORDS * WORD, turn * WORD % ALIGNMENTS, fill);
         Lent {
@@ -149,6 +157,7 @@ impl Buffers {
                 _ => self.out.pointer(),
             },
             out_length: room,
+            cursor: self.cursor.pointer().cast(),
             answer: self.answer.pointer().cast(),
         }
     }
@@ -161,7 +170,15 @@ impl Buffers {
         self.answer
             .damage(&words)
             .or_else(|| self.out.damage(&expected.written))
+            .or_else(|| self.cursor.damage(&self.cursor_bytes(expected.cursor)))
             .or_else(|| self.text.damage(copied(arguments)))
+    }
+
+    /// What the cursor's buffer has to hold, with the padding as it is found.
+    fn cursor_bytes(&self, cursor: Cursor) -> [u8; CURSOR] {
+        let mut bytes: [u8; CURSOR] = self.cursor.content().try_into().unwrap();
+        bytes[..CURSOR_FIELDS].copy_from_slice(&fields(cursor));
+        bytes
     }
 
     pub fn answer_words(&self) -> [u64; WORDS] {
@@ -171,6 +188,12 @@ impl Buffers {
         };
         [word(0), word(WORD)]
     }
+}
+
+fn fields(cursor: Cursor) -> [u8; CURSOR_FIELDS] {
+    let mut bytes = [cursor.finished; CURSOR_FIELDS];
+    bytes[..WORD].copy_from_slice(&cursor.offset.to_ne_bytes());
+    bytes
 }
 
 /// What of the text lies in the guarded buffer.

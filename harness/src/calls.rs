@@ -1,9 +1,12 @@
 //! The calls that are compared. A new one is declared in library.rs, answered in oracle.rs, given
 //! inputs in inputs/ and listed here.
 
+use crate::inputs::cdata::{self, Cdata};
 use crate::inputs::eols::Eols;
+use crate::inputs::escape::{self, Escape};
+use crate::inputs::trim::{self, Trim};
 use crate::inputs::{self, number, utf8, woven, Family};
-use crate::library::{self, Run};
+use crate::library::{self, Cursor, Run};
 use crate::oracle::{self, Answer};
 
 /// What a caller hands over. A call reads the parts that it has.
@@ -14,6 +17,7 @@ pub struct Arguments<'a> {
     /// The level or the version.
     pub choice: u8,
     pub room: Room,
+    pub cursor: Cursor,
 }
 
 /// Where the text lies when the call is made.
@@ -66,6 +70,7 @@ impl<'a> Arguments<'a> {
             place,
             choice: 0,
             room: Room::Exact,
+            cursor: Cursor::default(),
         }
     }
 }
@@ -76,6 +81,9 @@ pub enum Form {
     Text,
     /// A level or a version, and an output.
     Output,
+    /// Nothing; the answer is a part of the text.
+    Part,
+    Cursor,
 }
 
 pub struct Call {
@@ -126,6 +134,25 @@ pub const CALLS: &[Call] = &[
         random: number::random,
     },
     Call {
+        name: "escape",
+        form: Form::Output,
+        run: library::escape,
+        expected: oracle::escape,
+        seams: woven::seams::<Escape>,
+        families: &[
+            inputs::limits,
+            escape::longest_result,
+            inputs::unknown_choices,
+            woven::long::<Escape>,
+            woven::every_short_text::<Escape>,
+            woven::every_character::<Escape>,
+            woven::every_sequence_in_context::<Escape>,
+            woven::every_length_and_address::<Escape>,
+            woven::damaged::<Escape>,
+        ],
+        random: woven::random::<Escape>,
+    },
+    Call {
         name: "normalize_eols",
         form: Form::Output,
         run: library::normalize_eols,
@@ -133,16 +160,73 @@ pub const CALLS: &[Call] = &[
         seams: woven::seams::<Eols>,
         families: &[
             inputs::limits,
-            woven::long::<Eols>,
             inputs::unknown_choices,
+            woven::long::<Eols>,
             woven::every_short_text::<Eols>,
+            woven::every_character::<Eols>,
             woven::every_sequence_in_context::<Eols>,
             woven::every_length_and_address::<Eols>,
             woven::damaged::<Eols>,
         ],
         random: woven::random::<Eols>,
     },
+    Call {
+        name: "trim_xml_start",
+        run: library::trim_xml_start,
+        expected: |arguments| oracle::trim_xml_start(arguments.text),
+        ..TRIM
+    },
+    Call {
+        name: "trim_xml_end",
+        run: library::trim_xml_end,
+        expected: |arguments| oracle::trim_xml_end(arguments.text),
+        ..TRIM
+    },
+    Call {
+        name: "trim_xml_spaces",
+        run: library::trim_xml_spaces,
+        expected: |arguments| oracle::trim_xml_spaces(arguments.text),
+        ..TRIM
+    },
+    Call {
+        name: "cdata_next",
+        form: Form::Cursor,
+        run: library::cdata_next,
+        expected: oracle::cdata_next,
+        seams: woven::seams::<Cdata>,
+        families: &[
+            inputs::limits,
+            woven::long::<Cdata>,
+            cdata::every_iteration,
+            woven::every_short_text::<Cdata>,
+            woven::every_sequence_in_context::<Cdata>,
+            woven::every_length_and_address::<Cdata>,
+            woven::damaged::<Cdata>,
+        ],
+        random: woven::random::<Cdata>,
+    },
 ];
+
+/// What the trims share; the rest of it is never looked at.
+const TRIM: Call = Call {
+    name: "",
+    form: Form::Part,
+    run: library::trim_xml_spaces,
+    expected: |arguments| oracle::trim_xml_spaces(arguments.text),
+    seams: woven::seams::<Trim>,
+    families: &[
+        inputs::limits,
+        trim::long_blanks,
+        trim::blanks_around,
+        woven::long::<Trim>,
+        woven::every_short_text::<Trim>,
+        woven::every_character::<Trim>,
+        woven::every_sequence_in_context::<Trim>,
+        woven::every_length_and_address::<Trim>,
+        woven::damaged::<Trim>,
+    ],
+    random: woven::random::<Trim>,
+};
 
 /// The calls of these names, or all where none is named; nothing if one is unknown.
 pub fn named(names: &[&str]) -> Option<Vec<&'static Call>> {

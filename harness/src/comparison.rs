@@ -64,7 +64,7 @@ impl<'a> Comparison<'a> {
         let [first, second] = self.buffers.answer_words();
         let mut description = format!(
             "{}: {} bytes at address {} modulo {ALIGNMENTS}: {}\n  \
-             level or version {}, output of {} bytes\n  \
+             level or version {}, output of {} bytes, cursor {} {}\n  \
              expected {} {} {}\n  found    {number} {first} {second}",
             self.call.name,
             lent.text_length,
@@ -72,6 +72,8 @@ impl<'a> Comparison<'a> {
             shortened(arguments.text),
             lent.choice,
             lent.out_length,
+            arguments.cursor.offset,
+            arguments.cursor.finished,
             expected.number,
             expected.first,
             expected.second,

@@ -54,6 +54,28 @@ const OUTPUT_FAULTS: &[(&str, Fault)] = &[
     ("level or version checked after the bytes", late_choice),
 ];
 
+/// Of the trims.
+const PART_FAULTS: &[(&str, Fault)] = &[
+    ("blanks alone start at the other end", turned_blanks),
+    ("no-break spaces trimmed", trimmed_no_break_spaces),
+];
+
+/// Of calls with a cursor.
+const CURSOR_FAULTS: &[(&str, Fault)] = &[
+    ("the cursor's offset changed", changed_cursor::<0>),
+    ("the cursor's offset changed high up", changed_cursor::<7>),
+    ("the cursor's flag changed", changed_cursor::<8>),
+    ("the byte after the cursor changed", changed_cursor::<16>),
+    ("the byte before the cursor changed", changed_cursor::<-1>),
+    ("the cursor not moved", unmoved_cursor),
+    ("the cursor moved by the last piece", moved_by_last),
+    ("the cursor's flag set to 1 by \"no more\"", normal_flag),
+    ("only flag 1 taken for finished", only_flag_1),
+    ("finished looked at before 20", finished_first),
+    ("the offset's high half not read", halved_offset),
+    ("the cut sought before the offset", looked_back),
+];
+
 /// True: every wrong library is caught, and the real one is not.
 pub fn run(calls: &[&Call]) -> bool {
     let (mut tried, mut missed) = (0, 0);
@@ -65,6 +87,8 @@ pub fn run(calls: &[&Call]) -> bool {
         let more: &[(&str, Fault)] = match call.form {
             Form::Text => &[],
             Form::Output => OUTPUT_FAULTS,
+            Form::Part => PART_FAULTS,
+            Form::Cursor => CURSOR_FAULTS,
         };
         for &(name, fault) in FAULTS.iter().chain(more) {
             let caught = is_caught(call, fault, call.families);
@@ -290,4 +314,100 @@ unsafe fn late_choice(lent: &Lent, real: Run) -> u32 {
         },
         _ => number,
     }
+}
+
+unsafe fn turned_blanks(lent: &Lent, real: Run) -> u32 {
+    let number = real(lent);
+    if number == 0 && *lent.answer.add(1) == 0 {
+        *lent.answer = lent.text_length as u64 - *lent.answer;
+    }
+    number
+}
+
+/// Of a text that has nothing else, which is enough to be caught.
+unsafe fn trimmed_no_break_spaces(lent: &Lent, real: Run) -> u32 {
+    let number = real(lent);
+    let has_one = lent.text_length == 2 && *lent.text.cast::<[u8; 2]>() == [0xC2, 0xA0];
+    if number == 0 && has_one {
+        *lent.answer.add(1) = 0;
+    }
+    number
+}
+
+unsafe fn changed_cursor<const OFFSET: isize>(lent: &Lent, real: Run) -> u32 {
+    let number = real(lent);
+    *lent.cursor.cast::<u8>().offset(OFFSET) ^= 1;
+    number
+}
+
+unsafe fn unmoved_cursor(lent: &Lent, real: Run) -> u32 {
+    let before = *lent.cursor;
+    let number = real(lent);
+    (*lent.cursor).offset = before.offset;
+    number
+}
+
+unsafe fn moved_by_last(lent: &Lent, real: Run) -> u32 {
+    let number = real(lent);
+    if number == 0 && (*lent.cursor).finished != 0 {
+        (*lent.cursor).offset = lent.text_length as u64;
+    }
+    number
+}
+
+unsafe fn normal_flag(lent: &Lent, real: Run) -> u32 {
+    let number = real(lent);
+    if number == 255 {
+        (*lent.cursor).finished = 1;
+    }
+    number
+}
+
+unsafe fn only_flag_1(lent: &Lent, real: Run) -> u32 {
+    let before = *lent.cursor;
+    (*lent.cursor).finished = u8::from(before.finished == 1);
+    let number = real(lent);
+    if before.finished > 1 && number != 0 {
+        *lent.cursor = before;
+    }
+    number
+}
+
+unsafe fn finished_first(lent: &Lent, real: Run) -> u32 {
+    let number = real(lent);
+    match number {
+        20 if (*lent.cursor).finished != 0 => {
+            *lent.answer = 0;
+            255
+        }
+        _ => number,
+    }
+}
+
+unsafe fn halved_offset(lent: &Lent, real: Run) -> u32 {
+    let before = *lent.cursor;
+    (*lent.cursor).offset = u64::from(before.offset as u32);
+    let number = real(lent);
+    if number != 0 {
+        *lent.cursor = before;
+        if number == 20 {
+            *lent.answer = before.offset;
+        }
+    }
+    number
+}
+
+/// A `>` at the offset, after `]]`, ends an empty piece.
+unsafe fn looked_back(lent: &Lent, real: Run) -> u32 {
+    let before = *lent.cursor;
+    let number = real(lent);
+    let at = before.offset as usize;
+    if number == 0 && at >= 2 && at < lent.text_length {
+        let around = lent.text.add(at - 2).cast::<[u8; 3]>();
+        if *around == *b"]]>" {
+            *lent.answer.add(1) = 0;
+            *lent.cursor = before;
+        }
+    }
+    number
 }

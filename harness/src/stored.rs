@@ -13,8 +13,10 @@ const HEADER: &str = "\
 # of document 01. The library has no part in it. Made in harness/ by
 #   cargo run --release --offline -- stored ../crates/replay/stdin
 # Bytes are in hexadecimal, with - for none; ROOM is the output's length, OUTPUT the result alone.
-#   check_utf8 TEXT = NUMBER FIRST SECOND, and so for parse_number
+#   check_utf8 TEXT = NUMBER FIRST SECOND, and so for parse_number and the three trims
+#   escape TEXT LEVEL ROOM = NUMBER FIRST SECOND OUTPUT
 #   normalize_eols TEXT VERSION ROOM = NUMBER FIRST SECOND OUTPUT
+#   cdata_next TEXT OFFSET FINISHED = NUMBER FIRST SECOND OFFSET FINISHED
 ";
 
 /// Longer texts and outputs are left out, so that every line is short.
@@ -47,12 +49,19 @@ fn line(call: &Call, arguments: &Arguments, answer: &Answer) -> String {
     let start = format!("{} {}", call.name, hex(arguments.text));
     let end = format!("{} {} {}", answer.number, answer.first, answer.second);
     match call.form {
-        Form::Text => format!("{start} = {end}"),
+        Form::Text | Form::Part => format!("{start} = {end}"),
         Form::Output => format!(
             "{start} {} {} = {end} {}",
             arguments.choice,
             answer.room,
             hex(&answer.written)
         ),
+        Form::Cursor => {
+            let (before, after) = (arguments.cursor, answer.cursor);
+            format!(
+                "{start} {} {} = {end} {} {}",
+                before.offset, before.finished, after.offset, after.finished
+            )
+        }
     }
 }

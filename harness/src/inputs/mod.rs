@@ -1,8 +1,11 @@
 //! What the calls are tried on.
 
+pub mod cdata;
 pub mod eols;
+pub mod escape;
 pub mod number;
 pub mod text;
+pub mod trim;
 pub mod utf8;
 pub mod woven;
 

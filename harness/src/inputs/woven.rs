@@ -41,6 +41,19 @@ pub fn every_short_text<S: Subject>(_: &mut Random, sink: &mut Sink) {
     }
 }
 
+/// Every character, alone and between two letters.
+pub fn every_character<S: Subject>(random: &mut Random, sink: &mut Sink) {
+    const FEW: char = '\u{2100}';
+    for character in '\0'..=char::MAX {
+        let text = format!("a{character}b");
+        let alone = &text[1..text.len() - 1];
+        if character < FEW {
+            S::each(Arguments::text(alone.as_bytes()), sink);
+        }
+        S::one(random, Arguments::text(text.as_bytes()), sink);
+    }
+}
+
 /// Every 1 to 3 pieces at each offset of a text long enough for block loops, and at its end.
 pub fn every_sequence_in_context<S: Subject>(random: &mut Random, sink: &mut Sink) {
     let pieces = [S::PIECES, S::BROKEN].concat();
