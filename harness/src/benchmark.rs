@@ -146,8 +146,9 @@ fn parse_number() -> Vec<Row> {
         .into_iter()
         .map(|(name, form, length)| {
             let text = written_to_length(0x20AC, form, length);
-            let sides: [TextCall; 2] = [govlezna_parse_number, rust_parse_number];
-            text_row("parse_number", name, &text, sides, None)
+            let sides: [TextCall; 2] = [govlezna_parse_number, rust_parse_number::<true>];
+            let unchecked: TextCall = rust_parse_number::<false>;
+            text_row("parse_number", name, &text, sides, Some(unchecked))
         })
         .collect()
 }
@@ -287,11 +288,7 @@ unsafe extern "C" fn rust_trim<const WHICH: u8, const CHECKED: bool>(
     length: usize,
     answer: *mut u64,
 ) -> u32 {
-    let bytes = std::slice::from_raw_parts(text, length);
-    let text = match CHECKED {
-        true => from_utf8(bytes).unwrap(),
-        false => from_utf8_unchecked(bytes),
-    };
+    let text = given::<CHECKED>(text, length);
     let part = match WHICH {
         START => utils::trim_xml_start(text),
         END => utils::trim_xml_end(text),
@@ -398,21 +395,31 @@ unsafe extern "C" fn rust_check_utf8(text: *const u8, length: usize, answer: *mu
     number
 }
 
-/// Our call checks its text, so the Rust's side does too.
-unsafe extern "C" fn rust_parse_number(text: *const u8, length: usize, answer: *mut u64) -> u32 {
-    let (number, first) = match from_utf8(std::slice::from_raw_parts(text, length)) {
-        Ok(text) => match escape::parse_number(text) {
-            Ok(character) => (0, u64::from(u32::from(character))),
-            Err(error) => {
-                let answer = number_refusal(error);
-                (answer.number, answer.first)
-            }
-        },
-        Err(error) => (5, error.valid_up_to() as u64),
+/// Our call checks its text, so the Rust's side does too; the figure without it is shown as well.
+unsafe extern "C" fn rust_parse_number<const CHECKED: bool>(
+    text: *const u8,
+    length: usize,
+    answer: *mut u64,
+) -> u32 {
+    let (number, first) = match escape::parse_number(given::<CHECKED>(text, length)) {
+        Ok(character) => (0, u64::from(u32::from(character))),
+        Err(error) => {
+            let answer = number_refusal(error);
+            (answer.number, answer.first)
+        }
     };
     answer.write(first);
     answer.add(1).write(0);
     number
+}
+
+/// The text, checked or known to be UTF-8.
+unsafe fn given<'a, const CHECKED: bool>(text: *const u8, length: usize) -> &'a str {
+    let bytes = std::slice::from_raw_parts(text, length);
+    match CHECKED {
+        true => from_utf8(bytes).unwrap(),
+        false => from_utf8_unchecked(bytes),
+    }
 }
 
 fn text_row(

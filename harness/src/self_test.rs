@@ -307,12 +307,12 @@ unsafe fn accepted_choice(lent: &Lent, real: Run) -> u32 {
 
 unsafe fn late_choice(lent: &Lent, real: Run) -> u32 {
     let number = real(lent);
-    match number {
-        4 => match real(&Lent { choice: 0, ..*lent }) {
-            5 => 5,
-            _ => real(lent),
-        },
-        _ => number,
+    if number != 4 {
+        return number;
+    }
+    match real(&Lent { choice: 0, ..*lent }) {
+        5 => 5,
+        _ => real(lent),
     }
 }
 

@@ -9,8 +9,8 @@ use std::collections::HashSet;
 use std::io::{Result, Write};
 
 const HEADER: &str = "\
-# What the Rust answers: std::str::from_utf8, and the functions of quick-xml 0.42.0, by the numbers
-# of document 01. The library has no part in it. Made in harness/ by
+# What the Rust answers: std::str::from_utf8, and escape.rs and utils.rs of quick-xml 0.42.0, by
+# the numbers of document 01. The library has no part in it. Made in harness/ by
 #   cargo run --release --offline -- stored ../crates/replay/stdin
 # Bytes are in hexadecimal, with - for none; ROOM is the output's length, OUTPUT the result alone.
 #   check_utf8 TEXT = NUMBER FIRST SECOND, and so for parse_number and the three trims

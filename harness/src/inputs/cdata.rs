@@ -104,6 +104,7 @@ fn iterate(arguments: Arguments, sink: &mut Sink) {
     }
 }
 
+/// Whole iterations; for texts of block lengths every other cursor too.
 pub fn every_iteration(random: &mut Random, sink: &mut Sink) {
     for length in 0..=9 {
         every_sequence(b"]>a", length, &mut |text| {
@@ -115,6 +116,9 @@ pub fn every_iteration(random: &mut Random, sink: &mut Sink) {
             for gap in [1, 3, 10, 60] {
                 let text = woven(random, mix, Cdata::PIECES, gap, length);
                 iterate(Arguments::text(&text), sink);
+                if length < PAGE - 1 {
+                    Cdata::each(Arguments::text(&text), sink);
+                }
             }
         }
     }
