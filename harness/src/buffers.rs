@@ -1,8 +1,9 @@
 //! The memory that a call is lent: filled before the call, with guard bytes on both sides, and
 //! checked whole after it.
 
-use crate::calls::{Arguments, Place};
-use crate::library::Lent;
+use crate::calls::{Arguments, Place, Room};
+use crate::inputs::MOST_SPARE;
+use crate::library::{Cursor, Lent};
 use crate::oracle::{Answer, LONGEST_TEXT};
 
 const GUARD: usize = 64;
@@ -10,6 +11,11 @@ const GUARD: usize = 64;
 pub const ALIGNMENTS: usize = 64;
 const WORD: usize = std::mem::size_of::<u64>();
 const WORDS: usize = 2;
+const CURSOR: usize = std::mem::size_of::<Cursor>();
+/// The offset and the flag; what follows is padding, which may change.
+const CURSOR_FIELDS: usize = WORD + 1;
+/// The longest text at 6 bytes for each of its own, and what is spare.
+const LONGEST_OUTPUT: usize = 6 * LONGEST_TEXT + MOST_SPARE;
 
 /// Buffers and guards take these in turn: a byte that happens to be written as it was is seen at
 /// another turn. A text read past its end goes on with a digit, a lead byte or a continuation byte.
@@ -104,6 +110,8 @@ fn is_filled(bytes: &[u8], fill: u8) -> bool {
 /// All that a call can be lent.
 pub struct Buffers {
     text: Guarded,
+    out: Guarded,
+    cursor: Guarded,
     answer: Guarded,
 }
 
@@ -111,12 +119,14 @@ impl Buffers {
     pub fn new() -> Self {
         Buffers {
             text: Guarded::new("the text", LONGEST_TEXT + 1),
+            out: Guarded::new("the output", LONGEST_OUTPUT),
+            cursor: Guarded::new("the cursor", CURSOR),
             answer: Guarded::new("the answer words", WORDS * WORD),
         }
     }
 
     /// Fills the buffers for one call. `turn` picks the fill, and addresses that are left open.
-    pub fn lend(&mut self, arguments: &Arguments, turn: usize) -> Lent {
+    pub fn lend(&mut self, arguments: &Arguments, room: usize, turn: usize) -> Lent {
         let fill = FILLS[turn % FILLS.len()];
         let copied = copied(arguments);
         let alignment = match arguments.place {
@@ -126,7 +136,12 @@ impl Buffers {
         self.text
             .prefill(copied.len(), alignment, fill)
             .copy_from_slice(copied);
-        // An array of words is owed no more than a word's alignment.
+        // Every address of the output meets every address of the text.
+        self.out.prefill(room, turn / ALIGNMENTS % ALIGNMENTS, fill);
+        // A cursor and an array of words are owed no more than a word's alignment.
+        self.cursor
+            .prefill(CURSOR, (turn + 3) * WORD % ALIGNMENTS, fill)[..CURSOR_FIELDS]
+            .copy_from_slice(&fields(arguments.cursor));
         self.answer
             .prefill(WORDS * WORD, turn * WORD % ALIGNMENTS, fill);
         Lent {
@@ -136,6 +151,13 @@ impl Buffers {
                 Place::Any | Place::At(_) => self.text.pointer(),
             },
             text_length: arguments.text.len(),
+            choice: arguments.choice,
+            out: match arguments.room {
+                Room::Null => std::ptr::null_mut(),
+                _ => self.out.pointer(),
+            },
+            out_length: room,
+            cursor: self.cursor.pointer().cast(),
             answer: self.answer.pointer().cast(),
         }
     }
@@ -147,7 +169,16 @@ impl Buffers {
         words[WORD..].copy_from_slice(&expected.second.to_ne_bytes());
         self.answer
             .damage(&words)
+            .or_else(|| self.out.damage(&expected.written))
+            .or_else(|| self.cursor.damage(&self.cursor_bytes(expected.cursor)))
             .or_else(|| self.text.damage(copied(arguments)))
+    }
+
+    /// What the cursor's buffer has to hold, with the padding as it is found.
+    fn cursor_bytes(&self, cursor: Cursor) -> [u8; CURSOR] {
+        let mut bytes: [u8; CURSOR] = self.cursor.content().try_into().unwrap();
+        bytes[..CURSOR_FIELDS].copy_from_slice(&fields(cursor));
+        bytes
     }
 
     pub fn answer_words(&self) -> [u64; WORDS] {
@@ -157,6 +188,12 @@ impl Buffers {
         };
         [word(0), word(WORD)]
     }
+}
+
+fn fields(cursor: Cursor) -> [u8; CURSOR_FIELDS] {
+    let mut bytes = [cursor.finished; CURSOR_FIELDS];
+    bytes[..WORD].copy_from_slice(&cursor.offset.to_ne_bytes());
+    bytes
 }
 
 /// What of the text lies in the guarded buffer.

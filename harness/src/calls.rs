@@ -1,8 +1,12 @@
 //! The calls that are compared. A new one is declared in library.rs, answered in oracle.rs, given
 //! inputs in inputs/ and listed here.
 
-use crate::inputs::{self, number, utf8, Family};
-use crate::library::{self, Run};
+use crate::inputs::cdata::{self, Cdata};
+use crate::inputs::eols::Eols;
+use crate::inputs::escape::{self, Escape};
+use crate::inputs::trim::{self, Trim};
+use crate::inputs::{self, number, utf8, woven, Family};
+use crate::library::{self, Cursor, Run};
 use crate::oracle::{self, Answer};
 
 /// What a caller hands over. A call reads the parts that it has.
@@ -10,6 +14,10 @@ use crate::oracle::{self, Answer};
 pub struct Arguments<'a> {
     pub text: &'a [u8],
     pub place: Place,
+    /// The level or the version.
+    pub choice: u8,
+    pub room: Room,
+    pub cursor: Cursor,
 }
 
 /// Where the text lies when the call is made.
@@ -25,17 +33,62 @@ pub enum Place {
     Itself,
 }
 
-impl<'a> Arguments<'a> {
-    pub fn text(text: &'a [u8]) -> Self {
-        Arguments {
-            text,
-            place: Place::Any,
+/// How long the output is, beside the result.
+#[derive(Clone, Copy, PartialEq, Eq)]
+pub enum Room {
+    Exact,
+    /// One byte too short, unless the result is empty.
+    Short,
+    /// No output: NULL and length 0.
+    Null,
+    /// So many bytes longer.
+    Spare(usize),
+}
+
+pub const ROOMS: [Room; 4] = [Room::Exact, Room::Short, Room::Null, Room::Spare(9)];
+
+impl Room {
+    /// The output's length when the result has so many bytes.
+    pub fn length(self, needed: usize) -> usize {
+        match self {
+            Room::Exact => needed,
+            Room::Short => needed.saturating_sub(1),
+            Room::Null => 0,
+            Room::Spare(more) => needed + more,
         }
     }
 }
 
+impl<'a> Arguments<'a> {
+    pub fn text(text: &'a [u8]) -> Self {
+        Arguments::at(Place::Any, text)
+    }
+
+    pub fn at(place: Place, text: &'a [u8]) -> Self {
+        Arguments {
+            text,
+            place,
+            choice: 0,
+            room: Room::Exact,
+            cursor: Cursor::default(),
+        }
+    }
+}
+
+/// What a call has beside a text and the answer words.
+#[derive(Clone, Copy, PartialEq, Eq)]
+pub enum Form {
+    Text,
+    /// A level or a version, and an output.
+    Output,
+    /// Nothing; the answer is a part of the text.
+    Part,
+    Cursor,
+}
+
 pub struct Call {
     pub name: &'static str,
+    pub form: Form,
     pub run: Run,
     pub expected: fn(&Arguments) -> Answer,
     /// The inputs that a reader would ask about first; the stored results are made of them too.
@@ -48,6 +101,7 @@ pub struct Call {
 pub const CALLS: &[Call] = &[
     Call {
         name: "check_utf8",
+        form: Form::Text,
         run: library::check_utf8,
         expected: |arguments| oracle::check_utf8(arguments.text),
         seams: utf8::seams,
@@ -64,6 +118,7 @@ pub const CALLS: &[Call] = &[
     },
     Call {
         name: "parse_number",
+        form: Form::Text,
         run: library::parse_number,
         expected: |arguments| oracle::parse_number(arguments.text),
         seams: number::seams,
@@ -78,4 +133,106 @@ pub const CALLS: &[Call] = &[
         ],
         random: number::random,
     },
+    Call {
+        name: "escape",
+        form: Form::Output,
+        run: library::escape,
+        expected: oracle::escape,
+        seams: woven::seams::<Escape>,
+        families: &[
+            inputs::limits,
+            escape::longest_result,
+            inputs::unknown_choices,
+            woven::long::<Escape>,
+            woven::every_short_text::<Escape>,
+            woven::every_character::<Escape>,
+            woven::every_sequence_in_context::<Escape>,
+            woven::every_length_and_address::<Escape>,
+            woven::damaged::<Escape>,
+        ],
+        random: woven::random::<Escape>,
+    },
+    Call {
+        name: "normalize_eols",
+        form: Form::Output,
+        run: library::normalize_eols,
+        expected: oracle::normalize_eols,
+        seams: woven::seams::<Eols>,
+        families: &[
+            inputs::limits,
+            inputs::unknown_choices,
+            woven::long::<Eols>,
+            woven::every_short_text::<Eols>,
+            woven::every_character::<Eols>,
+            woven::every_sequence_in_context::<Eols>,
+            woven::every_length_and_address::<Eols>,
+            woven::damaged::<Eols>,
+        ],
+        random: woven::random::<Eols>,
+    },
+    Call {
+        name: "trim_xml_start",
+        run: library::trim_xml_start,
+        expected: |arguments| oracle::trim_xml_start(arguments.text),
+        ..TRIM
+    },
+    Call {
+        name: "trim_xml_end",
+        run: library::trim_xml_end,
+        expected: |arguments| oracle::trim_xml_end(arguments.text),
+        ..TRIM
+    },
+    Call {
+        name: "trim_xml_spaces",
+        run: library::trim_xml_spaces,
+        expected: |arguments| oracle::trim_xml_spaces(arguments.text),
+        ..TRIM
+    },
+    Call {
+        name: "cdata_next",
+        form: Form::Cursor,
+        run: library::cdata_next,
+        expected: oracle::cdata_next,
+        seams: woven::seams::<Cdata>,
+        families: &[
+            inputs::limits,
+            woven::long::<Cdata>,
+            cdata::every_iteration,
+            woven::every_short_text::<Cdata>,
+            woven::every_sequence_in_context::<Cdata>,
+            woven::every_length_and_address::<Cdata>,
+            woven::damaged::<Cdata>,
+        ],
+        random: woven::random::<Cdata>,
+    },
 ];
+
+/// What the trims share; the rest of it is never looked at.
+const TRIM: Call = Call {
+    name: "",
+    form: Form::Part,
+    run: library::trim_xml_spaces,
+    expected: |arguments| oracle::trim_xml_spaces(arguments.text),
+    seams: woven::seams::<Trim>,
+    families: &[
+        inputs::limits,
+        trim::long_blanks,
+        trim::blanks_around,
+        woven::long::<Trim>,
+        woven::every_short_text::<Trim>,
+        woven::every_character::<Trim>,
+        woven::every_sequence_in_context::<Trim>,
+        woven::every_length_and_address::<Trim>,
+        woven::damaged::<Trim>,
+    ],
+    random: woven::random::<Trim>,
+};
+
+/// The calls of these names, or all where none is named; nothing if one is unknown.
+pub fn named(names: &[&str]) -> Option<Vec<&'static Call>> {
+    if names.is_empty() {
+        return Some(CALLS.iter().collect());
+    }
+    let find = |name: &&str| CALLS.iter().find(|call| call.name == *name);
+    names.iter().map(find).collect()
+}

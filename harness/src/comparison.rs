@@ -39,12 +39,12 @@ impl<'a> Comparison<'a> {
 
     fn compare(&mut self, arguments: &Arguments) {
         let expected = (self.call.expected)(arguments);
-        let lent = self.buffers.lend(arguments, self.compared);
+        let lent = self.buffers.lend(arguments, expected.room, self.compared);
         let number = (self.library)(&lent);
         let damage = self.buffers.damage(arguments, &expected);
         self.compared += 1;
         if number != expected.number || damage.is_some() {
-            self.differ(arguments, &lent, expected, number, damage);
+            self.differ(arguments, &lent, &expected, number, damage);
         }
     }
 
@@ -53,7 +53,7 @@ impl<'a> Comparison<'a> {
         &mut self,
         arguments: &Arguments,
         lent: &Lent,
-        expected: Answer,
+        expected: &Answer,
         number: u32,
         damage: Option<Damage>,
     ) {
@@ -64,11 +64,16 @@ impl<'a> Comparison<'a> {
         let [first, second] = self.buffers.answer_words();
         let mut description = format!(
             "{}: {} bytes at address {} modulo {ALIGNMENTS}: {}\n  \
+             level or version {}, output of {} bytes, cursor {} {}\n  \
              expected {} {} {}\n  found    {number} {first} {second}",
             self.call.name,
             lent.text_length,
             lent.text as usize % ALIGNMENTS,
             shortened(arguments.text),
+            lent.choice,
+            lent.out_length,
+            arguments.cursor.offset,
+            arguments.cursor.finished,
             expected.number,
             expected.first,
             expected.second,

@@ -1,6 +1,6 @@
 //! Compares every call of the library with the Rust.
 
-use crate::calls::{Call, CALLS};
+use crate::calls::Call;
 use crate::comparison::Comparison;
 use crate::library::Lent;
 use crate::random::Random;
@@ -12,12 +12,12 @@ const FEWEST: usize = 1_000_000;
 const FEWEST_ROUNDS: usize = 100;
 
 /// Runs each family once, and random inputs until `time` is over. True: no answer differs.
-pub fn run(seed: u64, time: Duration) -> bool {
+pub fn run(calls: &[&Call], seed: u64, time: Duration) -> bool {
     println!("differential: seed {seed}");
     let start = Instant::now();
-    let share = time / CALLS.len() as u32;
+    let share = time / calls.len() as u32;
     let mut passed = true;
-    for (call, turn) in CALLS.iter().zip(1..) {
+    for (call, turn) in calls.iter().zip(1..) {
         passed &= compare_call(call, seed, start + share * turn);
     }
     println!("differential: {:.1} s", start.elapsed().as_secs_f64());

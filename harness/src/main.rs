@@ -13,15 +13,16 @@ mod random;
 mod self_test;
 mod stored;
 
+use calls::Call;
 use std::process::ExitCode;
 use std::time::Duration;
 use std::{env, fs, io};
 
 const USAGE: &str = "\
-harness differential [--seed N] [--minutes M]   compare every call with the Rust
-harness self-test                               check that wrong libraries are caught
-harness stored [FILE]                           write a sample of the Rust's answers
-harness benchmark                               measure every call against the Rust";
+harness differential [--calls A,B] [--seed N] [--minutes M]   compare every call with the Rust
+harness self-test [--calls A,B]                               check that wrong libraries are caught
+harness stored [--calls A,B] [FILE]                           write a sample of the Rust's answers
+harness benchmark [--calls A,B]                               measure every call against the Rust";
 
 const DEFAULT_SEED: u64 = 1;
 
@@ -40,20 +41,26 @@ fn main() -> ExitCode {
 
 /// Whether the command passed; nothing for words that are no command.
 fn run(words: &[&str]) -> Option<bool> {
-    match words {
-        ["differential", options @ ..] => differential(options),
-        ["self-test"] => Some(self_test::run()),
-        ["stored"] => Some(passed(stored::write(&mut io::stdout()))),
-        ["stored", file] => Some(passed(store(file))),
-        ["benchmark"] => {
-            benchmark::run();
+    let (command, words) = words.split_first()?;
+    let (calls, words) = match words {
+        ["--calls", names, rest @ ..] => (names.split(',').collect(), rest),
+        _ => (vec![], words),
+    };
+    let calls = calls::named(&calls)?;
+    match (*command, words) {
+        ("differential", options) => differential(&calls, options),
+        ("self-test", []) => Some(self_test::run(&calls)),
+        ("stored", []) => Some(passed(stored::write(&calls, &mut io::stdout()))),
+        ("stored", [file]) => Some(passed(store(&calls, file))),
+        ("benchmark", []) => {
+            benchmark::run(&calls);
             Some(true)
         }
         _ => None,
     }
 }
 
-fn differential(options: &[&str]) -> Option<bool> {
+fn differential(calls: &[&Call], options: &[&str]) -> Option<bool> {
     let mut seed = DEFAULT_SEED;
     let mut minutes = 0.0;
     for option in options.chunks(2) {
@@ -64,12 +71,12 @@ fn differential(options: &[&str]) -> Option<bool> {
         }
     }
     let time = Duration::try_from_secs_f64(minutes * 60.0).ok()?;
-    Some(differential::run(seed, time))
+    Some(differential::run(calls, seed, time))
 }
 
-fn store(file: &str) -> io::Result<()> {
+fn store(calls: &[&Call], file: &str) -> io::Result<()> {
     let mut text = vec![];
-    stored::write(&mut text)?;
+    stored::write(calls, &mut text)?;
     fs::write(file, text)
 }
 

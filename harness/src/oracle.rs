@@ -1,6 +1,10 @@
 //! What each call has to answer: the answer of the unchanged Rust, by document 01's numbers.
 
+use crate::calls::Arguments;
+use crate::library::Cursor;
 use source::escape::{self, ParseCharRefError};
+use source::utils::{self, CDataIterator};
+use std::borrow::Cow;
 
 /// The Rust under test. Not every part of it has a caller yet.
 #[allow(dead_code, clippy::all)]
@@ -10,12 +14,18 @@ pub mod source {
     include!(concat!(env!("OUT_DIR"), "/source.rs"));
 }
 
-/// Document 01's number, where 0 is success, and the two answer words.
-#[derive(Clone, Copy, Debug, PartialEq, Eq)]
+/// Document 01's number, where 0 is success, and the two answer words; then what a call writes.
+#[derive(Debug)]
 pub struct Answer {
     pub number: u32,
     pub first: u64,
     pub second: u64,
+    /// How long the output is for which this is the answer.
+    pub room: usize,
+    /// The first bytes of the output; the rest is kept.
+    pub written: Vec<u8>,
+    /// The cursor after the call.
+    pub cursor: Cursor,
 }
 
 fn success(first: u64) -> Answer {
@@ -27,6 +37,9 @@ fn refusal(number: u32, first: u64) -> Answer {
         number,
         first,
         second: 0,
+        room: 0,
+        written: vec![],
+        cursor: Cursor::default(),
     }
 }
 
@@ -35,10 +48,15 @@ pub const LONGEST_TEXT: usize = 16_777_216;
 
 /// Refusals 1 and 5, which every call with a text gives first.
 fn checked(text: &[u8]) -> Result<&str, Answer> {
-    if text.len() > LONGEST_TEXT {
-        return Err(refusal(1, text.len() as u64));
-    }
+    length_checked(text)?;
     std::str::from_utf8(text).map_err(|error| refusal(5, error.valid_up_to() as u64))
+}
+
+fn length_checked(text: &[u8]) -> Result<(), Answer> {
+    match text.len() {
+        0..=LONGEST_TEXT => Ok(()),
+        length => Err(refusal(1, length as u64)),
+    }
 }
 
 pub fn check_utf8(text: &[u8]) -> Answer {
@@ -63,4 +81,149 @@ pub fn number_refusal(error: ParseCharRefError) -> Answer {
         ParseCharRefError::InvalidCodepoint(value) => refusal(14, u64::from(value)),
         ParseCharRefError::IllegalCharacter(_) => refusal(15, 0),
     }
+}
+
+pub fn escape(arguments: &Arguments) -> Answer {
+    let rule: Option<Rule> = match arguments.choice {
+        0 => Some(|text| escape::escape(text)),
+        1 => Some(|text| escape::partial_escape(text)),
+        2 => Some(|text| escape::minimal_escape(text)),
+        3 => Some(|text| escape::escape_attribute(text)),
+        _ => None,
+    };
+    written(arguments, rule)
+}
+
+pub fn normalize_eols(arguments: &Arguments) -> Answer {
+    let rule: Option<Rule> = match arguments.choice {
+        0 | 1 => Some(|text| escape::normalize_xml10_eols(text)),
+        2 => Some(|text| escape::normalize_xml11_eols(text)),
+        _ => None,
+    };
+    written(arguments, rule)
+}
+
+/// What the Rust makes of a text at a level or under a version.
+type Rule = fn(&str) -> Cow<str>;
+
+/// The Rust takes neither a level nor a version as a byte, nor an output: 4 and 19 are document 01's.
+fn written(arguments: &Arguments, rule: Option<Rule>) -> Answer {
+    let text = match rule {
+        None => length_checked(arguments.text).and(Err(refusal(4, 0))),
+        Some(rule) => checked(arguments.text).map(rule),
+    };
+    let result = match text {
+        Ok(text) => text.into_owned().into_bytes(),
+        Err(refusal) => return in_some_room(arguments, refusal),
+    };
+    let needed = result.len();
+    let room = arguments.room.length(needed);
+    match room < needed {
+        true => Answer {
+            room,
+            ..refusal(19, needed as u64)
+        },
+        false => Answer {
+            room,
+            written: result,
+            ..success(needed as u64)
+        },
+    }
+}
+
+/// There is no result whose length could be asked for: the text's, but not of gigabytes.
+fn in_some_room(arguments: &Arguments, refusal: Answer) -> Answer {
+    const MOST: usize = 4096;
+    Answer {
+        room: arguments.room.length(arguments.text.len().min(MOST)),
+        ..refusal
+    }
+}
+
+pub fn trim_xml_start(text: &[u8]) -> Answer {
+    part(text, utils::trim_xml_start, text.len())
+}
+
+pub fn trim_xml_end(text: &[u8]) -> Answer {
+    part(text, utils::trim_xml_end, 0)
+}
+
+pub fn trim_xml_spaces(text: &[u8]) -> Answer {
+    part(text, utils::trim_xml_spaces, text.len())
+}
+
+/// Where a part without bytes starts says document 01: nobody owes a meaning to its address.
+fn part(text: &[u8], trim: fn(&str) -> &str, empty_start: usize) -> Answer {
+    let text = match checked(text) {
+        Ok(text) => text,
+        Err(refusal) => return refusal,
+    };
+    let part = trim(text);
+    let start = match part {
+        "" => empty_start,
+        _ => offset_in(text, part),
+    };
+    Answer {
+        second: part.len() as u64,
+        ..success(start as u64)
+    }
+}
+
+fn offset_in(text: &str, part: &str) -> usize {
+    part.as_ptr() as usize - text.as_ptr() as usize
+}
+
+/// The Rust's iterator keeps what is left of the text: here that is the text from the offset on.
+/// Refusal 20, and the cursor, are document 01's.
+pub fn cdata_next(arguments: &Arguments) -> Answer {
+    let cursor = arguments.cursor;
+    let kept = |answer| Answer { cursor, ..answer };
+    let text = match checked(arguments.text) {
+        Ok(text) => text,
+        Err(refusal) => return kept(refusal),
+    };
+    let rest = match usize::try_from(cursor.offset) {
+        Ok(offset) => text.get(offset..),
+        Err(_) => None,
+    };
+    let Some(rest) = rest else {
+        return kept(refusal(20, cursor.offset));
+    };
+    if cursor.finished != 0 {
+        return kept(refusal(NO_MORE, 0));
+    }
+    let mut pieces = CDataIterator::new(rest);
+    let piece = pieces.next().expect("a first piece");
+    Answer {
+        second: piece.len() as u64,
+        cursor: after(cursor, piece, pieces.next().is_none()),
+        ..success(cursor.offset)
+    }
+}
+
+const NO_MORE: u32 = 255;
+
+fn after(cursor: Cursor, piece: &str, is_last: bool) -> Cursor {
+    match is_last {
+        true => Cursor {
+            finished: 1,
+            ..cursor
+        },
+        false => Cursor {
+            offset: cursor.offset + piece.len() as u64,
+            ..cursor
+        },
+    }
+}
+
+/// The cursors that one iteration over the whole text comes to, the first and the finished one too.
+pub fn cdata_cursors(text: &str) -> Vec<Cursor> {
+    let mut cursors = vec![Cursor::default()];
+    let mut pieces = CDataIterator::new(text).peekable();
+    while let Some(piece) = pieces.next() {
+        let cursor = *cursors.last().unwrap();
+        assert!(text[cursor.offset as usize..].starts_with(piece));
+        cursors.push(after(cursor, piece, pieces.peek().is_none()));
+    }
+    cursors
 }

@@ -1,6 +1,6 @@
 //! Puts wrong libraries in the place of the real one: the comparison has to catch each.
 
-use crate::calls::{Call, CALLS};
+use crate::calls::{Call, Form};
 use crate::comparison::Comparison;
 use crate::inputs::{Family, MEBIBYTE, PAGE};
 use crate::library::{Lent, Run};
@@ -36,22 +36,68 @@ const FAULTS: &[(&str, Fault)] = &[
     ("the length's high half not read", halved_length),
 ];
 
+/// Of calls with an output.
+const OUTPUT_FAULTS: &[(&str, Fault)] = &[
+    ("the result's first byte changed", changed_first_of_result),
+    ("the result's last byte changed", changed_last_of_result),
+    ("the byte after the result changed", changed_after_result),
+    (
+        "the output's last byte changed on a refusal",
+        changed_on_refusal,
+    ),
+    ("the output filled before 19", filled_before_19),
+    ("the byte after the output changed", changed_after_output),
+    ("the byte before the output changed", changed_before_output),
+    ("one byte more written than there is room", overwritten),
+    ("an output of just the length refused", refused_exact),
+    ("level or version 255 taken for 0", accepted_choice),
+    ("level or version checked after the bytes", late_choice),
+];
+
+/// Of the trims.
+const PART_FAULTS: &[(&str, Fault)] = &[
+    ("blanks alone start at the other end", turned_blanks),
+    ("no-break spaces trimmed", trimmed_no_break_spaces),
+];
+
+/// Of calls with a cursor.
+const CURSOR_FAULTS: &[(&str, Fault)] = &[
+    ("the cursor's offset changed", changed_cursor::<0>),
+    ("the cursor's offset changed high up", changed_cursor::<7>),
+    ("the cursor's flag changed", changed_cursor::<8>),
+    ("the byte after the cursor changed", changed_cursor::<16>),
+    ("the byte before the cursor changed", changed_cursor::<-1>),
+    ("the cursor not moved", unmoved_cursor),
+    ("the cursor moved by the last piece", moved_by_last),
+    ("the cursor's flag set to 1 by \"no more\"", normal_flag),
+    ("only flag 1 taken for finished", only_flag_1),
+    ("finished looked at before 20", finished_first),
+    ("the offset's high half not read", halved_offset),
+    ("the cut sought before the offset", looked_back),
+];
+
 /// True: every wrong library is caught, and the real one is not.
-pub fn run() -> bool {
-    let mut missed = 0;
-    for call in CALLS {
+pub fn run(calls: &[&Call]) -> bool {
+    let (mut tried, mut missed) = (0, 0);
+    for call in calls {
         if is_caught(call, |lent, real| unsafe { real(lent) }, &[]) {
             println!("{}: the library itself differs", call.name);
             missed += 1;
         }
-        for &(name, fault) in FAULTS {
+        let more: &[(&str, Fault)] = match call.form {
+            Form::Text => &[],
+            Form::Output => OUTPUT_FAULTS,
+            Form::Part => PART_FAULTS,
+            Form::Cursor => CURSOR_FAULTS,
+        };
+        for &(name, fault) in FAULTS.iter().chain(more) {
             let caught = is_caught(call, fault, call.families);
             let verdict = if caught { "caught" } else { "NOT CAUGHT" };
             println!("{}: {name}: {verdict}", call.name);
+            tried += 1;
             missed += usize::from(!caught);
         }
     }
-    let tried = CALLS.len() * FAULTS.len();
     println!("self-test: {tried} wrong libraries, {missed} failures");
     missed == 0
 }
@@ -175,4 +221,193 @@ unsafe fn halved_length(lent: &Lent, real: Run) -> u32 {
         text_length,
         ..*lent
     })
+}
+
+unsafe fn changed_first_of_result(lent: &Lent, real: Run) -> u32 {
+    let number = real(lent);
+    if number == 0 && *lent.answer > 0 {
+        *lent.out ^= 1;
+    }
+    number
+}
+
+unsafe fn changed_last_of_result(lent: &Lent, real: Run) -> u32 {
+    let number = real(lent);
+    if number == 0 && *lent.answer > 0 {
+        *lent.out.add(*lent.answer as usize - 1) ^= 1;
+    }
+    number
+}
+
+unsafe fn changed_after_result(lent: &Lent, real: Run) -> u32 {
+    let number = real(lent);
+    if number == 0 && (*lent.answer as usize) < lent.out_length {
+        *lent.out.add(*lent.answer as usize) ^= 1;
+    }
+    number
+}
+
+unsafe fn changed_on_refusal(lent: &Lent, real: Run) -> u32 {
+    let number = real(lent);
+    if number != 0 && lent.out_length > 0 {
+        *lent.out.add(lent.out_length - 1) ^= 1;
+    }
+    number
+}
+
+unsafe fn filled_before_19(lent: &Lent, real: Run) -> u32 {
+    let number = real(lent);
+    if number == 19 && lent.out_length > 0 {
+        lent.out.write_bytes(b'a', lent.out_length);
+    }
+    number
+}
+
+unsafe fn changed_after_output(lent: &Lent, real: Run) -> u32 {
+    let number = real(lent);
+    flip_output(lent, lent.out_length as isize);
+    number
+}
+
+unsafe fn changed_before_output(lent: &Lent, real: Run) -> u32 {
+    let number = real(lent);
+    flip_output(lent, -1);
+    number
+}
+
+unsafe fn flip_output(lent: &Lent, offset: isize) {
+    if !lent.out.is_null() {
+        *lent.out.offset(offset) ^= 1;
+    }
+}
+
+unsafe fn overwritten(lent: &Lent, real: Run) -> u32 {
+    let out_length = lent.out_length + usize::from(!lent.out.is_null());
+    real(&Lent {
+        out_length,
+        ..*lent
+    })
+}
+
+unsafe fn refused_exact(lent: &Lent, real: Run) -> u32 {
+    let number = real(lent);
+    match number {
+        0 if *lent.answer == lent.out_length as u64 => 19,
+        _ => number,
+    }
+}
+
+unsafe fn accepted_choice(lent: &Lent, real: Run) -> u32 {
+    let choice = match lent.choice {
+        255 => 0,
+        choice => choice,
+    };
+    real(&Lent { choice, ..*lent })
+}
+
+unsafe fn late_choice(lent: &Lent, real: Run) -> u32 {
+    let number = real(lent);
+    if number != 4 {
+        return number;
+    }
+    match real(&Lent { choice: 0, ..*lent }) {
+        5 => 5,
+        _ => real(lent),
+    }
+}
+
+unsafe fn turned_blanks(lent: &Lent, real: Run) -> u32 {
+    let number = real(lent);
+    if number == 0 && *lent.answer.add(1) == 0 {
+        *lent.answer = lent.text_length as u64 - *lent.answer;
+    }
+    number
+}
+
+/// Of a text that has nothing else, which is enough to be caught.
+unsafe fn trimmed_no_break_spaces(lent: &Lent, real: Run) -> u32 {
+    let number = real(lent);
+    let has_one = lent.text_length == 2 && *lent.text.cast::<[u8; 2]>() == [0xC2, 0xA0];
+    if number == 0 && has_one {
+        *lent.answer.add(1) = 0;
+    }
+    number
+}
+
+unsafe fn changed_cursor<const OFFSET: isize>(lent: &Lent, real: Run) -> u32 {
+    let number = real(lent);
+    *lent.cursor.cast::<u8>().offset(OFFSET) ^= 1;
+    number
+}
+
+unsafe fn unmoved_cursor(lent: &Lent, real: Run) -> u32 {
+    let before = *lent.cursor;
+    let number = real(lent);
+    (*lent.cursor).offset = before.offset;
+    number
+}
+
+unsafe fn moved_by_last(lent: &Lent, real: Run) -> u32 {
+    let number = real(lent);
+    if number == 0 && (*lent.cursor).finished != 0 {
+        (*lent.cursor).offset = lent.text_length as u64;
+    }
+    number
+}
+
+unsafe fn normal_flag(lent: &Lent, real: Run) -> u32 {
+    let number = real(lent);
+    if number == 255 {
+        (*lent.cursor).finished = 1;
+    }
+    number
+}
+
+unsafe fn only_flag_1(lent: &Lent, real: Run) -> u32 {
+    let before = *lent.cursor;
+    (*lent.cursor).finished = u8::from(before.finished == 1);
+    let number = real(lent);
+    if before.finished > 1 && number != 0 {
+        *lent.cursor = before;
+    }
+    number
+}
+
+unsafe fn finished_first(lent: &Lent, real: Run) -> u32 {
+    let number = real(lent);
+    match number {
+        20 if (*lent.cursor).finished != 0 => {
+            *lent.answer = 0;
+            255
+        }
+        _ => number,
+    }
+}
+
+unsafe fn halved_offset(lent: &Lent, real: Run) -> u32 {
+    let before = *lent.cursor;
+    (*lent.cursor).offset = u64::from(before.offset as u32);
+    let number = real(lent);
+    if number != 0 {
+        *lent.cursor = before;
+        if number == 20 {
+            *lent.answer = before.offset;
+        }
+    }
+    number
+}
+
+/// A `>` at the offset, after `]]`, ends an empty piece.
+unsafe fn looked_back(lent: &Lent, real: Run) -> u32 {
+    let before = *lent.cursor;
+    let number = real(lent);
+    let at = before.offset as usize;
+    if number == 0 && at >= 2 && at < lent.text_length {
+        let around = lent.text.add(at - 2).cast::<[u8; 3]>();
+        if *around == *b"]]>" {
+            *lent.answer.add(1) = 0;
+            *lent.cursor = before;
+        }
+    }
+    number
 }

@@ -1,10 +1,15 @@
 //! What the calls are tried on.
 
+pub mod cdata;
+pub mod eols;
+pub mod escape;
 pub mod number;
 pub mod text;
+pub mod trim;
 pub mod utf8;
+pub mod woven;
 
-use crate::calls::{Arguments, Place};
+use crate::calls::{Arguments, Place, Room, ROOMS};
 use crate::oracle::LONGEST_TEXT;
 use crate::random::Random;
 use std::alloc::{alloc_zeroed, dealloc, Layout};
@@ -15,11 +20,15 @@ pub type Family = fn(&mut Random, &mut Sink);
 
 /// The lengths that block loops get wrong, at which texts are also tried at every address.
 pub const SHORT_LENGTHS: std::ops::RangeInclusive<usize> = 0..=70;
+/// Where blocks of 8, 16, 32 and 64 bytes end and begin.
+pub const BLOCK_ENDS: [usize; 8] = [7, 8, 15, 16, 31, 32, 63, 64];
 pub const PAGE: usize = 4096;
 pub const MEBIBYTE: usize = 1 << 20;
+/// Outputs are longer than the result by fewer bytes than this.
+pub const MOST_SPARE: usize = 40;
 
 /// Every sequence of `length` symbols of the alphabet.
-pub fn every_sequence(alphabet: &[u8], length: usize, each: &mut dyn FnMut(&[u8])) {
+pub fn every_sequence<T: Copy>(alphabet: &[T], length: usize, each: &mut dyn FnMut(&[T])) {
     let mut digits = vec![0; length];
     let mut sequence = vec![alphabet[0]; length];
     loop {
@@ -112,10 +121,7 @@ pub fn random_length(random: &mut Random) -> usize {
 
 /// No text at all, the longest texts allowed, and longer ones.
 pub fn limits(_: &mut Random, sink: &mut Sink) {
-    sink(Arguments {
-        text: &[],
-        place: Place::Null,
-    });
+    sink(Arguments::at(Place::Null, &[]));
     let mut text = vec![b'0'; LONGEST_TEXT + 1];
     for last in [b'0', b'1', 0x80] {
         text[LONGEST_TEXT - 1] = last;
@@ -129,6 +135,53 @@ pub fn limits(_: &mut Random, sink: &mut Sink) {
     lengths_of_33_bits(sink);
 }
 
+/// The text with each of the levels or versions in each room.
+pub fn each_room(choices: &[u8], arguments: Arguments, sink: &mut Sink) {
+    for &choice in choices {
+        for room in ROOMS {
+            sink(Arguments {
+                choice,
+                room,
+                ..arguments
+            });
+        }
+    }
+}
+
+/// The text with one of the levels or versions, mostly in room enough.
+pub fn some_room(random: &mut Random, choices: &[u8], arguments: Arguments, sink: &mut Sink) {
+    let room = match random.below(8) {
+        0 => Room::Short,
+        1 => Room::Null,
+        2 => Room::Exact,
+        _ => Room::Spare(random.below(MOST_SPARE)),
+    };
+    sink(Arguments {
+        choice: random.pick(choices),
+        room,
+        ..arguments
+    });
+}
+
+/// Every level or version: those that are none come after the text's length, before its bytes.
+pub fn unknown_choices(_: &mut Random, sink: &mut Sink) {
+    for choice in 0..=255 {
+        for text in [b"" as &[u8], b"a", b"\r<", b"\xC3"] {
+            for room in ROOMS {
+                sink(Arguments {
+                    choice,
+                    room,
+                    ..Arguments::text(text)
+                });
+            }
+        }
+    }
+    sink(Arguments {
+        choice: 255,
+        ..Arguments::text(&vec![b'a'; LONGEST_TEXT + 1])
+    });
+}
+
 /// Lengths whose low 32 bits are few. Such a text is not to be read: it has addresses, no memory.
 fn lengths_of_33_bits(sink: &mut Sink) {
     let longest = (1 << 32) + 5;
@@ -140,11 +193,9 @@ fn lengths_of_33_bits(sink: &mut Sink) {
         return;
     }
     for length in [1 << 32, longest] {
-        sink(Arguments {
-            // SAFETY: `length` bytes of the allocation, which nothing writes to.
-            text: unsafe { std::slice::from_raw_parts(start, length) },
-            place: Place::Itself,
-        });
+        // SAFETY: `length` bytes of the allocation, which nothing writes to.
+        let text = unsafe { std::slice::from_raw_parts(start, length) };
+        sink(Arguments::at(Place::Itself, text));
     }
     // SAFETY: allocated above with this layout, and no slice of it is left.
     unsafe { dealloc(start, layout) };

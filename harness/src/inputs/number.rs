@@ -174,11 +174,11 @@ pub fn every_length_and_address(random: &mut Random, sink: &mut Sink) {
         for address in 0..ALIGNMENTS * ROUNDS {
             let place = Place::At(address % ALIGNMENTS);
             let mut text = random_number(random, length);
-            sink(Arguments { text: &text, place });
+            sink(Arguments::at(place, &text));
             spoil_at_random(random, &mut text, TROUBLE);
-            sink(Arguments { text: &text, place });
+            sink(Arguments::at(place, &text));
             let text = random_digits(random, length);
-            sink(Arguments { text: &text, place });
+            sink(Arguments::at(place, &text));
         }
     }
 }

@@ -20,9 +20,27 @@ pub const MIXES: [Mix; 5] = [Mix::Ascii, Mix::Sparse, Mix::Dense, Mix::Cjk, Mix:
 
 /// A text of exactly `length` bytes: where the next character does not fit, ASCII ends it.
 pub fn text(random: &mut Random, mix: Mix, length: usize) -> Vec<u8> {
+    woven(random, mix, &[], 1, length)
+}
+
+/// The same with one of the pieces, if any, in the place of one character out of `gap`.
+pub fn woven(
+    random: &mut Random,
+    mix: Mix,
+    pieces: &[&[u8]],
+    gap: usize,
+    length: usize,
+) -> Vec<u8> {
     let mut text = Vec::with_capacity(length);
     let mut count = 0;
     while text.len() < length {
+        if !pieces.is_empty() && random.below(gap) == 0 {
+            let piece = random.pick(pieces);
+            if text.len() + piece.len() <= length {
+                text.extend_from_slice(piece);
+                continue;
+            }
+        }
         let mut character = character(random, mix, text.len(), count);
         if text.len() + character.len_utf8() > length {
             character = ascii(random);

@@ -2,7 +2,7 @@
 
 use super::text::{text, Mix, MIXES};
 use super::{every_sequence, every_spoiled, random_length, spoil, spoil_at_random, Sink, Spoil};
-use super::{MEBIBYTE, PAGE, SHORT_LENGTHS, SPOILS};
+use super::{BLOCK_ENDS, MEBIBYTE, PAGE, SHORT_LENGTHS, SPOILS};
 use crate::buffers::ALIGNMENTS;
 use crate::calls::{Arguments, Place};
 use crate::random::Random;
@@ -20,9 +20,6 @@ const EDGES: [u32; 26] = [
     0xDFFF, 0xE000, 0xFFFD, 0xFFFF, 0x1_0000, 0x3_FFFF, 0x4_0000, 0xF_FFFF, 0x10_0000, 0x10_FFFF,
     0x11_0000, 0x13_FFFF, 0x1F_FFFF,
 ];
-
-/// Where blocks of 8, 16, 32 and 64 bytes end and begin.
-const BLOCK_ENDS: [usize; 8] = [7, 8, 15, 16, 31, 32, 63, 64];
 
 /// A number of at most `bits(width)` bits in so many bytes, whether the standard allows it or not.
 fn encoded(number: u32, width: usize) -> Vec<u8> {
@@ -155,9 +152,9 @@ pub fn every_length_and_address(random: &mut Random, sink: &mut Sink) {
             let place = Place::At(address % ALIGNMENTS);
             for mix in MIXES {
                 let mut text = text(random, mix, length);
-                sink(Arguments { text: &text, place });
+                sink(Arguments::at(place, &text));
                 spoil_at_random(random, &mut text, &TROUBLE);
-                sink(Arguments { text: &text, place });
+                sink(Arguments::at(place, &text));
             }
         }
     }
