@@ -2,17 +2,17 @@
 use mathlib.Core.Path.{_≡_, refl, sym, _∙_, ap, subst}
 use Prim.Native.Nat.{ℕ, zero, suc, _+_, _-_, _≤_, _<_}
 use native.Mathlib.Omega.{arith}
-use native.Mathlib.Numerals.{add-one}
 use mathlib.Core.Bool.{Bool, true, false, _||_}
 use mathlib.Core.List.{List, [], _∷_, reverse, reverse-append}
 use lib.ListN.{length, take, drop, getD, length-drop, drop-of-length-le}
-use lib.Seq.{take-suc, take-length, take-all, drop-cons, getD-drop}
+use lib.Seq.{take-suc, take-length, getD-drop}
 use lib.Dec.{eqb, ltb}
 use Rattle.text.specs.Bytes.{pick}
 use Rattle.text.specs.Utf8.{WellFormed}
 use Rattle.text.proofs.Utf8.{split-ascii}
 use Rattle.text.proofs.Bytes.{contrary, pick-both}
 use borrow.Author.Tests.{eqb-true, ltb-true, ltb-false}
+use Rattle.utils.proofs.Rest.{byte-first, rest}
 use Rattle.utils.specs.Trim.{isWhitespace, blanks, trimStart, trimEnd, trimSpaces, partOf}
 use Rattle.utils.specs.declared.Part.{Part}
 
@@ -28,14 +28,11 @@ unfolding blanks
 stopped b bs e = rw e
 
 module _ (t : List ℕ) (i : ℕ) where
-  at : i < length t → drop i t ≡ getD t i 0 ∷ drop (i + 1) t
-  at h = drop-cons t i 0 h ∙ ap (λ (n : ℕ). getD t i 0 ∷ drop n t) (sym (add-one i))
-
   pub blank-on : i < length t → isWhitespace (getD t i 0) ≡ true → i + blanks (drop i t) ≡ (i + 1) + blanks (drop (i + 1) t)
-  blank-on h e = omega (arith, ap blanks (at h), counted (getD t i 0) (drop (i + 1) t) e)
+  blank-on h e = omega (arith, ap blanks (byte-first t i h), counted (getD t i 0) (drop (i + 1) t) e)
 
   pub blank-stop : i < length t → isWhitespace (getD t i 0) ≡ false → i + blanks (drop i t) ≡ i
-  blank-stop h e = omega (arith, ap blanks (at h), stopped (getD t i 0) (drop (i + 1) t) e)
+  blank-stop h e = omega (arith, ap blanks (byte-first t i h), stopped (getD t i 0) (drop (i + 1) t) e)
 
   pub blank-over : length t ≤ i → i + blanks (drop i t) ≡ i
   unfolding blanks
@@ -93,10 +90,6 @@ blanks-le (b ∷ bs) = pick-both (λ (n : ℕ). n ≤ suc (length bs)) (isWhites
 pub start-fits : (t : List ℕ) (p : Part) → p ≡ trimStart t → p .start ≤ length t
 unfolding trimStart
 start-fits t p e = omega (arith, ap (λ (q : Part). q .start) e, blanks-le t)
-
--- lent on as `&text[n..]`
-rest : (t : List ℕ) (n : ℕ) → take (length t - n) (drop n t) ≡ drop n t
-rest t n = take-all (length t - n) (drop n t) (omega (arith, length-drop n t))
 
 module _ (t : List ℕ) (p q : Part) where
   pub spaces-at : p ≡ trimStart t → q ≡ trimEnd (take (length t - p .start) (drop (p .start) t))
