@@ -93,6 +93,9 @@ cut-past t i (suc n) h c =
     next : (a b : ℕ) → a + suc b ≡ a + 1 + b
     next a b = omega arith
 
+pub passed-on : (t : List ℕ) (from i k : ℕ) → Passed t from i → Passed t i k → Passed t from k
+passed-on t from i k p q = record { fits = q .fits; on = p .on ∙ q .on }
+
 pub passed-block : (t : List ℕ) (from i n : ℕ) → Passed t from i → i + n ≤ length t → Clear t i n → Passed t from (i + n)
 passed-block t from i n p h c = record { fits = h; on = p .on ∙ cut-past t i n h c }
 

@@ -11,10 +11,27 @@ use Rattle.text.specs.Bytes.{pick}
 use Rattle.text.specs.Utf8.{WellFormed}
 use Rattle.text.proofs.Utf8.{split-ascii}
 use Rattle.text.proofs.Bytes.{contrary, pick-both}
-use borrow.Author.Tests.{eqb-true, ltb-true, ltb-false}
+use mathlib.Core.Logic.{_⊎_, inl, inr, ⊎-elim}
+use borrow.Author.Tests.{eqb-true, eqb-false, ne-eqb, ltb-true, ltb-false}
 use Rattle.utils.proofs.Rest.{byte-first, rest}
 use Rattle.utils.specs.Trim.{isWhitespace, blanks, trimStart, trimEnd, trimSpaces, partOf}
 use Rattle.utils.specs.declared.Part.{Part}
+
+-- ---- white space
+
+module _ (b : ℕ) where
+  pub white-keys : (b ≡ 13) ⊎ (b ≡ 32) → true ≡ isWhitespace b
+  white-keys k = ⊎-elim (λ e. rw e) (λ e. rw e) k
+
+  pub white-range : 9 ≤ b → b < 11 → true ≡ isWhitespace b
+  white-range g h = go (eqb b 9) refl
+    where
+      go : (w : Bool) → eqb b 9 ≡ w → true ≡ isWhitespace b
+      go true e = rw (eqb-true b 9 e)
+      go false e = let z : b ≡ 10 = omega (arith, eqb-false b 9 e) in rw z
+
+  pub no-white : ((b ≡ 13) ⊎ (b ≡ 32) → ⊥) → (b ≡ 9 → ⊥) → (b ≡ 10 → ⊥) → false ≡ isWhitespace b
+  no-white n f g = rw (ne-eqb b 32 (λ e. n (inr e)), ne-eqb b 9 f, ne-eqb b 13 (λ e. n (inl e)), ne-eqb b 10 g)
 
 -- ---- the start
 

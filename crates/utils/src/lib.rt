@@ -35,7 +35,10 @@ pub struct Stepped {
 pub fn is_whitespace(b: u8) -> bool
     ensures { λ r. ⌜ r ≡ isWhitespace b ⌝ }
 {
-    (b == b' ') | (b == b'\t') | (b == b'\r') | (b == b'\n')
+    match b {
+        b' ' | b'\t' | b'\r' | b'\n' => true,
+        _ => false,
+    }
 }
 
 pub fn trim_xml_start(text: &[u8]) -> Part
@@ -96,43 +99,44 @@ fn closes_at(text: &[u8], i: usize) -> bool
     (text[i] == b']') & (text[i + 1] == b']') & (text[i + 2] == b'>')
 }
 
-// Is there a `>` where a `]]>` ends that stands at one of the 32 bytes from i on?
-fn any_gt(text: &[u8], i: usize) -> bool
-    requires { ⌜ i + 34 ≤ length (now text) ⌝ }
-    ensures { λ r. ⌜ (r ≡ false → Clear (now (text .entry)) i 32) ⌝ }
+// Is there a `>` where a `]]>` ends that stands at one of the count bytes from i on?
+fn any_gt(text: &[u8], i: usize, count: usize) -> bool
+    requires { ⌜ i + count + 2 ≤ length (now text) ⌝ }
+    ensures { λ r. ⌜ (r ≡ false → Clear (now (text .entry)) i count) ⌝ }
 {
     let mut hit = false;
-    for k in 0..32usize {
+    for k in 0..count {
         hit = hit | (text[i + k + 2] == b'>');
     }
     hit
 }
 
-// Does `]]>` stand at one of the 32 bytes from i on?
-fn any_closing(text: &[u8], i: usize) -> bool
-    requires { ⌜ i + 34 ≤ length (now text) ⌝ }
-    ensures { λ r. ⌜ (r ≡ false → Clear (now (text .entry)) i 32) ⌝ }
+// Does `]]>` stand at one of the count bytes from i on?
+fn any_closing(text: &[u8], i: usize, count: usize) -> bool
+    requires { ⌜ i + count + 2 ≤ length (now text) ⌝ }
+    ensures { λ r. ⌜ (r ≡ false → Clear (now (text .entry)) i count) ⌝ }
 {
     let mut hit = false;
-    for k in 0..32usize {
+    for k in 0..count {
         hit = hit | closes_at(text, i + k);
     }
     hit
 }
 
-// A block is passed for want of a `>`, which is quick to see, or of the whole `]]>`.
-fn skip_blocks(text: &[u8], from: usize) -> usize
+// A block of size bytes is passed for want of a `>`, which is quick to see, or of the whole `]]>`.
+fn skip_blocks(text: &[u8], from: usize, size: usize) -> usize
     requires { ⌜ from ≤ length (now text) ⌝ }
+    requires { ⌜ (0 < size) × (size ≤ 128) ⌝ }
     ensures { λ r. ⌜ Passed (now (text .entry)) from r ⌝ }
 {
     let mut i = from;
-    while 34 <= text.len() - i {
-        if any_gt(text, i) {
-            if any_closing(text, i) {
+    while size + 2 <= text.len() - i {
+        if any_gt(text, i, size) {
+            if any_closing(text, i, size) {
                 return i;
             }
         }
-        i += 32;
+        i += size;
     }
     i
 }
@@ -142,7 +146,8 @@ fn piece_end(text: &[u8], from: usize) -> usize
     requires { ⌜ from ≤ length (now text) ⌝ }
     ensures { λ r. ⌜ r ≡ from + firstCut (drop from (now (text .entry))) ⌝ }
 {
-    let mut i = skip_blocks(text, from);
+    let near = skip_blocks(text, from, 128);
+    let mut i = skip_blocks(text, near, 32);
     while 3 <= text.len() - i {
         if closes_at(text, i) {
             return i + 2;
