@@ -5,7 +5,7 @@ ghost use mathlib.Core.Bool.{true, false};
 ghost use lib.ListN.{length, drop};
 ghost use Rattle.utils.specs.Trim.{isWhitespace, trimStart, trimEnd, trimSpaces};
 ghost use Rattle.utils.specs.CData.{firstCut, outside, cdataStep, pieceAnswer};
-ghost use Rattle.utils.specs.Blocks.{closesAt, Clear, Passed};
+ghost use Rattle.utils.specs.Blocks.{Blank, Skipped, Dropped, closesAt, Clear, Passed};
 use text::Answer;
 
 pub struct Part {
@@ -35,16 +35,53 @@ pub struct Stepped {
 pub fn is_whitespace(b: u8) -> bool
     ensures { λ r. ⌜ r ≡ isWhitespace b ⌝ }
 {
-    match b {
-        b' ' | b'\t' | b'\r' | b'\n' => true,
-        _ => false,
+    (b == b' ') | (b == b'\t') | (b == b'\r') | (b == b'\n')
+}
+
+// Is one of the 32 bytes from i on no white space?
+fn any_other(text: &[u8], i: usize) -> bool
+    requires { ⌜ i + 32 ≤ length (now text) ⌝ }
+    ensures { λ r. ⌜ (r ≡ false → Blank (now (text .entry)) i 32) ⌝ }
+{
+    let mut hit = false;
+    for k in 0..32usize {
+        hit = hit | !is_whitespace(text[i + k]);
     }
+    hit
+}
+
+// Blocks of white space at the start.
+fn skip_blanks(text: &[u8]) -> usize
+    ensures { λ r. ⌜ Skipped (now (text .entry)) r ⌝ }
+{
+    let mut i: usize = 0;
+    while 32 <= text.len() - i {
+        if any_other(text, i) {
+            return i;
+        }
+        i += 32;
+    }
+    i
+}
+
+// Blocks of white space at the end.
+fn drop_blanks(text: &[u8]) -> usize
+    ensures { λ r. ⌜ Dropped (now (text .entry)) r ⌝ }
+{
+    let mut end = text.len();
+    while 32 <= end {
+        if any_other(text, end - 32) {
+            return end;
+        }
+        end -= 32;
+    }
+    end
 }
 
 pub fn trim_xml_start(text: &[u8]) -> Part
     ensures { λ r. ⌜ r ≡ trimStart (now (text .entry)) ⌝ }
 {
-    let mut i: usize = 0;
+    let mut i = skip_blanks(text);
     while i < text.len() {
         if !is_whitespace(text[i]) {
             return Part {
@@ -63,7 +100,7 @@ pub fn trim_xml_start(text: &[u8]) -> Part
 pub fn trim_xml_end(text: &[u8]) -> Part
     ensures { λ r. ⌜ r ≡ trimEnd (now (text .entry)) ⌝ }
 {
-    let mut end = text.len();
+    let mut end = drop_blanks(text);
     while 0 < end {
         if !is_whitespace(text[end - 1]) {
             return Part {
