@@ -37,6 +37,7 @@ normalizeEolsCall text version out =
 unfoldable pub partCall : List ℕ → Part → Called
 partCall text part = guarded (textCheck text) [] (called 0 (part .start ∷ part .length ∷ []) [])
 
+-- document 01, trimming: the part that this trim finds
 unfoldable pub trimCall : (List ℕ → Part) → List ℕ → Called
 unfolding partCall
 trimCall trim text = partCall text (trim text)

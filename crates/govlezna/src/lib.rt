@@ -164,6 +164,7 @@ pub extern "C" fn govlezna_trim_xml_spaces(text: &[u8], answer: &mut [u64; 2]) -
     put_part(text, utils::trim_xml_spaces(text), answer)
 }
 
+// An answer beside the cursor that it leaves.
 fn leave(result: Answer, next: Cursor) -> CDataNext
     ensures { λ r. ⌜ r ≡ cursorLeft result next ⌝ }
 {
@@ -185,6 +186,7 @@ fn leave(result: Answer, next: Cursor) -> CDataNext
     }
 }
 
+// The by-value core: the checks of the text, then the step.
 fn cdata_next(text: &[u8], cursor: Cursor) -> CDataNext
     ensures { λ r. ⌜ r ≡ cdataNextCall (now (text .entry)) cursor ⌝ }
 {

@@ -2,15 +2,15 @@
 use mathlib.Core.Path.{_≡_, refl, sym, _∙_, ap}
 use Prim.Native.Nat.{ℕ, zero, suc, _+_, _-_, _≤_, _<_}
 use native.Mathlib.Omega.{arith}
-use native.Mathlib.Numerals.{add-one}
 use mathlib.Core.Bool.{Bool, true, false, _&&_}
 use mathlib.Core.List.{List, [], _∷_}
 use lib.ListN.{length, drop, getD, length-drop, drop-of-length-le, List·getD-eq-default}
-use lib.Seq.{drop-cons, getD-drop}
+use lib.Seq.{getD-drop}
 use lib.Dec.{eqb, ltb}
 use borrow.Author.Tests.{le-ltb, ltb-false, eq-eqb, ne-eqb}
 use Rattle.text.specs.Bytes.{pick, begins}
 use Rattle.text.proofs.Bytes.{or-left}
+use Rattle.utils.proofs.Rest.{byte-first}
 use Rattle.utils.specs.CData.{closing, firstCut, stepped, outside, cdataStep}
 use Rattle.utils.specs.declared.Cursor.{Cursor}
 use Rattle.utils.specs.declared.Piece.the-variants.{Part, NoMore, Outside}
@@ -45,13 +45,10 @@ unfolding firstCut
 cut-at b bs = refl
 
 module _ (t : List ℕ) (i : ℕ) where
-  at : i < length t → drop i t ≡ getD t i 0 ∷ drop (i + 1) t
-  at h = drop-cons t i 0 h ∙ ap (λ (n : ℕ). getD t i 0 ∷ drop n t) (sym (add-one i))
-
   here : (w : Bool) → i < length t → closesAt t i ≡ w → firstCut (drop i t) ≡ pick w 2 (suc (firstCut (drop (i + 1) t)))
   here w h e =
-      ap firstCut (at h) ∙ cut-at (getD t i 0) (drop (i + 1) t)
-      ∙ ap (λ (v : Bool). pick v 2 (suc (firstCut (drop (i + 1) t)))) (ap (begins closing) (sym (at h)) ∙ sym (closes-is t i) ∙ e)
+      ap firstCut (byte-first t i h) ∙ cut-at (getD t i 0) (drop (i + 1) t)
+      ∙ ap (λ (v : Bool). pick v 2 (suc (firstCut (drop (i + 1) t)))) (ap (begins closing) (sym (byte-first t i h)) ∙ sym (closes-is t i) ∙ e)
 
   pub cut-here : i < length t → closesAt t i ≡ true → firstCut (drop i t) ≡ 2
   cut-here h e = here true h e
@@ -96,8 +93,8 @@ cut-past t i (suc n) h c =
     next : (a b : ℕ) → a + suc b ≡ a + 1 + b
     next a b = omega arith
 
-pub passed-none : (t : List ℕ) (i : ℕ) → i ≤ length t → Passed t i i
-passed-none t i h = record { fits = h; on = refl }
+pub passed-on : (t : List ℕ) (from i k : ℕ) → Passed t from i → Passed t i k → Passed t from k
+passed-on t from i k p q = record { fits = q .fits; on = p .on ∙ q .on }
 
 pub passed-block : (t : List ℕ) (from i n : ℕ) → Passed t from i → i + n ≤ length t → Clear t i n → Passed t from (i + n)
 passed-block t from i n p h c = record { fits = h; on = p .on ∙ cut-past t i n h c }

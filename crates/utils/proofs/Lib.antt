@@ -1,3 +1,4 @@
+pub mod Rest
 pub mod Trim
 pub mod Cuts
 pub mod Boundary

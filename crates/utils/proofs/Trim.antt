@@ -2,18 +2,19 @@
 use mathlib.Core.Path.{_≡_, refl, sym, _∙_, ap, subst}
 use Prim.Native.Nat.{ℕ, zero, suc, _+_, _-_, _≤_, _<_}
 use native.Mathlib.Omega.{arith}
-use native.Mathlib.Numerals.{add-one}
 use mathlib.Core.Bool.{Bool, true, false, _||_}
 use mathlib.Core.List.{List, [], _∷_, reverse, reverse-append}
 use lib.ListN.{length, take, drop, getD, length-drop, drop-of-length-le}
-use lib.Seq.{take-suc, take-length, take-all, drop-cons, getD-drop}
+use lib.Seq.{take-suc, take-length, getD-drop}
 use lib.Dec.{eqb, ltb}
 use Rattle.text.specs.Bytes.{pick}
 use Rattle.text.specs.Utf8.{WellFormed}
 use Rattle.text.proofs.Utf8.{split-ascii}
 use Rattle.text.proofs.Bytes.{contrary, pick-both}
 use borrow.Author.Tests.{eqb-true, ltb-true, ltb-false}
+use Rattle.utils.proofs.Rest.{byte-first, rest}
 use Rattle.utils.specs.Trim.{isWhitespace, blanks, trimStart, trimEnd, trimSpaces, partOf}
+use Rattle.utils.specs.Blocks.{Blank, Skipped, kept, Dropped}
 use Rattle.utils.specs.declared.Part.{Part}
 
 -- ---- the start
@@ -28,18 +29,30 @@ unfolding blanks
 stopped b bs e = rw e
 
 module _ (t : List ℕ) (i : ℕ) where
-  at : i < length t → drop i t ≡ getD t i 0 ∷ drop (i + 1) t
-  at h = drop-cons t i 0 h ∙ ap (λ (n : ℕ). getD t i 0 ∷ drop n t) (sym (add-one i))
-
   pub blank-on : i < length t → isWhitespace (getD t i 0) ≡ true → i + blanks (drop i t) ≡ (i + 1) + blanks (drop (i + 1) t)
-  blank-on h e = omega (arith, ap blanks (at h), counted (getD t i 0) (drop (i + 1) t) e)
+  blank-on h e = omega (arith, ap blanks (byte-first t i h), counted (getD t i 0) (drop (i + 1) t) e)
 
   pub blank-stop : i < length t → isWhitespace (getD t i 0) ≡ false → i + blanks (drop i t) ≡ i
-  blank-stop h e = omega (arith, ap blanks (at h), stopped (getD t i 0) (drop (i + 1) t) e)
+  blank-stop h e = omega (arith, ap blanks (byte-first t i h), stopped (getD t i 0) (drop (i + 1) t) e)
 
   pub blank-over : length t ≤ i → i + blanks (drop i t) ≡ i
   unfolding blanks
   blank-over h = omega (arith, ap blanks (drop-of-length-le t h))
+
+-- by blocks
+blank-past : (t : List ℕ) (i n : ℕ) → i + n ≤ length t → Blank t i n → i + blanks (drop i t) ≡ i + n + blanks (drop (i + n) t)
+blank-past t i zero h c = let z : i ≡ i + 0 = omega arith in ap (λ (m : ℕ). m + blanks (drop m t)) z
+blank-past t i (suc n) h c =
+    let e : i + n + 1 ≡ i + suc n = omega arith in
+    blank-past t i n (omega arith) (record { blank = λ k q. c .blank k (omega arith) })
+    ∙ blank-on t (i + n) (omega arith) (c .blank n (omega arith))
+    ∙ ap (λ (m : ℕ). m + blanks (drop m t)) e
+
+pub skipped-none : (t : List ℕ) → Skipped t 0
+skipped-none t = record { fits = omega arith; same = omega arith }
+
+pub skipped-block : (t : List ℕ) (i n : ℕ) → Skipped t i → i + n ≤ length t → Blank t i n → Skipped t (i + n)
+skipped-block t i n p h c = record { fits = h; same = sym (blank-past t i n h c) ∙ p .same }
 
 pub start-at : (t : List ℕ) (i : ℕ) → i ≡ blanks t → record { start = i; length = length t - i } ≡ trimStart t
 unfolding trimStart
@@ -51,10 +64,6 @@ start-none t e =
     ap (λ (n : ℕ). record { start = length t; length = n }) none ∙ start-at t (length t) e
 
 -- ---- the end
-
--- the length of the first `e` bytes without the white space at their end
-abbrev pub kept : List ℕ → ℕ → ℕ
-kept t e = e - blanks (reverse (take e t))
 
 module _ (t : List ℕ) (n : ℕ) (h : n < length t) where
   backwards : reverse (take (suc n) t) ≡ getD t n 0 ∷ reverse (take n t)
@@ -76,8 +85,25 @@ module _ (t : List ℕ) (e : ℕ) (p : 0 < e) (h : e ≤ length t) where
   pub kept-stop : isWhitespace (getD t (e - 1) 0) ≡ false → kept t e ≡ e
   kept-stop w = ap (kept t) before ∙ kept-all t (e - 1) (omega arith) w ∙ sym before
 
-pub kept-whole : (t : List ℕ) → kept t (length t) ≡ length t - blanks (reverse t)
+-- by blocks
+kept-past : (t : List ℕ) (e n : ℕ) → n ≤ e → e ≤ length t → Blank t (e - n) n → kept t e ≡ kept t (e - n)
+kept-past t e zero p h c = let z : e ≡ e - 0 = omega arith in ap (kept t) z
+kept-past t e (suc n) p h c =
+    let x : e - suc n + 0 ≡ e - n - 1 = omega arith in
+    let y : e - n - 1 ≡ e - suc n = omega arith in
+    kept-past t e n (omega arith) h
+    (record { blank = λ k q. let z : e - suc n + (k + 1) ≡ e - n + k = omega arith in ap (λ (i : ℕ). isWhitespace (getD t i 0)) (sym z) ∙ c .blank (k + 1) (omega arith) })
+    ∙ kept-on t (e - n) (omega arith) (omega arith) (ap (λ (i : ℕ). isWhitespace (getD t i 0)) (sym x) ∙ c .blank 0 (omega arith))
+    ∙ ap (kept t) y
+
+pub dropped-block : (t : List ℕ) (e n : ℕ) → Dropped t e → n ≤ e → Blank t (e - n) n → Dropped t (e - n)
+dropped-block t e n p h c = record { fits = omega (arith, p .fits); same = sym (kept-past t e n h (p .fits) c) ∙ p .same }
+
+kept-whole : (t : List ℕ) → kept t (length t) ≡ length t - blanks (reverse t)
 kept-whole t = ap (λ (u : List ℕ). length t - blanks (reverse u)) (take-length t)
+
+pub dropped-none : (t : List ℕ) → Dropped t (length t)
+dropped-none t = record { fits = omega arith; same = kept-whole t }
 
 pub end-at : (t : List ℕ) (e : ℕ) → e ≡ length t - blanks (reverse t) → record { start = 0; length = e } ≡ trimEnd t
 unfolding trimEnd
@@ -93,10 +119,6 @@ blanks-le (b ∷ bs) = pick-both (λ (n : ℕ). n ≤ suc (length bs)) (isWhites
 pub start-fits : (t : List ℕ) (p : Part) → p ≡ trimStart t → p .start ≤ length t
 unfolding trimStart
 start-fits t p e = omega (arith, ap (λ (q : Part). q .start) e, blanks-le t)
-
--- lent on as `&text[n..]`
-rest : (t : List ℕ) (n : ℕ) → take (length t - n) (drop n t) ≡ drop n t
-rest t n = take-all (length t - n) (drop n t) (omega (arith, length-drop n t))
 
 module _ (t : List ℕ) (p q : Part) where
   pub spaces-at : p ≡ trimStart t → q ≡ trimEnd (take (length t - p .start) (drop (p .start) t))

@@ -21,6 +21,7 @@ unfoldable pub firstCut : List ℕ → ℕ
 firstCut [] = 0
 firstCut (b ∷ bs) = pick (begins closing (b ∷ bs)) 2 (suc (firstCut bs))
 
+-- an answer, and the cursor after it
 abbrev pub stepped : Piece → ℕ → ℕ → Stepped
 stepped piece offset finished = record { piece = piece; next = record { offset = offset; finished = finished } }
 

@@ -29,6 +29,7 @@ unfoldable pub pieces : List ℕ → List (List ℕ)
 unfolding piecesIn
 pieces text = piecesIn (length text + 1) text
 
+-- CDATA: the pieces joined
 abbrev pub joined : List (List ℕ) → List ℕ
 joined [] = []
 joined (p ∷ ps) = p ++ joined ps
@@ -40,6 +41,7 @@ pub record AtCut (piece after : List ℕ) : Type 0 where
   pub ends : piece ≡ front ++ (93 ∷ 93 ∷ [])
   pub begun : after ≡ 62 ∷ rest
 
+-- a cursor by its two fields
 abbrev pub cursorAt : ℕ → ℕ → Cursor
 cursorAt offset finished = record { offset = offset; finished = finished }
 

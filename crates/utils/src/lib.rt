@@ -5,7 +5,7 @@ ghost use mathlib.Core.Bool.{true, false};
 ghost use lib.ListN.{length, drop};
 ghost use Rattle.utils.specs.Trim.{isWhitespace, trimStart, trimEnd, trimSpaces};
 ghost use Rattle.utils.specs.CData.{firstCut, outside, cdataStep, pieceAnswer};
-ghost use Rattle.utils.specs.Blocks.{closesAt, Clear, Passed};
+ghost use Rattle.utils.specs.Blocks.{Blank, Skipped, Dropped, closesAt, Clear, Passed};
 use text::Answer;
 
 pub struct Part {
@@ -38,10 +38,50 @@ pub fn is_whitespace(b: u8) -> bool
     (b == b' ') | (b == b'\t') | (b == b'\r') | (b == b'\n')
 }
 
+// Is one of the 32 bytes from i on no white space?
+fn any_other(text: &[u8], i: usize) -> bool
+    requires { ⌜ i + 32 ≤ length (now text) ⌝ }
+    ensures { λ r. ⌜ (r ≡ false → Blank (now (text .entry)) i 32) ⌝ }
+{
+    let mut hit = false;
+    for k in 0..32usize {
+        hit = hit | !is_whitespace(text[i + k]);
+    }
+    hit
+}
+
+// Blocks of white space at the start.
+fn skip_blanks(text: &[u8]) -> usize
+    ensures { λ r. ⌜ Skipped (now (text .entry)) r ⌝ }
+{
+    let mut i: usize = 0;
+    while 32 <= text.len() - i {
+        if any_other(text, i) {
+            return i;
+        }
+        i += 32;
+    }
+    i
+}
+
+// Blocks of white space at the end.
+fn drop_blanks(text: &[u8]) -> usize
+    ensures { λ r. ⌜ Dropped (now (text .entry)) r ⌝ }
+{
+    let mut end = text.len();
+    while 32 <= end {
+        if any_other(text, end - 32) {
+            return end;
+        }
+        end -= 32;
+    }
+    end
+}
+
 pub fn trim_xml_start(text: &[u8]) -> Part
     ensures { λ r. ⌜ r ≡ trimStart (now (text .entry)) ⌝ }
 {
-    let mut i: usize = 0;
+    let mut i = skip_blanks(text);
     while i < text.len() {
         if !is_whitespace(text[i]) {
             return Part {
@@ -60,7 +100,7 @@ pub fn trim_xml_start(text: &[u8]) -> Part
 pub fn trim_xml_end(text: &[u8]) -> Part
     ensures { λ r. ⌜ r ≡ trimEnd (now (text .entry)) ⌝ }
 {
-    let mut end = text.len();
+    let mut end = drop_blanks(text);
     while 0 < end {
         if !is_whitespace(text[end - 1]) {
             return Part {
@@ -96,43 +136,44 @@ fn closes_at(text: &[u8], i: usize) -> bool
     (text[i] == b']') & (text[i + 1] == b']') & (text[i + 2] == b'>')
 }
 
-// Is there a `>` where a `]]>` ends that stands at one of the 32 bytes from i on?
-fn any_gt(text: &[u8], i: usize) -> bool
-    requires { ⌜ i + 34 ≤ length (now text) ⌝ }
-    ensures { λ r. ⌜ (r ≡ false → Clear (now (text .entry)) i 32) ⌝ }
+// Is there a `>` where a `]]>` ends that stands at one of the count bytes from i on?
+fn any_gt(text: &[u8], i: usize, count: usize) -> bool
+    requires { ⌜ i + count + 2 ≤ length (now text) ⌝ }
+    ensures { λ r. ⌜ (r ≡ false → Clear (now (text .entry)) i count) ⌝ }
 {
     let mut hit = false;
-    for k in 0..32usize {
+    for k in 0..count {
         hit = hit | (text[i + k + 2] == b'>');
     }
     hit
 }
 
-// Does `]]>` stand at one of the 32 bytes from i on?
-fn any_closing(text: &[u8], i: usize) -> bool
-    requires { ⌜ i + 34 ≤ length (now text) ⌝ }
-    ensures { λ r. ⌜ (r ≡ false → Clear (now (text .entry)) i 32) ⌝ }
+// Does `]]>` stand at one of the count bytes from i on?
+fn any_closing(text: &[u8], i: usize, count: usize) -> bool
+    requires { ⌜ i + count + 2 ≤ length (now text) ⌝ }
+    ensures { λ r. ⌜ (r ≡ false → Clear (now (text .entry)) i count) ⌝ }
 {
     let mut hit = false;
-    for k in 0..32usize {
+    for k in 0..count {
         hit = hit | closes_at(text, i + k);
     }
     hit
 }
 
-// A block is passed for want of a `>`, which is quick to see, or of the whole `]]>`.
-fn skip_blocks(text: &[u8], from: usize) -> usize
+// A block of size bytes is passed for want of a `>`, which is quick to see, or of the whole `]]>`.
+fn skip_blocks(text: &[u8], from: usize, size: usize) -> usize
     requires { ⌜ from ≤ length (now text) ⌝ }
+    requires { ⌜ (0 < size) × (size ≤ 128) ⌝ }
     ensures { λ r. ⌜ Passed (now (text .entry)) from r ⌝ }
 {
     let mut i = from;
-    while 34 <= text.len() - i {
-        if any_gt(text, i) {
-            if any_closing(text, i) {
+    while size + 2 <= text.len() - i {
+        if any_gt(text, i, size) {
+            if any_closing(text, i, size) {
                 return i;
             }
         }
-        i += 32;
+        i += size;
     }
     i
 }
@@ -142,7 +183,8 @@ fn piece_end(text: &[u8], from: usize) -> usize
     requires { ⌜ from ≤ length (now text) ⌝ }
     ensures { λ r. ⌜ r ≡ from + firstCut (drop from (now (text .entry))) ⌝ }
 {
-    let mut i = skip_blocks(text, from);
+    let near = skip_blocks(text, from, 128);
+    let mut i = skip_blocks(text, near, 32);
     while 3 <= text.len() - i {
         if closes_at(text, i) {
             return i + 2;

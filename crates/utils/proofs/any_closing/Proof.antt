@@ -1,4 +1,4 @@
--- `utils::any_closing` tests each of 32 bytes. The invariant: `]]>` stands at none of those passed. Assumes nothing.
+-- `utils::any_closing` tests each byte of a block. The invariant: `]]>` stands at none of those passed. Assumes nothing.
 use Prim.Native.Nat.{_-_, _≤_}
 use native.Mathlib.Omega.{arith}
 use mathlib.Core.Path.{_≡_, sym, _∙_}
@@ -11,10 +11,10 @@ use Rattle.utils.proofs.any_closing.Statement.{statement}
 use Rattle.utils.proofs.any_closing.Tie as tie
 
 abbrev Inv-loop : tie.InvT-loop
-Inv-loop text i hit₀ k₀ hit k = (k ≤ 32) × (hit ≡ false → Clear text i k)
+Inv-loop text i count hit₀ k₀ hit k = (k ≤ count) × (hit ≡ false → Clear text i k)
 
 abbrev μ-loop : tie.MeasureT-loop
-μ-loop text i hit₀ k₀ hit k = 32 - k
+μ-loop text i count hit₀ k₀ hit k = count - k
 
 loop-holds : tie.Need-loop-holds Inv-loop μ-loop
 loop-holds c = (search needs, λ e. record { clear = below-none _ })

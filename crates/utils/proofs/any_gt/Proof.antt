@@ -12,10 +12,10 @@ use Rattle.utils.proofs.any_gt.Statement.{statement}
 use Rattle.utils.proofs.any_gt.Tie as tie
 
 abbrev Inv-loop : tie.InvT-loop
-Inv-loop text i hit₀ k₀ hit k = (k ≤ 32) × (hit ≡ false → Clear text i k)
+Inv-loop text i count hit₀ k₀ hit k = (k ≤ count) × (hit ≡ false → Clear text i k)
 
 abbrev μ-loop : tie.MeasureT-loop
-μ-loop text i hit₀ k₀ hit k = 32 - k
+μ-loop text i count hit₀ k₀ hit k = count - k
 
 loop-holds : tie.Need-loop-holds Inv-loop μ-loop
 loop-holds c = (search needs, λ e. record { clear = below-none _ })

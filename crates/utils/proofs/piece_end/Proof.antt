@@ -4,22 +4,25 @@ use native.Mathlib.Omega.{arith}
 use mathlib.Core.Path.{sym, _∙_}
 use lib.ListN.{length}
 use Rattle.utils.specs.Blocks.{Passed}
-use Rattle.utils.proofs.Cuts.{passed-block, end-cut, end-last, clear-one}
+use Rattle.utils.proofs.Cuts.{passed-on, passed-block, end-cut, end-last, clear-one}
 use borrow.Author.Needs.{needs}
 use Rattle.utils.proofs.piece_end.Statement.{statement}
 use Rattle.utils.proofs.piece_end.Tie as tie
 
 abbrev Inv-loop : tie.InvT-loop
-Inv-loop text from i₀ i = Passed text from i
+Inv-loop text from near i₀ i = Passed text from i
 
 abbrev μ-loop : tie.MeasureT-loop
-μ-loop text from i₀ i = length text - i
+μ-loop text from near i₀ i = length text - i
 
 skip-blocks-requires : tie.Need-skip-blocks-requires Inv-loop μ-loop
 skip-blocks-requires c κs = search needs
 
+skip-blocks-requires-2 : tie.Need-skip-blocks-requires-2 Inv-loop μ-loop
+skip-blocks-requires-2 c κs = search needs
+
 loop-holds : tie.Need-loop-holds Inv-loop μ-loop
-loop-holds c = c .skip-blocks .ensures
+loop-holds c = passed-on _ _ _ _ (c .before .skip-blocks .ensures) (c .skip-blocks2 .ensures)
 
 sub-loop : tie.Need-sub-loop Inv-loop μ-loop
 sub-loop c = search needs
@@ -42,7 +45,7 @@ loop-less c = search needs
 loop-again : tie.Need-loop-again Inv-loop μ-loop
 loop-again c =
     let l = c .before .before .before .loop in
-    passed-block (c .before .before .before .before .before .before .args .text .now) (c .before .before .before .before .before .before .args .from) (l .i) 1 (l .inv) (omega (arith, l .inv .fits)) (clear-one (c .before .before .before .before .before .before .args .text .now) (l .i) (sym (c .before .closes-at .ensures) ∙ c .if1 .left))
+    passed-block (c .before .before .before .before .before .before .before .args .text .now) (c .before .before .before .before .before .before .before .args .from) (l .i) 1 (l .inv) (omega (arith, l .inv .fits)) (clear-one (c .before .before .before .before .before .before .before .args .text .now) (l .i) (sym (c .before .closes-at .ensures) ∙ c .if1 .left))
 
 returns-2 : tie.Need-returns-2 Inv-loop μ-loop
 returns-2 c = end-last _ _ _ (c .before .loop .inv) (omega (arith, c .before .loop .inv .fits))
@@ -54,6 +57,7 @@ piece-end-spec =
     Inv-loop
     μ-loop
     skip-blocks-requires
+    skip-blocks-requires-2
     loop-holds
     sub-loop
     closes-at-requires

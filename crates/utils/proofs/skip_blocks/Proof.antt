@@ -10,13 +10,16 @@ use Rattle.utils.proofs.skip_blocks.Statement.{statement}
 use Rattle.utils.proofs.skip_blocks.Tie as tie
 
 abbrev Inv-loop : tie.InvT-loop
-Inv-loop text from i₀ i = Passed text from i
+Inv-loop text from size i₀ i = Passed text from i
 
 abbrev μ-loop : tie.MeasureT-loop
-μ-loop text from i₀ i = length text - i
+μ-loop text from size i₀ i = length text - i
 
 loop-holds : tie.Need-loop-holds Inv-loop μ-loop
 loop-holds c = search needs
+
+add-loop : tie.Need-add-loop Inv-loop μ-loop
+add-loop c = search needs
 
 sub-loop : tie.Need-sub-loop Inv-loop μ-loop
 sub-loop c = search needs
@@ -39,7 +42,7 @@ loop-less c = search needs
 loop-again : tie.Need-loop-again Inv-loop μ-loop
 loop-again c =
     let l = c .before .before .before .loop in
-    passed-block (c .before .before .before .before .before .args .text .now) (c .before .before .before .before .before .args .from) (l .i) 32 (l .inv) (omega (arith, l .inv .fits))
+    passed-block (c .before .before .before .before .before .args .text .now) (c .before .before .before .before .before .args .from) (l .i) (c .before .before .before .before .before .args .size) (l .inv) (omega (arith, l .inv .fits))
     (⊎-elim (λ w. w .1 .ensures (w .2 .left)) (λ w. c .before .any-gt .ensures (w .left)) (c .if1 .came))
 
 returns-2 : tie.Need-returns-2 Inv-loop μ-loop
@@ -52,6 +55,7 @@ skip-blocks-spec =
     Inv-loop
     μ-loop
     loop-holds
+    add-loop
     sub-loop
     any-gt-requires
     any-closing-requires

@@ -1,24 +1,24 @@
--- `utils::trim_xml_end` counts from the end. The invariant: what is kept of the first `end` bytes is what is kept of the text. Assumes nothing.
-use borrow.Author.Tests.{not-true, not-false}
-use Prim.Native.Nat.{_≤_, _-_}
-use lib.ListN.{length}
+-- `utils::trim_xml_end` counts from the end. The invariant: the bytes passed are white space. Assumes nothing.
 use native.Mathlib.Omega.{arith}
-use mathlib.Core.List.{reverse}
-use mathlib.Core.Path.{_≡_, sym, _∙_}
-use Rattle.utils.specs.Trim.{blanks}
-use Rattle.utils.proofs.Trim.{kept, kept-on, kept-stop, kept-whole, end-at}
+use mathlib.Core.Path.{sym, _∙_}
+use borrow.Author.Tests.{not-true, not-false}
+use Rattle.utils.specs.Blocks.{Dropped}
+use Rattle.utils.proofs.Trim.{kept-on, kept-stop, end-at}
 use borrow.Author.Needs.{needs}
 use Rattle.utils.proofs.trim_xml_end.Statement.{statement}
 use Rattle.utils.proofs.trim_xml_end.Tie as tie
 
 abbrev Inv-loop : tie.InvT-loop
-Inv-loop text end₀ end = (end ≤ length text) × (kept text end ≡ length text - blanks (reverse text))
+Inv-loop text end₀ end = Dropped text end
 
 abbrev μ-loop : tie.MeasureT-loop
 μ-loop text end₀ end = end
 
+drop-blanks-requires : tie.Need-drop-blanks-requires Inv-loop μ-loop
+drop-blanks-requires c κs = search needs
+
 loop-holds : tie.Need-loop-holds Inv-loop μ-loop
-loop-holds c = (omega arith, kept-whole (c .before .args .text .now))
+loop-holds c = c .drop-blanks .ensures
 
 sub-is-whitespace : tie.Need-sub-is-whitespace Inv-loop μ-loop
 sub-is-whitespace c = search needs
@@ -32,8 +32,8 @@ is-whitespace-requires c κs = search needs
 returns : tie.Need-returns Inv-loop μ-loop
 returns c =
     let l = c .before .before .before .before .loop in
-    let t = c .before .before .before .before .before .before .args .text .now in
-    end-at t (l .end) (sym (kept-stop t (l .end) (omega arith) (omega arith) (sym (c .before .is-whitespace .ensures) ∙ not-true _ (c .if1 .taken))) ∙ l .inv .1)
+    let t = c .before .before .before .before .before .before .before .args .text .now in
+    end-at t (l .end) (sym (kept-stop t (l .end) (omega arith) (l .inv .fits) (sym (c .before .is-whitespace .ensures) ∙ not-true _ (c .if1 .taken))) ∙ l .inv .same)
 
 sub-end : tie.Need-sub-end Inv-loop μ-loop
 sub-end c = search needs
@@ -44,14 +44,11 @@ loop-less c = search needs
 loop-again : tie.Need-loop-again Inv-loop μ-loop
 loop-again c =
     let l = c .before .before .before .before .loop in
-    let t = c .before .before .before .before .before .before .args .text .now in
-    (omega arith, sym (kept-on t (l .end) (omega arith) (omega arith) (sym (c .before .is-whitespace .ensures) ∙ not-false _ (c .if1 .left))) ∙ l .inv .1)
+    let t = c .before .before .before .before .before .before .before .args .text .now in
+    record { fits = omega (arith, l .inv .fits); same = sym (kept-on t (l .end) (omega arith) (l .inv .fits) (sym (c .before .is-whitespace .ensures) ∙ not-false _ (c .if1 .left))) ∙ l .inv .same }
 
 returns-2 : tie.Need-returns-2 Inv-loop μ-loop
-returns-2 c =
-    let l = c .before .loop in
-    let t = c .before .before .before .args .text .now in
-    end-at t 0 (omega arith)
+returns-2 c = end-at (c .before .before .before .before .args .text .now) 0 (omega (arith, c .before .loop .inv .same))
 
 pub trim-xml-end-spec : {M : Type 1} → statement M
 trim-xml-end-spec =
@@ -59,6 +56,7 @@ trim-xml-end-spec =
     (tie.spec
     Inv-loop
     μ-loop
+    drop-blanks-requires
     loop-holds
     sub-is-whitespace
     shared-slice-read-is-whitespace

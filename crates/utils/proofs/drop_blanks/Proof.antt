@@ -1,0 +1,36 @@
+-- `utils::drop_blanks` passes blocks of white space at the end. The invariant: the bytes passed are white space. Assumes nothing.
+use native.Mathlib.Omega.{arith}
+use Rattle.utils.specs.Blocks.{Dropped}
+use Rattle.utils.proofs.Trim.{dropped-block, dropped-none}
+use borrow.Author.Needs.{needs}
+use Rattle.utils.proofs.drop_blanks.Statement.{statement}
+use Rattle.utils.proofs.drop_blanks.Tie as tie
+
+abbrev Inv-loop : tie.InvT-loop
+Inv-loop text end₀ end = Dropped text end
+
+abbrev μ-loop : tie.MeasureT-loop
+μ-loop text end₀ end = end
+
+loop-holds : tie.Need-loop-holds Inv-loop μ-loop
+loop-holds c = dropped-none (c .before .args .text .now)
+
+any-other-requires : tie.Need-any-other-requires Inv-loop μ-loop
+any-other-requires c κs = search needs
+
+returns : tie.Need-returns Inv-loop μ-loop
+returns c = search needs
+
+loop-less : tie.Need-loop-less Inv-loop μ-loop
+loop-less c = search needs
+
+loop-again : tie.Need-loop-again Inv-loop μ-loop
+loop-again c = dropped-block (c .before .before .before .before .before .args .text .now) (c .before .before .before .loop .end) 32 (c .before .before .before .loop .inv) (omega arith) (c .before .any-other .ensures (c .if1 .left))
+
+returns-2 : tie.Need-returns-2 Inv-loop μ-loop
+returns-2 c = search needs
+
+pub drop-blanks-spec : {M : Type 1} → statement M
+drop-blanks-spec =
+    tie.close
+    (tie.spec Inv-loop μ-loop loop-holds any-other-requires returns loop-less loop-again returns-2)

@@ -1,0 +1,54 @@
+-- `utils::skip_blanks` passes blocks of white space at the start. The invariant: the bytes passed are white space. Assumes nothing.
+use Prim.Native.Nat.{_-_}
+use native.Mathlib.Omega.{arith}
+use lib.ListN.{length}
+use Rattle.utils.specs.Blocks.{Skipped}
+use Rattle.utils.proofs.Trim.{skipped-block, skipped-none}
+use borrow.Author.Needs.{needs}
+use Rattle.utils.proofs.skip_blanks.Statement.{statement}
+use Rattle.utils.proofs.skip_blanks.Tie as tie
+
+abbrev Inv-loop : tie.InvT-loop
+Inv-loop text i₀ i = Skipped text i
+
+abbrev μ-loop : tie.MeasureT-loop
+μ-loop text i₀ i = length text - i
+
+loop-holds : tie.Need-loop-holds Inv-loop μ-loop
+loop-holds c = skipped-none (c .before .args .text .now)
+
+sub-loop : tie.Need-sub-loop Inv-loop μ-loop
+sub-loop c = search needs
+
+any-other-requires : tie.Need-any-other-requires Inv-loop μ-loop
+any-other-requires c κs = search needs
+
+returns : tie.Need-returns Inv-loop μ-loop
+returns c = search needs
+
+add-i : tie.Need-add-i Inv-loop μ-loop
+add-i c = search needs
+
+loop-less : tie.Need-loop-less Inv-loop μ-loop
+loop-less c = search needs
+
+loop-again : tie.Need-loop-again Inv-loop μ-loop
+loop-again c = skipped-block (c .before .before .before .before .before .args .text .now) (c .before .before .before .loop .i) 32 (c .before .before .before .loop .inv) (omega (arith, c .before .before .before .loop .inv .fits)) (c .before .any-other .ensures (c .if1 .left))
+
+returns-2 : tie.Need-returns-2 Inv-loop μ-loop
+returns-2 c = search needs
+
+pub skip-blanks-spec : {M : Type 1} → statement M
+skip-blanks-spec =
+    tie.close
+    (tie.spec
+    Inv-loop
+    μ-loop
+    loop-holds
+    sub-loop
+    any-other-requires
+    returns
+    add-i
+    loop-less
+    loop-again
+    returns-2)
