@@ -106,7 +106,7 @@ pub fn normalize_eols(arguments: &Arguments) -> Answer {
 /// What the Rust makes of a text at a level or under a version.
 type Rule = fn(&str) -> Cow<str>;
 
-/// The Rust takes neither a level nor a version as a byte, nor an output: 4 and 19 are document 01's.
+/// The Rust takes no byte for a level or version, and no output: 4 and 19 are document 01's.
 fn written(arguments: &Arguments, rule: Option<Rule>) -> Answer {
     let text = match rule {
         None => length_checked(arguments.text).and(Err(refusal(4, 0))),
