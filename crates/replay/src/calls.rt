@@ -4,6 +4,7 @@ use crate::answers::UNTOUCHED;
 use crate::answers::UNWRITTEN;
 use crate::answers::compare;
 use crate::answers::compare_output;
+use crate::cdata;
 use crate::fields::field;
 use crate::fields::field_count;
 use crate::values::Parsed;
@@ -38,6 +39,9 @@ pub fn replay_line(line: &[u8]) -> Outcome {
     }
     if check::same(call, b"normalize_eols") {
         return replay_output(line, OutputCall::NormalizeEols);
+    }
+    if check::same(call, b"cdata_next") {
+        return cdata::replay_cdata(line);
     }
     replay_text_line(line)
 }

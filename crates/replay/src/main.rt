@@ -4,6 +4,7 @@
 // none, and numbers in decimal. An empty line, or one that starts with `#`, is passed over.
 mod answers;
 mod calls;
+mod cdata;
 mod fields;
 mod lines;
 mod values;
