@@ -70,7 +70,7 @@ pub fn compare_output(line: &[u8], number: u32, answer: [u64; 2], out: &[u8; 204
     let Outcome::Same = outcome else {
         return outcome;
     };
-    // An untouched byte that is stored as output would pass else.
+    // Else a stored output with untouched bytes at its end would pass.
     if decoded.length as u64 != written(number, answer) {
         return differs(number, answer);
     }

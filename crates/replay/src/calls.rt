@@ -1,4 +1,4 @@
-// The calls that are replayed. Each is a function from a stored line to what came of it.
+// The calls that are replayed: from a stored line to what came of it.
 use crate::answers::Outcome;
 use crate::answers::UNTOUCHED;
 use crate::answers::UNWRITTEN;

@@ -10,7 +10,8 @@ mod lines;
 mod values;
 
 fn main() {
-    let mut line = io::buffer();
+    // A text and an output of 2,048 bytes each take 8,192 digits.
+    let mut line = io::large_buffer();
     let p = lines::replay_all(&mut line);
     lines::report_counts(p);
 }
