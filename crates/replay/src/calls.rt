@@ -1,27 +1,29 @@
-// The calls that are replayed. Each is a function from a stored line to what came of it.
-ghost use Prim.Native.Nat.{_<_};
+// The calls that are replayed: from a stored line to what came of it.
+use crate::answers::Outcome;
+use crate::answers::UNTOUCHED;
+use crate::answers::UNWRITTEN;
+use crate::answers::compare;
+use crate::answers::compare_output;
+use crate::cdata;
 use crate::fields::field;
 use crate::fields::field_count;
 use crate::values::Parsed;
 use crate::values::decimal;
 use crate::values::decode_hex;
 
-// Stands in both answer words before a call. No stored answer has it, so a word that a call leaves
-// unwritten differs.
-const UNWRITTEN: u64 = 0xa5a5_a5a5_a5a5_a5a5;
-
-pub struct Answer {
-    pub number: u64,
-    pub first: u64,
-    pub second: u64,
+// The calls of a text alone.
+enum TextCall {
+    CheckUtf8,
+    ParseNumber,
+    TrimStart,
+    TrimEnd,
+    TrimSpaces,
 }
 
-pub enum Outcome {
-    // An empty line, or a comment.
-    Nothing,
-    Same,
-    Differs(Answer),
-    Malformed,
+// The calls that write an output.
+enum OutputCall {
+    Escape,
+    NormalizeEols,
 }
 
 pub fn replay_line(line: &[u8]) -> Outcome {
@@ -32,17 +34,40 @@ pub fn replay_line(line: &[u8]) -> Outcome {
         return Outcome::Nothing;
     }
     let call = field(line, 0);
+    if check::same(call, b"escape") {
+        return replay_output(line, OutputCall::Escape);
+    }
+    if check::same(call, b"normalize_eols") {
+        return replay_output(line, OutputCall::NormalizeEols);
+    }
+    if check::same(call, b"cdata_next") {
+        return cdata::replay_cdata(line);
+    }
+    replay_text_line(line)
+}
+
+fn replay_text_line(line: &[u8]) -> Outcome {
+    let call = field(line, 0);
     if check::same(call, b"check_utf8") {
-        return check_utf8(line);
+        return replay_text(line, TextCall::CheckUtf8);
     }
     if check::same(call, b"parse_number") {
-        return parse_number(line);
+        return replay_text(line, TextCall::ParseNumber);
+    }
+    if check::same(call, b"trim_xml_start") {
+        return replay_text(line, TextCall::TrimStart);
+    }
+    if check::same(call, b"trim_xml_end") {
+        return replay_text(line, TextCall::TrimEnd);
+    }
+    if check::same(call, b"trim_xml_spaces") {
+        return replay_text(line, TextCall::TrimSpaces);
     }
     Outcome::Malformed
 }
 
-// check_utf8 TEXT = NUMBER FIRST SECOND
-fn check_utf8(line: &[u8]) -> Outcome {
+// CALL TEXT = NUMBER FIRST SECOND
+fn replay_text(line: &[u8], call: TextCall) -> Outcome {
     if field_count(line) != 6 {
         return Outcome::Malformed;
     }
@@ -53,13 +78,24 @@ fn check_utf8(line: &[u8]) -> Outcome {
     }
     let n = decoded.length;
     let mut answer = [UNWRITTEN; 2];
-    let number = govlezna::govlezna_check_utf8(&text[..n], &mut answer);
+    let number = call_text(call, &text[..n], &mut answer);
     compare(line, 2, number, answer)
 }
 
-// parse_number TEXT = NUMBER FIRST SECOND
-fn parse_number(line: &[u8]) -> Outcome {
-    if field_count(line) != 6 {
+fn call_text(call: TextCall, text: &[u8], answer: &mut [u64; 2]) -> u32 {
+    match call {
+        TextCall::CheckUtf8 => govlezna::govlezna_check_utf8(text, answer),
+        TextCall::ParseNumber => govlezna::govlezna_parse_number(text, answer),
+        TextCall::TrimStart => govlezna::govlezna_trim_xml_start(text, answer),
+        TextCall::TrimEnd => govlezna::govlezna_trim_xml_end(text, answer),
+        TextCall::TrimSpaces => govlezna::govlezna_trim_xml_spaces(text, answer),
+    }
+}
+
+// CALL TEXT CHOICE ROOM = NUMBER FIRST SECOND OUTPUT, with a level or a version as the choice, and
+// the length of the output lent as the room.
+fn replay_output(line: &[u8], call: OutputCall) -> Outcome {
+    if field_count(line) != 9 {
         return Outcome::Malformed;
     }
     let mut text = [0u8; 2048];
@@ -68,34 +104,34 @@ fn parse_number(line: &[u8]) -> Outcome {
         return Outcome::Malformed;
     }
     let n = decoded.length;
+    let Parsed::Number(choice) = decimal(field(line, 2)) else {
+        return Outcome::Malformed;
+    };
+    let Parsed::Number(room) = decimal(field(line, 3)) else {
+        return Outcome::Malformed;
+    };
+    if 255 < choice {
+        return Outcome::Malformed;
+    }
+    if 2048 < room {
+        return Outcome::Malformed;
+    }
+    let mut out = [UNTOUCHED; 2048];
     let mut answer = [UNWRITTEN; 2];
-    let number = govlezna::govlezna_parse_number(&text[..n], &mut answer);
-    compare(line, 2, number, answer)
+    let r = room as usize;
+    let number = call_output(call, &text[..n], choice as u8, &mut out[0..r], &mut answer);
+    compare_output(line, number, answer, &out)
 }
 
-// Compares with `= NUMBER FIRST SECOND`, which stands in the line from field `at` on. That nothing
-// follows it, the call has seen.
-fn compare(line: &[u8], at: usize, number: u32, answer: [u64; 2]) -> Outcome
-    requires { ⌜ at < 100 ⌝ }
-{
-    if !check::same(field(line, at), b"=") {
-        return Outcome::Malformed;
+fn call_output(
+    call: OutputCall,
+    text: &[u8],
+    choice: u8,
+    out: &mut [u8],
+    answer: &mut [u64; 2],
+) -> u32 {
+    match call {
+        OutputCall::Escape => govlezna::govlezna_escape(text, choice, out, answer),
+        OutputCall::NormalizeEols => govlezna::govlezna_normalize_eols(text, choice, out, answer),
     }
-    let Parsed::Number(stored) = decimal(field(line, at + 1)) else {
-        return Outcome::Malformed;
-    };
-    let Parsed::Number(first) = decimal(field(line, at + 2)) else {
-        return Outcome::Malformed;
-    };
-    let Parsed::Number(second) = decimal(field(line, at + 3)) else {
-        return Outcome::Malformed;
-    };
-    if stored == number as u64 && first == answer[0] && second == answer[1] {
-        return Outcome::Same;
-    }
-    Outcome::Differs(Answer {
-        number: number as u64,
-        first: answer[0],
-        second: answer[1],
-    })
 }

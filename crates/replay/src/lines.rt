@@ -1,6 +1,6 @@
 // Standard input, cut into lines, and what came of them.
-use crate::calls::Answer;
-use crate::calls::Outcome;
+use crate::answers::Answer;
+use crate::answers::Outcome;
 use crate::calls::replay_line;
 use libc::STDIN_FILENO;
 use libc::STDOUT_FILENO;

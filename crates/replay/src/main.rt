@@ -2,13 +2,16 @@
 // One result to a line, as `check_utf8 TEXT = NUMBER FIRST SECOND`: the call, its arguments, and
 // what was answered. Fields stand between single spaces, bytes in lower-case hexadecimal, `-` for
 // none, and numbers in decimal. An empty line, or one that starts with `#`, is passed over.
+mod answers;
 mod calls;
+mod cdata;
 mod fields;
 mod lines;
 mod values;
 
 fn main() {
-    let mut line = io::buffer();
+    // A text and an output of 2,048 bytes each take 8,192 digits.
+    let mut line = io::large_buffer();
     let p = lines::replay_all(&mut line);
     lines::report_counts(p);
 }
