@@ -14,7 +14,7 @@ use Rattle.text.proofs.Utf8.{allAscii}
 use borrow.Author.Tests.{ne-eqb}
 use Rattle.text.specs.Call.{laid}
 use Rattle.escape.specs.Escape.{Level, writeByte, write, full, partial, minimal, attribute, escaped, reference, levelSet}
-use Rattle.escape.specs.Scan.{addedBy, charsSet, levelChars}
+use Rattle.escape.specs.Scan.{escapedBy, addedBy, charsSet, levelChars}
 use Rattle.escape.specs.declared.EscapeChars.{EscapeChars}
 use Rattle.escape.proofs.Write.{Sized, Ascii, byte-most, write-next, write-least, write-most, write-well-formed}
 use Rattle.escape.proofs.View.{Kind, Other, is-lt, is-gt, is-amp, is-apos, is-quot, is-cr, is-lf, is-tab, is-other, kind}
@@ -68,6 +68,18 @@ added-at blanks apos quot gt b (is-other o) =
 
 pub added-length : (chars : EscapeChars) (b : ℕ) → addedBy chars b + 1 ≡ length (writeByte (charsSet chars) b)
 added-length chars b = added-at (chars .blanks) (chars .apos) (chars .quot) (chars .gt) b (kind b)
+
+-- no byte past `>` is replaced
+pub past-gt : (chars : EscapeChars) (b : ℕ) → 62 < b → escapedBy chars b ≡ false
+unfolding escapedBy
+past-gt chars b h =
+    rw (ne-eqb b 10 (λ e. omega arith), ne-eqb b 9 (λ e. omega arith), ne-eqb b 39 (λ e. omega arith), ne-eqb b 34 (λ e. omega arith), ne-eqb b 62 (λ e. omega arith), ne-eqb b 60 (λ e. omega arith), ne-eqb b 38 (λ e. omega arith), ne-eqb b 13 (λ e. omega arith))
+    (simp and-false)
+
+pub past-gt-added : (chars : EscapeChars) (b : ℕ) → 62 < b → addedBy chars b ≡ 0
+unfolding addedBy
+past-gt-added chars b h =
+    rw (ne-eqb b 10 (λ e. omega arith), ne-eqb b 9 (λ e. omega arith), ne-eqb b 39 (λ e. omega arith), ne-eqb b 34 (λ e. omega arith), ne-eqb b 62 (λ e. omega arith), ne-eqb b 60 (λ e. omega arith), ne-eqb b 38 (λ e. omega arith), ne-eqb b 13 (λ e. omega arith))
 
 -- ---- their replacements: 1 to 6 bytes, ASCII for ASCII
 

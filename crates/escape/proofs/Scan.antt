@@ -1,17 +1,17 @@
 -- Runs of bytes that are not replaced: joined, grown by one byte, and written as they are. Assumes nothing.
 use mathlib.Core.Path.{_≡_, refl, sym, ap, _∙_}
 use mathlib.Core.Bool.{Bool, true, false}
-use mathlib.Core.List.{List, _∷_}
+use mathlib.Core.List.{List, _∷_, _++_}
 use Prim.Native.Nat.{ℕ, zero, suc, _+_, _-_, _≤_, _<_}
 use native.Mathlib.Omega.{arith}
 use native.Mathlib.Nat.{le-refl}
 use native.Mathlib.Numerals.{add-one}
 use lib.Dec.{ltb}
-use lib.ListN.{length, take, drop, getD}
-use lib.Seq.{drop-cons}
+use lib.ListN.{length, take, drop, getD, length-drop}
+use lib.Seq.{drop-cons, getD-drop, take-add}
 use borrow.Author.Tests.{ltb-true, ltb-false}
 use Rattle.escape.specs.Escape.{Replacements, write}
-use Rattle.escape.specs.Scan.{Plain, Run}
+use Rattle.escape.specs.Scan.{Plain, Run, WholeRun}
 
 module _ (set : Replacements) (text : List ℕ) where
   pub plain-none : (at : ℕ) → Plain set text at at
@@ -54,3 +54,26 @@ module _ (set : Replacements) (text : List ℕ) where
       let g = r .starts in
       let h = r .inside in
       write-count (to - from) from (omega arith) (record { plain = λ k l m. r .run .plain k l (omega arith) })
+
+-- a run from the start of the text's rest
+pub run-shift : (set : Replacements) (text : List ℕ) (i n : ℕ) → i ≤ length text → WholeRun set (drop i text) 0 n → WholeRun set text i (i + n)
+run-shift set text i n h r =
+    let inside : n ≤ length text - i = rw length-drop at (r .whole .inside) in
+    record {
+      whole = record {
+        starts = omega arith;
+        inside = omega arith;
+        run = record {
+          plain = λ k g l.
+              let q : i + (k - i) ≡ k = omega arith in
+              rw (getD-drop i text (k - i) 0, q) at (r .whole .run .plain (k - i) (omega arith) (omega arith));
+        };
+      };
+      ends = λ l. rw (getD-drop i text n 0) at (r .ends (rw length-drop (omega arith)));
+    }
+
+-- the start of a text, and more of it
+pub taken-more : (text : List ℕ) (i end : ℕ) → i ≤ end → take i text ++ take (end - i) (drop i text) ≡ take end text
+taken-more text i end h =
+    let q : i + (end - i) ≡ end = omega arith in
+    sym (take-add i (end - i) text) ∙ rw q

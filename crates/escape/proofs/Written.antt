@@ -5,14 +5,14 @@ use mathlib.Core.List.{List, _++_}
 use Prim.Native.Nat.{ℕ, _+_, _-_, _≤_, _<_, zero-le}
 use native.Mathlib.Omega.{arith}
 use lib.ListN.{length, take, drop, getD, length-append}
-use lib.Seq.{take-all}
+use lib.Seq.{take-all, take-length}
 use borrow.Rule.Slice.PartMut.{midOf, putMid, mid-len}
 use Rattle.text.specs.Call.{laid}
-use Rattle.output.proofs.Laid.{laid-length, laid-more, laid-room}
+use Rattle.output.proofs.Laid.{rest-part, laid-length, laid-more, laid-room}
 use Rattle.escape.specs.Escape.{Replacements, write}
-use Rattle.escape.specs.Scan.{Run, Written}
-use Rattle.escape.proofs.Write.{write-next, write-part, write-fits}
-use Rattle.escape.proofs.Scan.{write-run}
+use Rattle.escape.specs.Scan.{Run, WholeRun, Written}
+use Rattle.escape.proofs.Write.{write-next, write-part, write-whole, write-fits}
+use Rattle.escape.proofs.Scan.{write-run, run-shift}
 
 -- what a run, and a byte that is replaced, add
 pub run-joined : (set : Replacements) (text : List ℕ) (i end : ℕ) → Run set text i end
@@ -74,3 +74,20 @@ module _ (set : Replacements) (text old : List ℕ) (room : length (write set te
       pub written-byte : {m : ℕ} → m ≡ length (set .by (getD text i 0)) → {part : List ℕ} → part ≡ laid (set .by (getD text i 0)) (midOf at (length out - at) out)
           → Written set text (i + 1) (at + m) old (putMid at (length out - at) out part)
       written-byte q p = written-more (i + 1) (set .by (getD text i 0)) (byte-joined set text i h e) (omega arith) q p
+
+    -- a run that was copied from the rest of the text into the rest of the output
+    pub rest-room : length (write set (midOf i (length text - i) text)) ≤ length (midOf at (length out - at) out)
+    rest-room =
+        rw (rest-part i text)
+        (more-room (length text) (write set (drop i text)) (rw (take-length text) (write-whole set text i)))
+
+    module _ (n : ℕ) (r : WholeRun set (midOf i (length text - i) text) 0 n) where
+      pub rest-run : WholeRun set text i (i + n)
+      rest-run = run-shift set text i n (w .within) (rw (rest-part i text) at r)
+
+      pub written-plain : {part : List ℕ} → part ≡ laid (take n (midOf i (length text - i) text)) (midOf at (length out - at) out)
+          → Written set text (i + n) (at + n) old (putMid at (length out - at) out part)
+      written-plain {part} p =
+          let q : i + n - i ≡ n = omega arith in
+          let p′ : part ≡ laid (take (i + n - i) (drop i text)) (midOf at (length out - at) out) = rw q (p ∙ rw (rest-part i text)) in
+          rw q at (written-run (i + n) (rest-run .whole) p′)

@@ -54,6 +54,11 @@ pub record WholeRun (set : Replacements) (text : List ℕ) (from to : ℕ) : Typ
   pub whole : Run set text from to
   pub ends : to < length text → set .picks (getD text to 0) ≡ true
 
+-- a run from the text's start, of 32 bytes or to where it ends
+pub record ShortRun (set : Replacements) (text : List ℕ) (to : ℕ) : Type 0 where
+  pub short : Run set text 0 to
+  pub ends : to < 32 → to < length text → set .picks (getD text to 0) ≡ true
+
 -- the first `i` bytes of the text are written: `at` bytes over what `out` held
 pub record Written (set : Replacements) (text : List ℕ) (i at : ℕ) (old out : List ℕ) : Type 0 where
   pub within : i ≤ length text

@@ -7,7 +7,7 @@ ghost use lib.ListN.{length, take, drop};
 ghost use Rattle.text.specs.Bytes.{pick};
 ghost use Rattle.text.specs.Call.{laid, finish, callOf};
 ghost use Rattle.escape.specs.Escape.{write, levelOf, levelSet, levelCheck, reference};
-ghost use Rattle.escape.specs.Scan.{escapedBy, addedBy, charsSet, levelChars, Plain, Run, WholeRun};
+ghost use Rattle.escape.specs.Scan.{escapedBy, addedBy, charsSet, levelChars, Plain, Run, WholeRun, ShortRun};
 use text::Answer;
 
 // The characters that are escaped besides `<`, `&` and CR: LF and TAB, `'`, `"`, `>`.
@@ -84,6 +84,16 @@ fn escapes(chars: EscapeChars, b: u8) -> bool
         | (b == b'\r')
 }
 
+// The same for a byte by itself: most of a text's bytes are past `>`.
+fn is_escaped(chars: EscapeChars, b: u8) -> bool
+    ensures { λ r. ⌜ r ≡ escapedBy chars b ⌝ }
+{
+    if b'>' < b {
+        return false;
+    }
+    escapes(chars, b)
+}
+
 // Is one of the 32 bytes from i on escaped?
 fn any_escaped(text: &[u8], i: usize, chars: EscapeChars) -> bool
     requires { ⌜ i + 32 ≤ length (now text) ⌝ }
@@ -118,7 +128,7 @@ fn next_escaped(text: &[u8], from: usize, chars: EscapeChars) -> usize
 {
     let mut i = skip_plain(text, from, chars);
     while i < text.len() {
-        if escapes(chars, text[i]) {
+        if is_escaped(chars, text[i]) {
             return i;
         }
         i += 1;
@@ -183,6 +193,28 @@ fn added_part(text: &[u8], i: usize, count: usize, chars: EscapeChars) -> u8
     n
 }
 
+// The same for a byte by itself.
+fn added_one(chars: EscapeChars, b: u8) -> u8
+    ensures { λ r. ⌜ r ≡ addedBy chars b ⌝ }
+{
+    if b'>' < b {
+        return 0;
+    }
+    added(chars, b)
+}
+
+// The same of the last bytes.
+fn added_rest(text: &[u8], i: usize, count: usize, chars: EscapeChars) -> usize
+    requires { ⌜ (i + count ≤ length (now text)) × (count ≤ 32) ⌝ }
+    ensures { λ r. ⌜ r + count ≡ length (write (charsSet chars) (take count (drop i (now (text .entry))))) ⌝ }
+{
+    let mut n: usize = 0;
+    for k in 0..count {
+        n += added_one(chars, text[i + k]) as usize;
+    }
+    n
+}
+
 // The length of the escaped text.
 pub fn escaped_length(text: &[u8], chars: EscapeChars) -> usize
     requires { ⌜ length (now text) ≤ 16777216 ⌝ }
@@ -195,7 +227,47 @@ pub fn escaped_length(text: &[u8], chars: EscapeChars) -> usize
         i += 32;
     }
     let rest = text.len() - i;
-    n + added_part(text, i, rest, chars) as usize + text.len()
+    n + added_rest(text, i, rest, chars) + text.len()
+}
+
+fn least(a: usize, b: usize) -> usize
+    ensures { λ r. ⌜ (r ≤ a) × ((r ≤ b) × ((r < b → r ≡ a))) ⌝ }
+{
+    if a < b { a } else { b }
+}
+
+// Copies the bytes up to the next that is escaped, 32 at most: in one loop, as most runs between such bytes are short.
+fn put_short_run(text: &[u8], chars: EscapeChars, out: &mut [u8]) -> usize
+    requires { ⌜ length (write (charsSet chars) (now text)) ≤ length (now out) ⌝ }
+    ensures { λ r. ⌜ ShortRun (charsSet chars) (now (text .entry)) r ⌝ }
+    ensures { λ r. ⌜ now (out .exit) ≡ laid (take r (now (text .entry))) (now (out .entry)) ⌝ }
+{
+    let end = least(text.len(), 32);
+    let mut i: usize = 0;
+    while i < end {
+        let b = text[i];
+        if is_escaped(chars, b) {
+            return i;
+        }
+        out[i] = b;
+        i += 1;
+    }
+    i
+}
+
+// Copies the bytes up to the next that is escaped, or to the end, and says how many.
+fn put_plain(text: &[u8], chars: EscapeChars, out: &mut [u8]) -> usize
+    requires { ⌜ length (write (charsSet chars) (now text)) ≤ length (now out) ⌝ }
+    ensures { λ r. ⌜ WholeRun (charsSet chars) (now (text .entry)) 0 r ⌝ }
+    ensures { λ r. ⌜ now (out .exit) ≡ laid (take r (now (text .entry))) (now (out .entry)) ⌝ }
+{
+    let near = put_short_run(text, chars, out);
+    if near < 32 {
+        return near;
+    }
+    let end = next_escaped(text, near, chars);
+    output::put_run(&text[near..end], &mut out[near..]);
+    end
 }
 
 // Writes the escaped text at the start of `out`, and keeps the rest.
@@ -206,9 +278,9 @@ pub fn write_escaped(text: &[u8], chars: EscapeChars, out: &mut [u8])
     let mut at: usize = 0;
     let mut i: usize = 0;
     loop {
-        let end = next_escaped(text, i, chars);
-        output::put_run(&text[i..end], &mut out[at..]);
-        at += end - i;
+        let count = put_plain(&text[i..], chars, &mut out[at..]);
+        let end = i + count;
+        at += count;
         if end == text.len() {
             return;
         }

@@ -1,11 +1,12 @@
 -- `escaped_length` meets its contract: what is added and the bytes passed are the length written for them. Assumes nothing.
+use Rattle.escape.proofs.Levels.{chars-sized}
 use mathlib.Core.Path.{_≡_}
 use Prim.Native.Nat.{_+_, _*_, _-_, _≤_}
 use native.Mathlib.Omega.{arith}
 use lib.ListN.{length, take}
 use Rattle.escape.specs.Escape.{write}
 use Rattle.escape.specs.Scan.{charsSet}
-use Rattle.escape.proofs.Write.{count-part, count-rest}
+use Rattle.escape.proofs.Write.{count-part, count-rest, write-most}
 use borrow.Author.Needs.{needs}
 use Rattle.escape.proofs.escaped_length.Statement.{statement}
 use Rattle.escape.proofs.escaped_length.Tie as tie
@@ -46,22 +47,27 @@ loop-again c =
 sub-rest : tie.Need-sub-rest Inv-loop μ-loop
 sub-rest c = search needs
 
-added-part-requires-2 : tie.Need-added-part-requires-2 Inv-loop μ-loop
-added-part-requires-2 c κs = search needs
-
-cast-result : tie.Need-cast-result Inv-loop μ-loop
-cast-result c = search needs
+added-rest-requires : tie.Need-added-rest-requires Inv-loop μ-loop
+added-rest-requires c κs = search needs
 
 add-result : tie.Need-add-result Inv-loop μ-loop
-add-result c = search needs
+add-result c =
+    let l = c .before .before .loop in
+    let set = charsSet (c .before .before .before .before .args .chars) in
+    let total = count-rest set (c .before .before .before .before .args .text .now) (l .i) (l .n) (c .added-rest .result) (l .inv .0) (l .inv .1) (c .added-rest .ensures) in
+    omega (arith, total, write-most set (chars-sized (c .before .before .before .before .args .chars)) (c .before .before .before .before .args .text .now), c .before .before .before .before .pre)
 
 add-result-2 : tie.Need-add-result-2 Inv-loop μ-loop
-add-result-2 c = search needs
+add-result-2 c =
+    let l = c .before .before .loop in
+    let set = charsSet (c .before .before .before .before .args .chars) in
+    let total = count-rest set (c .before .before .before .before .args .text .now) (l .i) (l .n) (c .added-rest .result) (l .inv .0) (l .inv .1) (c .added-rest .ensures) in
+    omega (arith, total, write-most set (chars-sized (c .before .before .before .before .args .chars)) (c .before .before .before .before .args .text .now), c .before .before .before .before .pre)
 
 returns : tie.Need-returns Inv-loop μ-loop
 returns c =
     let l = c .before .before .loop in
-    count-rest (charsSet (c .before .before .before .before .args .chars)) (c .before .before .before .before .args .text .now) (l .i) (l .n) (c .added-part2 .result) (l .inv .0) (l .inv .1) (c .added-part2 .ensures)
+    count-rest (charsSet (c .before .before .before .before .args .chars)) (c .before .before .before .before .args .text .now) (l .i) (l .n) (c .added-rest .result) (l .inv .0) (l .inv .1) (c .added-rest .ensures)
 
 pub escaped-length-spec : {M : Type 1} → statement M
 escaped-length-spec =
@@ -78,8 +84,7 @@ escaped-length-spec =
     loop-less
     loop-again
     sub-rest
-    added-part-requires-2
-    cast-result
+    added-rest-requires
     add-result
     add-result-2
     returns)

@@ -21,15 +21,15 @@ skip-plain-requires c κs = search needs
 loop-holds : tie.Need-loop-holds Inv-loop μ-loop
 loop-holds c = search needs
 
-shared-slice-read-escapes : tie.Need-shared-slice-read-escapes Inv-loop μ-loop
-shared-slice-read-escapes c = search needs
+shared-slice-read-is-escaped : tie.Need-shared-slice-read-is-escaped Inv-loop μ-loop
+shared-slice-read-is-escaped c = search needs
 
-escapes-requires : tie.Need-escapes-requires Inv-loop μ-loop
-escapes-requires c κs = search needs
+is-escaped-requires : tie.Need-is-escaped-requires Inv-loop μ-loop
+is-escaped-requires c κs = search needs
 
 returns : tie.Need-returns Inv-loop μ-loop
 unfolding charsSet
-returns c = record { whole = c .before .before .before .before .loop .inv; ends = λ h. sym (c .before .escapes .ensures) ∙ c .if1 .taken }
+returns c = record { whole = c .before .before .before .before .loop .inv; ends = λ h. sym (c .before .is-escaped .ensures) ∙ c .if1 .taken }
 
 add-i : tie.Need-add-i Inv-loop μ-loop
 add-i c = search needs
@@ -43,7 +43,7 @@ loop-again c =
     let l = c .before .before .before .before .loop in
     let set = charsSet (c .before .before .before .before .before .before .before .args .chars) in
     let text = c .before .before .before .before .before .before .before .args .text .now in
-    run-more set text (c .before .before .before .before .before .before .before .args .from) (l .i) (l .i + 1) (l .inv) (omega arith) (omega arith) (plain-one set text (l .i) (sym (c .before .escapes .ensures) ∙ c .if1 .left))
+    run-more set text (c .before .before .before .before .before .before .before .args .from) (l .i) (l .i + 1) (l .inv) (omega arith) (omega arith) (plain-one set text (l .i) (sym (c .before .is-escaped .ensures) ∙ c .if1 .left))
 
 returns-2 : tie.Need-returns-2 Inv-loop μ-loop
 returns-2 c = record { whole = c .before .loop .inv; ends = λ h. absurd (omega (arith, h, c .loop-test .left)) }
@@ -56,8 +56,8 @@ next-escaped-spec =
     μ-loop
     skip-plain-requires
     loop-holds
-    shared-slice-read-escapes
-    escapes-requires
+    shared-slice-read-is-escaped
+    is-escaped-requires
     returns
     add-i
     loop-less
