@@ -1,4 +1,4 @@
-/* The two calls from C: a panel's name is checked, and the references in it are read. */
+/* The calls from C: a panel's name is checked, references are read, text is written as an attribute and as CDATA. */
 #include "govlezna.h"
 
 #include <inttypes.h>
@@ -30,6 +30,26 @@ static void read_number(const char *text)
         printf("&#%s; refused by %" PRIu32 " (%" PRIu64 ", %" PRIu64 ")\n", text, number, answer[0], answer[1]);
 }
 
+static void write_attribute(const char *text)
+{
+    uint64_t answer[2];
+    uint8_t out[64];
+    uint32_t number = govlezna_escape(bytes(text), strlen(text), 3, out, sizeof out, answer);
+    if (number == 0)
+        printf("attribute: %.*s\n", (int)answer[0], (const char *)out);
+    else
+        printf("attribute refused by %" PRIu32 " (%" PRIu64 ", %" PRIu64 ")\n", number, answer[0], answer[1]);
+}
+
+static void write_cdata(const char *text)
+{
+    uint64_t answer[2];
+    struct govlezna_cursor cursor = { 0, 0 };
+    while (govlezna_cdata_next(bytes(text), strlen(text), &cursor, answer) == 0)
+        printf("<![CDATA[%.*s]]>", (int)answer[1], text + answer[0]);
+    printf("\n");
+}
+
 int main(void)
 {
     check("Gro\xC3\x9Fsegel 3");
@@ -40,5 +60,7 @@ int main(void)
     read_number("X41");
     read_number("xD800");
     read_number("0");
+    write_attribute("a<b\t");
+    write_cdata("]]>]]>");
     return 0;
 }
