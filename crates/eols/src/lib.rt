@@ -171,10 +171,10 @@ fn eols_length(text: &[u8], newer: bool) -> usize
     n
 }
 
-// Writes the text with its line ends normalized, run by run.
-fn write_eols(text: &[u8], newer: bool, out: &mut [u8])
+// Writes the text with its line ends normalized, run by run. The length written.
+fn write_eols(text: &[u8], newer: bool, out: &mut [u8]) -> usize
     requires { ⌜ length (eols (ruleFor newer) (now text)) ≤ length (now out) ⌝ }
-    ensures { λ _. ⌜ now (out .exit) ≡ laid (eols (ruleFor newer) (now (text .entry))) (now (out .entry)) ⌝ }
+    ensures { λ r. ⌜ (r ≡ length (eols (ruleFor newer) (now (text .entry)))) × (now (out .exit) ≡ laid (eols (ruleFor newer) (now (text .entry))) (now (out .entry))) ⌝ }
 {
     let mut at: usize = 0;
     let mut i: usize = 0;
@@ -183,31 +183,35 @@ fn write_eols(text: &[u8], newer: bool, out: &mut [u8])
         output::put_run(&text[i..e], &mut out[at..]);
         at += e - i;
         if e == text.len() {
-            return;
+            return at;
         }
         let step = normalize_eol_step(text, e, newer);
         out[at] = step.byte;
         at += 1;
         i = e + step.width;
     }
+    at
 }
 
-// Counts, then writes; 19 with the length needed leaves the output.
+// Where the output is as long as the text there is room for the result, which is no longer: no count is needed.
+// Else it counts first; 19 with the length needed leaves the output.
 pub fn normalize_eols(text: &[u8], version: u8, out: &mut [u8]) -> Answer
     ensures { λ r. ⌜ callOf r (now (out .exit) ∷ []) ≡ finish (eols (ruleOf version) (now (text .entry))) 0 (now (out .entry)) ⌝ }
 {
     let newer = 1 < version;
-    let n = eols_length(text, newer);
-    if out.len() < n {
-        return Answer::Refused {
-            number: 19,
-            first: n as u64,
-            second: 0,
-        };
+    if out.len() < text.len() {
+        let n = eols_length(text, newer);
+        if out.len() < n {
+            return Answer::Refused {
+                number: 19,
+                first: n as u64,
+                second: 0,
+            };
+        }
     }
-    write_eols(text, newer, out);
+    let written = write_eols(text, newer, out);
     Answer::Done {
-        first: n as u64,
+        first: written as u64,
         second: 0,
     }
 }

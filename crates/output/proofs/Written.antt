@@ -65,7 +65,10 @@ written-byte {whole} {rest} {old} {out} b {at} w h =
       left = g .1;
     }
 
--- nothing is left to come
+-- nothing is left to come: all of it is written
+pub written-all : {whole old out : List ℕ} {at : ℕ} → Written whole [] old out at → at ≡ length whole
+written-all w = omega (arith, to-come w)
+
 pub written-end : {whole old out : List ℕ} {at : ℕ} → Written whole [] old out at → out ≡ laid whole old
 written-end {whole} {old} {out} {at} w =
     let q : at ≡ length whole = omega (arith, to-come w) in
