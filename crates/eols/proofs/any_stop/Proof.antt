@@ -20,35 +20,27 @@ Inv-loop text i newer hit₀ k₀ hit k = (k ≤ 32) × (hit ≡ false → (m : 
 abbrev μ-loop : tie.MeasureT-loop
 μ-loop text i newer hit₀ k₀ hit k = 32 - k
 
--- src/lib.rt:32:5
 loop-holds : tie.Need-loop-holds Inv-loop μ-loop
 loop-holds c = (search needs, λ e. below-none _)
 
--- src/lib.rt:33:34
 add-is-stop : tie.Need-add-is-stop Inv-loop μ-loop
 add-is-stop c = search needs
 
--- src/lib.rt:33:29
 shared-slice-read-is-stop : tie.Need-shared-slice-read-is-stop Inv-loop μ-loop
 shared-slice-read-is-stop c = search needs
 
--- src/lib.rt:33:21
 is-stop-requires : tie.Need-is-stop-requires Inv-loop μ-loop
 is-stop-requires c κs = search needs
 
--- src/lib.rt:32:9
 add-k : tie.Need-add-k Inv-loop μ-loop
 add-k c = search needs
 
--- src/lib.rt:32:5
 loop-less : tie.Need-loop-less Inv-loop μ-loop
 loop-less c = search needs
 
--- src/lib.rt:32:5
 loop-again : tie.Need-loop-again Inv-loop μ-loop
 loop-again c = (search needs, λ e. below-more (λ (m : ℕ). stopByte (c .before .before .before .before .before .args .newer) (getD (c .before .before .before .before .before .args .text .now) (c .before .before .before .before .before .args .i + m) 0) ≡ false) _ (c .before .before .before .loop .inv .1 (or-left _ _ e)) (sym (c .is-stop .ensures) ∙ or-right (c .before .before .before .loop .hit) _ e))
 
--- src/lib.rt:27:1
 returns : tie.Need-returns Inv-loop μ-loop
 returns c = λ e. plain-of _ _ _ 32 (c .before .before .before .pre) (λ m h. c .before .loop .inv .1 e m (omega arith))
 

@@ -10,15 +10,12 @@ use Rattle.eols.proofs.byte_at.Tie as tie
 use Rattle.eols.proofs.byte_at.Reads as reads
 use Rattle.eols.proofs.byte_at.Lts as lts
 
--- src/lib.rt:71:9
 returns : tie.Need-returns
 returns c = begins-out (c .before .args .b) [] (c .before .args .text .now) (c .before .args .i) (c .if1 .taken)
 
--- src/lib.rt:73:5
 shared-slice-read-result : tie.Need-shared-slice-read-result
 shared-slice-read-result c = search needs
 
--- src/lib.rt:67:1
 returns-2 : tie.Need-returns-2
 returns-2 c = begins-one (c .before .before .args .b) (c .before .before .args .text .now) (c .before .before .args .i) (c .before .if1 .left)
 

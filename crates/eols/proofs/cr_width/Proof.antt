@@ -11,35 +11,27 @@ use Rattle.eols.proofs.cr_width.Lts as lts
 use Rattle.eols.proofs.byte_at.Reads as byte-at-reads
 use Rattle.eols.proofs.two_at.Reads as two-at-reads
 
--- src/lib.rt:92:22
 add-byte-at : tie.Need-add-byte-at
 add-byte-at c = search needs
 
--- src/lib.rt:92:8
 byte-at-requires : tie.Need-byte-at-requires
 byte-at-requires c κs = search needs
 
--- src/lib.rt:93:9
 returns : tie.Need-returns
 returns c = sym (rw (at-head (c .before .before .before .args .text .now) (c .before .before .before .args .i) (c .before .before .before .pre .0)) (cr-lf (getD (c .before .before .before .args .text .now) (c .before .before .before .args .i) 0) (drop (c .before .before .before .args .i + 1) (c .before .before .before .args .text .now)) (c .before .before .before .args .newer) (c .before .before .before .pre .1) (sym (c .before .byte-at .ensures) ∙ c .if1 .taken)))
 
--- src/lib.rt:96:25
 add-two-at : tie.Need-add-two-at
 add-two-at c = search needs
 
--- src/lib.rt:96:12
 two-at-requires : tie.Need-two-at-requires
 two-at-requires c κs = search needs
 
--- src/lib.rt:97:13
 returns-2 : tie.Need-returns-2
 returns-2 c = sym (rw (at-head (c .before .before .before .before .before .before .args .text .now) (c .before .before .before .before .before .before .args .i) (c .before .before .before .before .before .before .pre .0), c .before .before .if2 .taken) (cr-nel (getD (c .before .before .before .before .before .before .args .text .now) (c .before .before .before .before .before .before .args .i) 0) (drop (c .before .before .before .before .before .before .args .i + 1) (c .before .before .before .before .before .before .args .text .now)) (c .before .before .before .before .before .before .pre .1) (sym (c .before .before .before .before .byte-at .ensures) ∙ c .before .before .before .if1 .left) (sym (c .before .two-at .ensures) ∙ c .if3 .taken)))
 
--- src/lib.rt:87:1
 returns-3 : tie.Need-returns-3
 returns-3 c = sym (rw (at-head (c .before .before .before .before .before .before .args .text .now) (c .before .before .before .before .before .before .args .i) (c .before .before .before .before .before .before .pre .0), c .before .before .if2 .taken) (cr-alone11 (getD (c .before .before .before .before .before .before .args .text .now) (c .before .before .before .before .before .before .args .i) 0) (drop (c .before .before .before .before .before .before .args .i + 1) (c .before .before .before .before .before .before .args .text .now)) (c .before .before .before .before .before .before .pre .1) (sym (c .before .before .before .before .byte-at .ensures) ∙ c .before .before .before .if1 .left) (sym (c .before .two-at .ensures) ∙ c .if3 .left)))
 
--- src/lib.rt:87:1
 returns-4 : tie.Need-returns-4
 returns-4 c = sym (rw (at-head (c .before .before .before .before .args .text .now) (c .before .before .before .before .args .i) (c .before .before .before .before .pre .0), c .if2 .left) (cr-alone10 (getD (c .before .before .before .before .args .text .now) (c .before .before .before .before .args .i) 0) (drop (c .before .before .before .before .args .i + 1) (c .before .before .before .before .args .text .now)) (c .before .before .before .before .pre .1) (sym (c .before .before .byte-at .ensures) ∙ c .before .if1 .left)))
 

@@ -11,35 +11,27 @@ use Rattle.eols.proofs.eol_width.Lts as lts
 use Rattle.eols.proofs.cr_width.Reads as cr-width-reads
 use Rattle.eols.proofs.newer_width.Reads as newer-width-reads
 
--- src/lib.rt:128:8
 shared-slice-read-if1 : tie.Need-shared-slice-read-if1
 shared-slice-read-if1 c = search needs
 
--- src/lib.rt:129:9
 cr-width-requires : tie.Need-cr-width-requires
 cr-width-requires c κs = search needs
 
--- src/lib.rt:129:9
 returns : tie.Need-returns
 returns c = search needs
 
--- src/lib.rt:131:8
 shared-slice-read-if2 : tie.Need-shared-slice-read-if2
 shared-slice-read-if2 c = search needs
 
--- src/lib.rt:132:9
 returns-2 : tie.Need-returns-2
 returns-2 c = sym (rw (at-head (c .before .before .before .before .before .args .text .now) (c .before .before .before .before .before .args .i) (c .before .before .before .before .before .pre)) (lf-alone (getD (c .before .before .before .before .before .args .text .now) (c .before .before .before .before .before .args .i) 0) (drop (c .before .before .before .before .before .args .i + 1) (c .before .before .before .before .before .args .text .now)) (c .before .before .before .before .before .args .newer) (c .if2 .taken)))
 
--- src/lib.rt:135:9
 newer-width-requires : tie.Need-newer-width-requires
 newer-width-requires c κs = search needs
 
--- src/lib.rt:135:9
 returns-3 : tie.Need-returns-3
 returns-3 c = rw (c .before .if3 .taken) (c .newer-width .ensures)
 
--- src/lib.rt:124:1
 returns-4 : tie.Need-returns-4
 returns-4 c = sym (rw (at-head (c .before .before .before .before .before .before .args .text .now) (c .before .before .before .before .before .before .args .i) (c .before .before .before .before .before .before .pre), c .if3 .left) (none10 (getD (c .before .before .before .before .before .before .args .text .now) (c .before .before .before .before .before .before .args .i) 0) (drop (c .before .before .before .before .before .before .args .i + 1) (c .before .before .before .before .before .before .args .text .now)) (c .before .before .before .if1 .left) (c .before .if2 .left)))
 

@@ -18,24 +18,19 @@ Inv-loop text newer n₀ i₀ n i = (i ≤ length text) × (n ≤ i) × (length 
 abbrev μ-loop : tie.MeasureT-loop
 μ-loop text newer n₀ i₀ n i = length text - i
 
--- src/lib.rt:158:5
 loop-holds : tie.Need-loop-holds Inv-loop μ-loop
 unfolding eols
 loop-holds c = (omega arith, omega arith, omega arith)
 
--- src/lib.rt:159:13
 plain-end-requires : tie.Need-plain-end-requires Inv-loop μ-loop
 plain-end-requires c κs = c .before .loop .inv .0
 
--- src/lib.rt:160:14
 sub-n : tie.Need-sub-n Inv-loop μ-loop
 sub-n c = c .plain-end .ensures .from
 
--- src/lib.rt:160:9
 add-n : tie.Need-add-n Inv-loop μ-loop
 add-n c = omega (arith, c .before .before .loop .inv .1, c .plain-end .ensures .from, c .plain-end .ensures .to)
 
--- src/lib.rt:162:13
 returns : tie.Need-returns Inv-loop μ-loop
 returns c =
     let p = c .before .plain-end .ensures in
@@ -43,23 +38,18 @@ returns c =
     let o = ap length (eols-over (c .before .before .before .before .before .args .newer) (c .before .before .before .before .before .args .text .now) (c .before .plain-end .result) (omega arith)) in
     sym (c .before .before .before .loop .inv .2 ∙ omega (arith, z, o))
 
--- src/lib.rt:164:13
 normalize-eol-step-requires : tie.Need-normalize-eol-step-requires Inv-loop μ-loop
 normalize-eol-step-requires c κs = omega (arith, c .before .plain-end .ensures .to)
 
--- src/lib.rt:165:9
 add-n-2 : tie.Need-add-n-2 Inv-loop μ-loop
 add-n-2 c = omega (arith, c .before .before .before .before .loop .inv .1, c .before .before .plain-end .ensures .from, c .before .before .plain-end .ensures .to)
 
--- src/lib.rt:166:13
 add-i : tie.Need-add-i Inv-loop μ-loop
 add-i c = omega (arith, c .before .normalize-eol-step .ensures .inside)
 
--- src/lib.rt:158:5
 loop-less : tie.Need-loop-less Inv-loop μ-loop
 loop-less c = omega (arith, c .before .normalize-eol-step .ensures .some, c .before .normalize-eol-step .ensures .inside, c .before .before .before .plain-end .ensures .from)
 
--- src/lib.rt:158:5
 loop-again : tie.Need-loop-again Inv-loop μ-loop
 loop-again c = (
   omega (arith, c .before .normalize-eol-step .ensures .inside),
@@ -67,7 +57,6 @@ loop-again c = (
   c .before .before .before .before .before .loop .inv .2 ∙ omega (arith, run-length _ _ _ _ (c .before .before .before .plain-end .ensures), step-length _ _ _ _ (c .before .normalize-eol-step .ensures), c .before .before .before .plain-end .ensures .from),
 )
 
--- src/lib.rt:153:1
 returns-2 : tie.Need-returns-2 Inv-loop μ-loop
 returns-2 c = sym (c .before .loop .inv .2 ∙ omega (arith, ap length (eols-over (c .before .before .before .args .newer) (c .before .before .before .args .text .now) (c .before .loop .i) (c .loop-test .left))))
 

@@ -11,47 +11,36 @@ use Rattle.eols.proofs.newer_width.Lts as lts
 use Rattle.eols.proofs.byte_at.Reads as byte-at-reads
 use Rattle.eols.proofs.two_at.Reads as two-at-reads
 
--- src/lib.rt:109:8
 shared-slice-read-if1 : tie.Need-shared-slice-read-if1
 shared-slice-read-if1 c = search needs
 
--- src/lib.rt:110:26
 add-byte-at : tie.Need-add-byte-at
 add-byte-at c = search needs
 
--- src/lib.rt:110:12
 byte-at-requires : tie.Need-byte-at-requires
 byte-at-requires c κs = search needs
 
--- src/lib.rt:111:13
 returns : tie.Need-returns
 returns c = sym (rw (at-head (c .before .before .before .before .before .args .text .now) (c .before .before .before .before .before .args .i) (c .before .before .before .before .before .pre .0)) (nel (getD (c .before .before .before .before .before .args .text .now) (c .before .before .before .before .before .args .i) 0) (drop (c .before .before .before .before .before .args .i + 1) (c .before .before .before .before .before .args .text .now)) (c .before .before .before .before .before .pre .1 .0) (c .before .before .before .before .before .pre .1 .1) (c .before .before .if1 .taken) (sym (c .before .byte-at .ensures) ∙ c .if2 .taken)))
 
--- src/lib.rt:113:9
 returns-2 : tie.Need-returns-2
 returns-2 c = sym (rw (at-head (c .before .before .before .before .before .args .text .now) (c .before .before .before .before .before .args .i) (c .before .before .before .before .before .pre .0)) (not-nel (getD (c .before .before .before .before .before .args .text .now) (c .before .before .before .before .before .args .i) 0) (drop (c .before .before .before .before .before .args .i + 1) (c .before .before .before .before .before .args .text .now)) (c .before .before .before .before .before .pre .1 .0) (c .before .before .before .before .before .pre .1 .1) (c .before .before .if1 .taken) (sym (c .before .byte-at .ensures) ∙ c .if2 .left)))
 
--- src/lib.rt:115:8
 shared-slice-read-if3 : tie.Need-shared-slice-read-if3
 shared-slice-read-if3 c = search needs
 
--- src/lib.rt:116:25
 add-two-at : tie.Need-add-two-at
 add-two-at c = search needs
 
--- src/lib.rt:116:12
 two-at-requires : tie.Need-two-at-requires
 two-at-requires c κs = search needs
 
--- src/lib.rt:117:13
 returns-3 : tie.Need-returns-3
 returns-3 c = sym (rw (at-head (c .before .before .before .before .before .before .before .args .text .now) (c .before .before .before .before .before .before .before .args .i) (c .before .before .before .before .before .before .before .pre .0)) (ls (getD (c .before .before .before .before .before .before .before .args .text .now) (c .before .before .before .before .before .before .before .args .i) 0) (drop (c .before .before .before .before .before .before .before .args .i + 1) (c .before .before .before .before .before .before .before .args .text .now)) (c .before .before .before .before .before .before .before .pre .1 .0) (c .before .before .before .before .before .before .before .pre .1 .1) (c .before .before .if3 .taken) (sym (c .before .two-at .ensures) ∙ c .if4 .taken)))
 
--- src/lib.rt:104:1
 returns-4 : tie.Need-returns-4
 returns-4 c = sym (rw (at-head (c .before .before .before .before .before .before .before .args .text .now) (c .before .before .before .before .before .before .before .args .i) (c .before .before .before .before .before .before .before .pre .0)) (not-ls (getD (c .before .before .before .before .before .before .before .args .text .now) (c .before .before .before .before .before .before .before .args .i) 0) (drop (c .before .before .before .before .before .before .before .args .i + 1) (c .before .before .before .before .before .before .before .args .text .now)) (c .before .before .before .before .before .before .before .pre .1 .0) (c .before .before .before .before .before .before .before .pre .1 .1) (c .before .before .if3 .taken) (sym (c .before .two-at .ensures) ∙ c .if4 .left)))
 
--- src/lib.rt:104:1
 returns-5 : tie.Need-returns-5
 returns-5 c = sym (rw (at-head (c .before .before .before .before .before .args .text .now) (c .before .before .before .before .before .args .i) (c .before .before .before .before .before .pre .0)) (none11 (getD (c .before .before .before .before .before .args .text .now) (c .before .before .before .before .before .args .i) 0) (drop (c .before .before .before .before .before .args .i + 1) (c .before .before .before .before .before .args .text .now)) (c .before .before .before .before .before .pre .1 .0) (c .before .before .before .before .before .pre .1 .1) (c .before .before .if1 .left) (c .if3 .left)))
 

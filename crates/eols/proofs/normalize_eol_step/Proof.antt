@@ -10,19 +10,15 @@ use Rattle.eols.proofs.normalize_eol_step.Reads as reads
 use Rattle.eols.proofs.normalize_eol_step.Lts as lts
 use Rattle.eols.proofs.eol_width.Reads as eol-width-reads
 
--- src/lib.rt:145:9
 eol-width-requires : tie.Need-eol-width-requires
 eol-width-requires c κs = search needs
 
--- src/lib.rt:147:29
 shared-slice-read-t7 : tie.Need-shared-slice-read-t7
 shared-slice-read-t7 c = search needs
 
--- src/lib.rt:147:9
 returns : tie.Need-returns
 returns c = step-copies _ _ _ (c .before .before .before .before .pre) (sym (c .before .if1 .taken) ∙ c .before .before .eol-width .ensures)
 
--- src/lib.rt:141:1
 returns-2 : tie.Need-returns-2
 returns-2 c = step-ends _ _ _ _ (c .before .before .before .pre) (c .if1 .left) (c .before .eol-width .ensures)
 

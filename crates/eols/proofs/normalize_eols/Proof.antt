@@ -20,26 +20,21 @@ use Rattle.eols.proofs.normalize_eols.Lts as lts
 use Rattle.eols.proofs.eols_length.Reads as eols-length-reads
 use Rattle.eols.proofs.write_eols.Reads as write-eols-reads
 
--- src/lib.rt:203:13
 eols-length-requires : tie.Need-eols-length-requires
 eols-length-requires c κs = search needs
 
--- src/lib.rt:205:13
 returns : tie.Need-returns
 returns c =
     finish-short (eols (ruleOf (c .before .before .before .before .before .args .version)) (c .before .before .before .before .before .args .text .now)) 0 (c .before .before .before .before .before .args .out .now)
     (c .before .eols-length .ensures ∙ ap (λ (r : Rule). length (eols r (c .before .before .before .before .before .args .text .now))) (version-rule (c .before .before .before .before .before .args .version) _ refl)) (c .if2 .taken)
 
--- src/lib.rt:212:9
 write-eols-requires : tie.Need-write-eols-requires
 write-eols-requires c κs =
     ⊎-elim (λ w. omega (arith, w .1 .ensures, w .2)) (λ w. omega (arith, w .left, no-longer (ruleFor (ltb 1 (c .before .before .before .before .args .version))) (c .before .before .before .before .args .text .now))) (c .before .if1 .came)
 
--- src/lib.rt:198:1
 same-length : tie.Need-same-length
 same-length c = search needs
 
--- src/lib.rt:198:1
 returns-2 : tie.Need-returns-2
 returns-2 c =
     finish-laid (eols (ruleOf (c .before .before .before .before .before .before .before .args .version)) (c .before .before .before .before .before .before .before .args .text .now)) 0 (c .before .before .before .before .before .before .before .args .out .now)

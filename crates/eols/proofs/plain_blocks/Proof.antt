@@ -16,35 +16,27 @@ Inv-loop text from newer i₀ i = Plain newer text from i
 abbrev μ-loop : tie.MeasureT-loop
 μ-loop text from newer i₀ i = length text - i
 
--- src/lib.rt:43:5
 loop-holds : tie.Need-loop-holds Inv-loop μ-loop
 loop-holds c = plain-none _ _ _ (c .before .pre)
 
--- src/lib.rt:43:17
 sub-loop : tie.Need-sub-loop Inv-loop μ-loop
 sub-loop c = c .loop .inv .to
 
--- src/lib.rt:44:12
 any-stop-requires : tie.Need-any-stop-requires Inv-loop μ-loop
 any-stop-requires c κs = omega (arith, c .before .loop .inv .to)
 
--- src/lib.rt:45:13
 returns : tie.Need-returns Inv-loop μ-loop
 returns c = c .before .before .before .loop .inv
 
--- src/lib.rt:47:9
 add-i : tie.Need-add-i Inv-loop μ-loop
 add-i c = omega (arith, c .before .before .before .loop .inv .to)
 
--- src/lib.rt:43:5
 loop-less : tie.Need-loop-less Inv-loop μ-loop
 loop-less c = omega (arith, c .before .before .before .loop .inv .to)
 
--- src/lib.rt:43:5
 loop-again : tie.Need-loop-again Inv-loop μ-loop
 loop-again c = plain-join _ _ _ (c .before .before .before .loop .i) _ (c .before .before .before .loop .inv) (c .before .any-stop .ensures (c .if1 .left))
 
--- src/lib.rt:38:1
 returns-2 : tie.Need-returns-2 Inv-loop μ-loop
 returns-2 c = c .before .loop .inv
 

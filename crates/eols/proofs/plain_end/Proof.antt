@@ -18,39 +18,30 @@ Inv-loop text from newer i₀ i = Plain newer text from i
 abbrev μ-loop : tie.MeasureT-loop
 μ-loop text from newer i₀ i = length text - i
 
--- src/lib.rt:57:9
 plain-blocks-requires : tie.Need-plain-blocks-requires Inv-loop μ-loop
 plain-blocks-requires c κs = c .before .pre
 
--- src/lib.rt:58:5
 loop-holds : tie.Need-loop-holds Inv-loop μ-loop
 loop-holds c = c .plain-blocks .ensures
 
--- src/lib.rt:59:20
 shared-slice-read-is-stop : tie.Need-shared-slice-read-is-stop Inv-loop μ-loop
 shared-slice-read-is-stop c = search needs
 
--- src/lib.rt:59:12
 is-stop-requires : tie.Need-is-stop-requires Inv-loop μ-loop
 is-stop-requires c κs = search needs
 
--- src/lib.rt:60:13
 returns : tie.Need-returns Inv-loop μ-loop
 returns c = c .before .before .before .before .loop .inv
 
--- src/lib.rt:62:9
 add-i : tie.Need-add-i Inv-loop μ-loop
 add-i c = search needs
 
--- src/lib.rt:58:5
 loop-less : tie.Need-loop-less Inv-loop μ-loop
 loop-less c = search needs
 
--- src/lib.rt:58:5
 loop-again : tie.Need-loop-again Inv-loop μ-loop
 loop-again c = plain-join _ _ _ (c .before .before .before .before .loop .i) _ (c .before .before .before .before .loop .inv) (plain-byte _ _ _ (c .before .before .before .loop-test .taken) (sym (c .before .is-stop .ensures) ∙ c .if1 .left))
 
--- src/lib.rt:53:1
 returns-2 : tie.Need-returns-2 Inv-loop μ-loop
 returns-2 c = c .before .loop .inv
 

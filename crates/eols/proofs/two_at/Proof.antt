@@ -10,23 +10,18 @@ use Rattle.eols.proofs.two_at.Reads as reads
 use Rattle.eols.proofs.two_at.Lts as lts
 use Rattle.eols.proofs.byte_at.Reads as byte-at-reads
 
--- src/lib.rt:80:8
 byte-at-requires : tie.Need-byte-at-requires
 byte-at-requires c κs = search needs
 
--- src/lib.rt:81:30
 add-byte-at : tie.Need-add-byte-at
 add-byte-at c = search needs
 
--- src/lib.rt:81:9
 byte-at-requires-2 : tie.Need-byte-at-requires-2
 byte-at-requires-2 c κs = search needs
 
--- src/lib.rt:81:9
 returns : tie.Need-returns
 returns c = c .byte-at2 .ensures ∙ begins-two (c .before .before .before .before .args .a) (c .before .before .before .before .args .b) (c .before .before .before .before .args .text .now) (c .before .before .before .before .args .i) (sym (c .before .before .byte-at .ensures) ∙ c .before .if1 .taken)
 
--- src/lib.rt:76:1
 returns-2 : tie.Need-returns-2
 returns-2 c = begins-not (c .before .before .before .args .a) (c .before .before .before .args .b) (c .before .before .before .args .text .now) (c .before .before .before .args .i) (sym (c .before .byte-at .ensures) ∙ c .if1 .left)
 

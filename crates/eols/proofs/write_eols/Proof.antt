@@ -21,88 +21,67 @@ Inv-loop text newer out₀ at₀ i₀ out at i = (i ≤ length text) × Written 
 abbrev μ-loop : tie.MeasureT-loop
 μ-loop text newer out₀ at₀ i₀ out at i = length text - i
 
--- src/lib.rt:181:5
 loop-holds : tie.Need-loop-holds Inv-loop μ-loop
 unfolding eols
 loop-holds c = (omega arith, written-start _ _)
 
--- src/lib.rt:182:13
 plain-end-requires : tie.Need-plain-end-requires Inv-loop μ-loop
 plain-end-requires c κs = c .before .loop .inv .0
 
--- src/lib.rt:183:25
 sub-put-run : tie.Need-sub-put-run Inv-loop μ-loop
 sub-put-run c = c .plain-end .ensures .from
 
--- src/lib.rt:183:25
 part-put-run-start : tie.Need-part-put-run-start Inv-loop μ-loop
 part-put-run-start c = c .plain-end .ensures .from
 
--- src/lib.rt:183:25
 part-put-run-end : tie.Need-part-put-run-end Inv-loop μ-loop
 part-put-run-end c = c .plain-end .ensures .to
 
--- src/lib.rt:183:38
 sub-put-run-2 : tie.Need-sub-put-run-2 Inv-loop μ-loop
 sub-put-run-2 c = omega (arith, to-come (c .before .before .before .loop .inv .1), same (c .before .before .before .loop .inv .1) (c .before .before .before .before .before .before .pre), c .before .before .before .before .before .before .pre)
 
--- src/lib.rt:183:38
 part-put-run-start-2 : tie.Need-part-put-run-start-2 Inv-loop μ-loop
 part-put-run-start-2 c = omega (arith, to-come (c .before .before .before .loop .inv .1), same (c .before .before .before .loop .inv .1) (c .before .before .before .before .before .before .pre), c .before .before .before .before .before .before .pre)
 
--- src/lib.rt:183:38
 part-put-run-end-2 : tie.Need-part-put-run-end-2 Inv-loop μ-loop
 part-put-run-end-2 c = search needs
 
--- src/lib.rt:183:9
 put-run-requires : tie.Need-put-run-requires Inv-loop μ-loop
 put-run-requires c κs = run-room _ _ _ _ (c .before .before .plain-end .ensures) (c .before .before .before .before .loop .inv .1) (c .before .before .before .before .before .before .before .pre)
 
--- src/lib.rt:184:15
 sub-at : tie.Need-sub-at Inv-loop μ-loop
 sub-at c = c .before .before .before .before .before .plain-end .ensures .from
 
--- src/lib.rt:184:9
 add-at : tie.Need-add-at Inv-loop μ-loop
 add-at c = omega (arith, to-come (run-written (c .before .before .before .before .before .before .before .before .before .before .args .newer) (c .before .before .before .before .before .before .before .before .before .before .args .text .now) (c .before .before .before .before .before .before .before .loop .i) (c .before .before .before .before .before .plain-end .result) (c .before .before .before .before .before .plain-end .ensures) (c .before .before .before .before .before .before .before .loop .inv .1) (c .before .before .put-run .ensures)), c .before .before .before .before .before .before .before .before .before .before .pre)
 
--- src/lib.rt:186:13
 same-length : tie.Need-same-length Inv-loop μ-loop
 same-length c = same (run-written (c .before .before .before .before .before .before .before .before .before .before .before .args .newer) (c .before .before .before .before .before .before .before .before .before .before .before .args .text .now) (c .before .before .before .before .before .before .before .before .loop .i) (c .before .before .before .before .before .before .plain-end .result) (c .before .before .before .before .before .before .plain-end .ensures) (c .before .before .before .before .before .before .before .before .loop .inv .1) (c .before .before .before .put-run .ensures)) (c .before .before .before .before .before .before .before .before .before .before .before .pre)
 
--- src/lib.rt:186:13
 returns : tie.Need-returns Inv-loop μ-loop
 returns c = (written-all (written-as (eols-over (c .before .before .before .before .before .before .before .before .before .before .before .args .newer) (c .before .before .before .before .before .before .before .before .before .before .before .args .text .now) (c .before .before .before .before .before .before .plain-end .result) (omega arith)) (run-written (c .before .before .before .before .before .before .before .before .before .before .before .args .newer) (c .before .before .before .before .before .before .before .before .before .before .before .args .text .now) (c .before .before .before .before .before .before .before .before .loop .i) (c .before .before .before .before .before .before .plain-end .result) (c .before .before .before .before .before .before .plain-end .ensures) (c .before .before .before .before .before .before .before .before .loop .inv .1) (c .before .before .before .put-run .ensures))), written-end (written-as (eols-over (c .before .before .before .before .before .before .before .before .before .before .before .args .newer) (c .before .before .before .before .before .before .before .before .before .before .before .args .text .now) (c .before .before .before .before .before .before .plain-end .result) (omega arith)) (run-written (c .before .before .before .before .before .before .before .before .before .before .before .args .newer) (c .before .before .before .before .before .before .before .before .before .before .before .args .text .now) (c .before .before .before .before .before .before .before .before .loop .i) (c .before .before .before .before .before .before .plain-end .result) (c .before .before .before .before .before .before .plain-end .ensures) (c .before .before .before .before .before .before .before .before .loop .inv .1) (c .before .before .before .put-run .ensures))))
 
--- src/lib.rt:188:13
 normalize-eol-step-requires : tie.Need-normalize-eol-step-requires Inv-loop μ-loop
 normalize-eol-step-requires c κs = omega (arith, c .before .before .before .before .before .before .plain-end .ensures .to)
 
--- src/lib.rt:189:9
 slice-write-out : tie.Need-slice-write-out Inv-loop μ-loop
 slice-write-out c = byte-room (written-as (c .normalize-eol-step .ensures .rest) (run-written (c .before .before .before .before .before .before .before .before .before .before .before .before .args .newer) (c .before .before .before .before .before .before .before .before .before .before .before .before .args .text .now) (c .before .before .before .before .before .before .before .before .before .loop .i) (c .before .before .before .before .before .before .before .plain-end .result) (c .before .before .before .before .before .before .before .plain-end .ensures) (c .before .before .before .before .before .before .before .before .before .loop .inv .1) (c .before .before .before .before .put-run .ensures))) (c .before .before .before .before .before .before .before .before .before .before .before .before .pre)
 
--- src/lib.rt:190:9
 add-at-2 : tie.Need-add-at-2 Inv-loop μ-loop
 add-at-2 c = omega (arith, to-come (written-as (c .normalize-eol-step .ensures .rest) (run-written (c .before .before .before .before .before .before .before .before .before .before .before .before .args .newer) (c .before .before .before .before .before .before .before .before .before .before .before .before .args .text .now) (c .before .before .before .before .before .before .before .before .before .loop .i) (c .before .before .before .before .before .before .before .plain-end .result) (c .before .before .before .before .before .before .before .plain-end .ensures) (c .before .before .before .before .before .before .before .before .before .loop .inv .1) (c .before .before .before .before .put-run .ensures))), c .before .before .before .before .before .before .before .before .before .before .before .before .pre)
 
--- src/lib.rt:191:13
 add-i : tie.Need-add-i Inv-loop μ-loop
 add-i c = omega (arith, c .before .normalize-eol-step .ensures .inside)
 
--- src/lib.rt:181:5
 loop-less : tie.Need-loop-less Inv-loop μ-loop
 loop-less c = omega (arith, c .before .normalize-eol-step .ensures .some, c .before .normalize-eol-step .ensures .inside, c .before .before .before .before .before .before .before .before .plain-end .ensures .from)
 
--- src/lib.rt:181:5
 loop-again : tie.Need-loop-again Inv-loop μ-loop
 loop-again c = (c .before .normalize-eol-step .ensures .inside, written-byte _ (written-as (c .before .normalize-eol-step .ensures .rest) (run-written (c .before .before .before .before .before .before .before .before .before .before .before .before .before .args .newer) (c .before .before .before .before .before .before .before .before .before .before .before .before .before .args .text .now) (c .before .before .before .before .before .before .before .before .before .before .loop .i) (c .before .before .before .before .before .before .before .before .plain-end .result) (c .before .before .before .before .before .before .before .before .plain-end .ensures) (c .before .before .before .before .before .before .before .before .before .before .loop .inv .1) (c .before .before .before .before .before .put-run .ensures))) (c .before .before .before .before .before .before .before .before .before .before .before .before .before .pre))
 
--- src/lib.rt:175:1
 same-length-2 : tie.Need-same-length-2 Inv-loop μ-loop
 same-length-2 c = same (c .before .loop .inv .1) (c .before .before .before .before .pre)
 
--- src/lib.rt:175:1
 returns-2 : tie.Need-returns-2 Inv-loop μ-loop
 returns-2 c = (written-all (written-as (eols-over (c .before .before .before .before .args .newer) (c .before .before .before .before .args .text .now) (c .before .loop .i) (c .loop-test .left)) (c .before .loop .inv .1)), written-end (written-as (eols-over (c .before .before .before .before .args .newer) (c .before .before .before .before .args .text .now) (c .before .loop .i) (c .loop-test .left)) (c .before .loop .inv .1)))
 

@@ -10,31 +10,25 @@ use Rattle.govlezna.proofs.govlezna_check_utf8.Lts as lts
 use Rattle.govlezna.proofs.put.Reads as put-reads
 use Rattle.text.proofs.check_text.Reads as check-text-reads
 
--- src/lib.rt:36:9
 check-text-requires : tie.Need-check-text-requires
 check-text-requires c κs = search needs
 
 enum-told : tie.Need-enum-told
 enum-told c = search needs
 
--- src/lib.rt:42:29
 enum-told-2 : tie.Need-enum-told-2
 enum-told-2 c = search needs
 
--- src/lib.rt:42:9
 put-requires : tie.Need-put-requires
 put-requires c κs = search needs
 
--- src/lib.rt:42:9
 returns : tie.Need-returns
 unfolding checkUtf8Call
 returns c = c .put .ensures [] ∙ halts [] _ (c .before .before .before .before .check-text .ensures) (c .before .before .enum-told2 .given .1)
 
--- src/lib.rt:44:5
 put-requires-2 : tie.Need-put-requires-2
 put-requires-2 c κs = search needs
 
--- src/lib.rt:32:1
 returns-2 : tie.Need-returns-2
 unfolding checkUtf8Call
 returns-2 c = c .put2 .ensures [] ∙ passes [] _ (c .before .before .before .before .check-text .ensures) (c .before .before .enum-told .given .1)

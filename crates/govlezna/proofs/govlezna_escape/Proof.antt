@@ -13,45 +13,36 @@ use Rattle.escape.proofs.escape.Reads as escape-reads
 use Rattle.govlezna.proofs.put.Reads as put-reads
 use Rattle.text.proofs.check_arguments.Reads as check-arguments-reads
 
--- src/lib.rt:85:53
 check-level-requires : tie.Need-check-level-requires
 check-level-requires c κs = search needs
 
--- src/lib.rt:85:9
 check-arguments-requires : tie.Need-check-arguments-requires
 check-arguments-requires c κs = search needs
 
 enum-told : tie.Need-enum-told
 enum-told c = search needs
 
--- src/lib.rt:87:35
 enum-told-2 : tie.Need-enum-told-2
 enum-told-2 c = search needs
 
--- src/lib.rt:87:9
 put-requires : tie.Need-put-requires
 put-requires c κs = search needs
 
--- src/lib.rt:87:9
 returns : tie.Need-returns
 unfolding escapeCall
 returns c =
     c .put .ensures (c .before .before .before .before .before .before .before .before .args .out .now ∷ [])
     ∙ halts (c .before .before .before .before .before .before .before .before .args .out .now ∷ []) _ (c .before .before .before .before .check-arguments .ensures ∙ ap (argumentCheck (c .before .before .before .before .before .before .before .before .args .text .now)) (c .before .before .before .before .before .check-level .ensures)) (c .before .before .enum-told2 .given .1)
 
--- src/lib.rt:89:9
 escape-requires : tie.Need-escape-requires
 escape-requires c κs = checked-length (c .before .before .before .before .before .before .before .args .text .now) _ (sym (c .before .before .before .check-arguments .ensures) ∙ c .before .enum-told .given .1)
 
--- src/lib.rt:89:5
 put-requires-2 : tie.Need-put-requires-2
 put-requires-2 c κs = search needs
 
--- src/lib.rt:81:1
 same-length : tie.Need-same-length
 same-length c = search needs
 
--- src/lib.rt:81:1
 returns-2 : tie.Need-returns-2
 unfolding escapeCall
 returns-2 c =

@@ -14,45 +14,36 @@ use Rattle.govlezna.proofs.put.Reads as put-reads
 use Rattle.text.proofs.check_arguments.Reads as check-arguments-reads
 use Rattle.text.proofs.check_version.Reads as check-version-reads
 
--- src/lib.rt:74:55
 check-version-requires : tie.Need-check-version-requires
 check-version-requires c κs = search needs
 
--- src/lib.rt:74:9
 check-arguments-requires : tie.Need-check-arguments-requires
 check-arguments-requires c κs = search needs
 
 enum-told : tie.Need-enum-told
 enum-told c = search needs
 
--- src/lib.rt:76:37
 enum-told-2 : tie.Need-enum-told-2
 enum-told-2 c = search needs
 
--- src/lib.rt:76:9
 put-requires : tie.Need-put-requires
 put-requires c κs = search needs
 
--- src/lib.rt:76:9
 returns : tie.Need-returns
 unfolding normalizeEolsCall
 returns c =
     c .put .ensures (c .before .before .before .before .before .before .before .before .args .out .now ∷ [])
     ∙ halts (c .before .before .before .before .before .before .before .before .args .out .now ∷ []) _ (c .before .before .before .before .check-arguments .ensures ∙ ap (argumentCheck (c .before .before .before .before .before .before .before .before .args .text .now)) (c .before .before .before .before .before .check-version .ensures)) (c .before .before .enum-told2 .given .1)
 
--- src/lib.rt:78:9
 normalize-eols-requires : tie.Need-normalize-eols-requires
 normalize-eols-requires c κs = search needs
 
--- src/lib.rt:78:5
 put-requires-2 : tie.Need-put-requires-2
 put-requires-2 c κs = search needs
 
--- src/lib.rt:70:1
 same-length : tie.Need-same-length
 same-length c = search needs
 
--- src/lib.rt:70:1
 returns-2 : tie.Need-returns-2
 unfolding normalizeEolsCall
 returns-2 c =

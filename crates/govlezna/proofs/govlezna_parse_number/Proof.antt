@@ -15,39 +15,31 @@ use Rattle.charref.proofs.parse_number.Reads as parse-number-reads
 use Rattle.govlezna.proofs.put.Reads as put-reads
 use Rattle.text.proofs.check_text.Reads as check-text-reads
 
--- src/lib.rt:58:9
 check-text-requires : tie.Need-check-text-requires
 check-text-requires c κs = search needs
 
 enum-told : tie.Need-enum-told
 enum-told c = search needs
 
--- src/lib.rt:64:27
 enum-told-2 : tie.Need-enum-told-2
 enum-told-2 c = search needs
 
--- src/lib.rt:64:9
 put-requires : tie.Need-put-requires
 put-requires c κs = search needs
 
--- src/lib.rt:64:9
 returns : tie.Need-returns
 unfolding parseNumberCall
 returns c = c .put .ensures [] ∙ halts [] _ (c .before .before .before .before .check-text .ensures) (c .before .before .enum-told2 .given .1)
 
--- src/lib.rt:66:28
 parse-number-requires : tie.Need-parse-number-requires
 parse-number-requires c κs = search needs
 
--- src/lib.rt:66:9
 answer-of-requires : tie.Need-answer-of-requires
 answer-of-requires c κs = search needs
 
--- src/lib.rt:66:5
 put-requires-2 : tie.Need-put-requires-2
 put-requires-2 c κs = search needs
 
--- src/lib.rt:54:1
 returns-2 : tie.Need-returns-2
 unfolding parseNumberCall
 returns-2 c =

@@ -10,27 +10,21 @@ use Rattle.govlezna.proofs.put.Reads as reads
 use Rattle.govlezna.proofs.put.Lts as lts
 use Rattle.govlezna.proofs.answered.Reads as answered-reads
 
--- src/lib.rt:22:24
 enum-known-result : tie.Need-enum-known-result
 enum-known-result c = search needs
 
--- src/lib.rt:22:43
 answered-requires : tie.Need-answered-requires
 answered-requires c κs = search needs
 
--- src/lib.rt:23:27
 enum-known-result-2 : tie.Need-enum-known-result-2
 enum-known-result-2 c = search needs
 
--- src/lib.rt:23:54
 answered-requires-2 : tie.Need-answered-requires-2
 answered-requires-2 c κs = search needs
 
--- src/lib.rt:18:1
 returns : tie.Need-returns
 returns c = λ buffers. ap₂ (λ (n : ℕ) (words : List ℕ). called n words buffers) (c .answered .ensures .0) (c .answered .ensures .1) ∙ sym (ap (λ (a : Answer). callOf a buffers) (c .before .before .before .result .given .1))
 
--- src/lib.rt:18:1
 returns-2 : tie.Need-returns-2
 returns-2 c = λ buffers. ap₂ (λ (n : ℕ) (words : List ℕ). called n words buffers) (c .answered2 .ensures .0) (c .answered2 .ensures .1) ∙ sym (ap (λ (a : Answer). callOf a buffers) (c .before .before .before .result2 .given .1))
 

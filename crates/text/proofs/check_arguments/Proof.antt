@@ -8,37 +8,30 @@ use Rattle.text.proofs.check_arguments.Lts as lts
 use Rattle.text.proofs.check_length.Reads as check-length-reads
 use Rattle.text.proofs.check_utf8.Reads as check-utf8-reads
 
--- src/lib.rt:91:9
 check-length-requires : tie.Need-check-length-requires
 check-length-requires c κs = search needs
 
 enum-told : tie.Need-enum-told
 enum-told c = search needs
 
--- src/lib.rt:93:9
 enum-told-2 : tie.Need-enum-told-2
 enum-told-2 c = search needs
 
--- src/lib.rt:93:9
 returns : tie.Need-returns
 returns c = stops _ (c .before .before .check-length .ensures) (c .enum-told2 .given .1)
 
 enum-told-3 : tie.Need-enum-told-3
 enum-told-3 c = search needs
 
--- src/lib.rt:96:9
 enum-told-4 : tie.Need-enum-told-4
 enum-told-4 c = search needs
 
--- src/lib.rt:96:9
 returns-2 : tie.Need-returns-2
 returns-2 c = stops _ refl (c .enum-told4 .given .1) ∙ goes-on _ (c .before .before .before .before .check-length .ensures) (c .before .before .enum-told .given .1)
 
--- src/lib.rt:98:5
 check-utf8-requires : tie.Need-check-utf8-requires
 check-utf8-requires c κs = search needs
 
--- src/lib.rt:88:1
 returns-3 : tie.Need-returns-3
 returns-3 c = c .check-utf8 .ensures ∙ goes-on _ refl (c .before .enum-told3 .given .1) ∙ goes-on _ (c .before .before .before .before .before .check-length .ensures) (c .before .before .before .enum-told .given .1)
 

@@ -6,12 +6,10 @@ use Rattle.text.proofs.check_length.Tie as tie
 use Rattle.text.proofs.check_length.Reads as reads
 use Rattle.text.proofs.check_length.Lts as lts
 
--- src/lib.rt:16:9
 returns : tie.Need-returns
 unfolding lengthCheck
 returns c = simp (lt-ltb _ _ (c .if1 .taken))
 
--- src/lib.rt:12:1
 returns-2 : tie.Need-returns-2
 unfolding lengthCheck
 returns-2 c = simp (le-ltb _ _ (c .if1 .left))

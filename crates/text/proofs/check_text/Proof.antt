@@ -8,26 +8,21 @@ use Rattle.text.proofs.check_text.Lts as lts
 use Rattle.text.proofs.check_length.Reads as check-length-reads
 use Rattle.text.proofs.check_utf8.Reads as check-utf8-reads
 
--- src/lib.rt:69:9
 check-length-requires : tie.Need-check-length-requires
 check-length-requires c κs = search needs
 
 enum-told : tie.Need-enum-told
 enum-told c = search needs
 
--- src/lib.rt:71:9
 enum-told-2 : tie.Need-enum-told-2
 enum-told-2 c = search needs
 
--- src/lib.rt:71:9
 returns : tie.Need-returns
 returns c = stops _ (c .before .before .check-length .ensures) (c .enum-told2 .given .1)
 
--- src/lib.rt:73:5
 check-utf8-requires : tie.Need-check-utf8-requires
 check-utf8-requires c κs = search needs
 
--- src/lib.rt:66:1
 returns-2 : tie.Need-returns-2
 returns-2 c = c .check-utf8 .ensures ∙ goes-on _ (c .before .before .before .check-length .ensures) (c .before .enum-told .given .1)
 

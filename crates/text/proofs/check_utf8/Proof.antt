@@ -8,16 +8,13 @@ use Rattle.text.proofs.check_utf8.Reads as reads
 use Rattle.text.proofs.check_utf8.Lts as lts
 use Rattle.text.proofs.validate.utf8_end.Reads as utf8-end-reads
 
--- src/lib.rt:58:9
 utf8-end-requires : tie.Need-utf8-end-requires
 utf8-end-requires c κs = search needs
 
--- src/lib.rt:60:9
 returns : tie.Need-returns
 unfolding utf8Check
 returns c = rw (sym (c .before .utf8-end .ensures), eq-eqb _ _ (c .if1 .taken))
 
--- src/lib.rt:55:1
 returns-2 : tie.Need-returns-2
 unfolding utf8Check
 returns-2 c = rw (sym (c .before .utf8-end .ensures), ne-eqb _ _ (c .if1 .left))

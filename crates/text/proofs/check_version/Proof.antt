@@ -6,12 +6,10 @@ use Rattle.text.proofs.check_version.Tie as tie
 use Rattle.text.proofs.check_version.Reads as reads
 use Rattle.text.proofs.check_version.Lts as lts
 
--- src/lib.rt:26:9
 returns : tie.Need-returns
 unfolding versionCheck
 returns c = simp (lt-leb _ _ (c .if1 .taken))
 
--- src/lib.rt:22:1
 returns-2 : tie.Need-returns-2
 unfolding versionCheck
 returns-2 c = simp (le-leb _ _ (c .if1 .left))

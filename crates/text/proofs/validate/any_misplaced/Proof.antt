@@ -19,71 +19,54 @@ Inv-loop text j hit₀ k₀ hit k = (k ≤ 32) × (hit ≡ false → Fitting tex
 abbrev μ-loop : tie.MeasureT-loop
 μ-loop text j hit₀ k₀ hit k = 32 - k
 
--- src/validate.rt:70:5
 loop-holds : tie.Need-loop-holds Inv-loop μ-loop
 loop-holds c = (search needs, λ e. record { fit = below-none _ })
 
--- src/validate.rt:71:36
 add-misplaced : tie.Need-add-misplaced Inv-loop μ-loop
 add-misplaced c = search needs
 
--- src/validate.rt:71:31
 shared-slice-read-misplaced : tie.Need-shared-slice-read-misplaced Inv-loop μ-loop
 shared-slice-read-misplaced c = search needs
 
--- src/validate.rt:71:49
 add-misplaced-2 : tie.Need-add-misplaced-2 Inv-loop μ-loop
 add-misplaced-2 c = search needs
 
--- src/validate.rt:71:49
 add-misplaced-3 : tie.Need-add-misplaced-3 Inv-loop μ-loop
 add-misplaced-3 c = search needs
 
--- src/validate.rt:71:44
 shared-slice-read-misplaced-2 : tie.Need-shared-slice-read-misplaced-2 Inv-loop μ-loop
 shared-slice-read-misplaced-2 c = search needs
 
--- src/validate.rt:71:66
 add-misplaced-4 : tie.Need-add-misplaced-4 Inv-loop μ-loop
 add-misplaced-4 c = search needs
 
--- src/validate.rt:71:66
 add-misplaced-5 : tie.Need-add-misplaced-5 Inv-loop μ-loop
 add-misplaced-5 c = search needs
 
--- src/validate.rt:71:61
 shared-slice-read-misplaced-3 : tie.Need-shared-slice-read-misplaced-3 Inv-loop μ-loop
 shared-slice-read-misplaced-3 c = search needs
 
--- src/validate.rt:71:83
 add-misplaced-6 : tie.Need-add-misplaced-6 Inv-loop μ-loop
 add-misplaced-6 c = search needs
 
--- src/validate.rt:71:83
 add-misplaced-7 : tie.Need-add-misplaced-7 Inv-loop μ-loop
 add-misplaced-7 c = search needs
 
--- src/validate.rt:71:78
 shared-slice-read-misplaced-4 : tie.Need-shared-slice-read-misplaced-4 Inv-loop μ-loop
 shared-slice-read-misplaced-4 c = search needs
 
--- src/validate.rt:71:21
 misplaced-requires : tie.Need-misplaced-requires Inv-loop μ-loop
 misplaced-requires c κs = search needs
 
--- src/validate.rt:70:9
 add-k : tie.Need-add-k Inv-loop μ-loop
 add-k c = search needs
 
--- src/validate.rt:70:5
 loop-less : tie.Need-loop-less Inv-loop μ-loop
 loop-less c = search needs
 
--- src/validate.rt:70:5
 loop-again : tie.Need-loop-again Inv-loop μ-loop
 loop-again c = (search needs, λ e. record { fit = below-more _ _ (c .before .before .before .before .before .before .loop .inv .1 (or-left _ _ e) .fit) (sym (c .misplaced .ensures) ∙ or-right (c .before .before .before .before .before .before .loop .hit) _ e) })
 
--- src/validate.rt:65:1
 returns : tie.Need-returns Inv-loop μ-loop
 returns c = λ e. record { fit = λ m h. c .before .loop .inv .1 e .fit m (omega arith) }
 

@@ -20,63 +20,48 @@ Inv-loop text j hit₀ k₀ hit k = (k ≤ 32) × (hit ≡ false → Fitting tex
 abbrev μ-loop : tie.MeasureT-loop
 μ-loop text j hit₀ k₀ hit k = 32 - k
 
--- src/validate.rt:84:5
 loop-holds : tie.Need-loop-holds Inv-loop μ-loop
 loop-holds c = (search needs, λ e. record { fit = below-none _ })
 
--- src/validate.rt:85:37
 add-misplaced3 : tie.Need-add-misplaced3 Inv-loop μ-loop
 add-misplaced3 c = search needs
 
--- src/validate.rt:85:37
 add-misplaced3-2 : tie.Need-add-misplaced3-2 Inv-loop μ-loop
 add-misplaced3-2 c = search needs
 
--- src/validate.rt:85:32
 shared-slice-read-misplaced3 : tie.Need-shared-slice-read-misplaced3 Inv-loop μ-loop
 shared-slice-read-misplaced3 c = search needs
 
--- src/validate.rt:85:54
 add-misplaced3-3 : tie.Need-add-misplaced3-3 Inv-loop μ-loop
 add-misplaced3-3 c = search needs
 
--- src/validate.rt:85:54
 add-misplaced3-4 : tie.Need-add-misplaced3-4 Inv-loop μ-loop
 add-misplaced3-4 c = search needs
 
--- src/validate.rt:85:49
 shared-slice-read-misplaced3-2 : tie.Need-shared-slice-read-misplaced3-2 Inv-loop μ-loop
 shared-slice-read-misplaced3-2 c = search needs
 
--- src/validate.rt:85:71
 add-misplaced3-5 : tie.Need-add-misplaced3-5 Inv-loop μ-loop
 add-misplaced3-5 c = search needs
 
--- src/validate.rt:85:71
 add-misplaced3-6 : tie.Need-add-misplaced3-6 Inv-loop μ-loop
 add-misplaced3-6 c = search needs
 
--- src/validate.rt:85:66
 shared-slice-read-misplaced3-3 : tie.Need-shared-slice-read-misplaced3-3 Inv-loop μ-loop
 shared-slice-read-misplaced3-3 c = search needs
 
--- src/validate.rt:85:21
 misplaced3-requires : tie.Need-misplaced3-requires Inv-loop μ-loop
 misplaced3-requires c κs = search needs
 
--- src/validate.rt:84:9
 add-k : tie.Need-add-k Inv-loop μ-loop
 add-k c = search needs
 
--- src/validate.rt:84:5
 loop-less : tie.Need-loop-less Inv-loop μ-loop
 loop-less c = search needs
 
--- src/validate.rt:84:5
 loop-again : tie.Need-loop-again Inv-loop μ-loop
 loop-again c = (search needs, λ e. record { fit = below-more _ _ (c .before .before .before .before .before .loop .inv .1 (or-left _ _ e) .fit) (fits3-at (c .before .before .before .before .before .before .before .args .text .now) (c .before .before .before .before .before .before .before .args .j) 0xEF (c .before .before .before .before .before .before .before .pre .1 .0) (c .before .before .before .before .before .before .before .pre .1 .1) (omega arith) (c .before .before .before .before .before .loop .k) (omega arith) (sym (c .misplaced3 .ensures) ∙ or-right (c .before .before .before .before .before .loop .hit) _ e)) })
 
--- src/validate.rt:77:1
 returns : tie.Need-returns Inv-loop μ-loop
 returns c = λ e. record { fit = λ m h. c .before .loop .inv .1 e .fit m (omega arith) }
 

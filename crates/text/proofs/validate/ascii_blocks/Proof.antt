@@ -15,43 +15,33 @@ Inv-loop text from words i₀ i = Prefix text i
 abbrev μ-loop : tie.MeasureT-loop
 μ-loop text from words i₀ i = length text - i
 
--- src/validate.rt:58:5
 loop-holds : tie.Need-loop-holds Inv-loop μ-loop
 loop-holds c = c .before .pre .0
 
--- src/validate.rt:58:11
 mul-loop : tie.Need-mul-loop Inv-loop μ-loop
 mul-loop c = omega (arith, c .before .before .pre .1)
 
--- src/validate.rt:58:24
 sub-loop : tie.Need-sub-loop Inv-loop μ-loop
 sub-loop c = omega (arith, c .loop .inv .fits)
 
--- src/validate.rt:59:12
 joined-bits-requires : tie.Need-joined-bits-requires Inv-loop μ-loop
 joined-bits-requires c κs = omega (arith, c .before .loop .inv .fits)
 
--- src/validate.rt:60:13
 returns : tie.Need-returns Inv-loop μ-loop
 returns c = c .before .before .before .loop .inv
 
--- src/validate.rt:62:14
 mul-i : tie.Need-mul-i Inv-loop μ-loop
 mul-i c = omega (arith, c .before .before .before .before .before .pre .1)
 
--- src/validate.rt:62:9
 add-i : tie.Need-add-i Inv-loop μ-loop
 add-i c = omega (arith, c .before .before .before .loop .inv .fits)
 
--- src/validate.rt:58:5
 loop-less : tie.Need-loop-less Inv-loop μ-loop
 loop-less c = omega (arith, c .before .before .before .loop .inv .fits, c .before .before .before .before .before .pre .1)
 
--- src/validate.rt:58:5
 loop-again : tie.Need-loop-again Inv-loop μ-loop
 loop-again c = grown _ _ _ (c .before .before .before .loop .inv) (ascii-whole (c .before .before .before .before .before .args .text .now) (c .before .before .before .loop .i) (8 * c .before .before .before .before .before .args .words) 0x7f (c .before .joined-bits .ensures (c .if1 .left)) (omega arith) (omega (arith, c .before .before .before .loop .inv .fits)))
 
--- src/validate.rt:52:1
 returns-2 : tie.Need-returns-2 Inv-loop μ-loop
 returns-2 c = c .before .loop .inv
 

@@ -9,47 +9,36 @@ use Rattle.text.proofs.validate.block_width.Lts as lts
 use Rattle.text.proofs.validate.unfit.Reads as unfit-reads
 use Rattle.text.proofs.validate.whole_part.Reads as whole-part-reads
 
--- src/validate.rt:111:9
 returns : tie.Need-returns
 returns c = ascii-whole (c .before .before .args .text .now) (c .before .before .args .j + 3) 32 (c .before .before .args .top) (c .before .before .pre .1) (c .if1 .taken) (omega (arith, c .before .before .pre .0))
 
--- src/validate.rt:113:22
 add-if2 : tie.Need-add-if2
 add-if2 c = search needs
 
--- src/validate.rt:113:17
 shared-slice-read-if2 : tie.Need-shared-slice-read-if2
 shared-slice-read-if2 c = search needs
 
--- src/validate.rt:113:46
 add-if2-2 : tie.Need-add-if2-2
 add-if2-2 c = search needs
 
--- src/validate.rt:113:41
 shared-slice-read-if2-2 : tie.Need-shared-slice-read-if2-2
 shared-slice-read-if2-2 c = search needs
 
--- src/validate.rt:113:65
 shared-slice-read-if2-3 : tie.Need-shared-slice-read-if2-3
 shared-slice-read-if2-3 c = search needs
 
--- src/validate.rt:114:9
 returns-2 : tie.Need-returns-2
 returns-2 c = whole-none (c .before .before .before .before .before .before .args .text .now) (c .before .before .before .before .before .before .args .j + 3) (omega (arith, c .before .before .before .before .before .before .pre .0))
 
--- src/validate.rt:116:8
 unfit-requires : tie.Need-unfit-requires
 unfit-requires c κs = (c .before .before .before .before .before .before .pre .0, (edge-of _ _ (c .if2 .left), c .before .before .before .before .before .before .pre .1))
 
--- src/validate.rt:117:9
 returns-3 : tie.Need-returns-3
 returns-3 c = whole-none (c .before .before .before .before .before .before .before .before .args .text .now) (c .before .before .before .before .before .before .before .before .args .j + 3) (omega (arith, c .before .before .before .before .before .before .before .before .pre .0))
 
--- src/validate.rt:119:5
 whole-part-requires : tie.Need-whole-part-requires
 whole-part-requires c κs = (c .before .before .before .before .before .before .before .before .pre .0, (edge-of _ _ (c .before .before .if2 .left), c .before .unfit .ensures (c .if3 .left)))
 
--- src/validate.rt:105:1
 returns-4 : tie.Need-returns-4
 returns-4 c = search needs
 

@@ -16,35 +16,27 @@ Inv-loop text from i₀ i = Prefix text i
 abbrev μ-loop : tie.MeasureT-loop
 μ-loop text from i₀ i = length text - i
 
--- src/validate.rt:261:5
 loop-holds : tie.Need-loop-holds Inv-loop μ-loop
 loop-holds c = c .before .pre
 
--- src/validate.rt:262:13
 char-width-requires : tie.Need-char-width-requires Inv-loop μ-loop
 char-width-requires c κs = search needs
 
--- src/validate.rt:264:13
 returns : tie.Need-returns Inv-loop μ-loop
 returns c = c .before .before .before .before .loop .inv
 
--- src/validate.rt:266:9
 add-i : tie.Need-add-i Inv-loop μ-loop
 add-i c = search needs
 
--- src/validate.rt:261:5
 loop-less : tie.Need-loop-less Inv-loop μ-loop
 loop-less c = omega (arith, c .before .char-width .ensures .is .fits, c .if2 .left)
 
--- src/validate.rt:261:5
 loop-again : tie.Need-loop-again Inv-loop μ-loop
 loop-again c = grown _ _ _ (c .before .before .before .before .loop .inv) (c .before .char-width .ensures .is)
 
--- src/validate.rt:256:1
 returns-2 : tie.Need-returns-2 Inv-loop μ-loop
 returns-2 c = c .before .before .loop .inv
 
--- src/validate.rt:256:1
 returns-3 : tie.Need-returns-3 Inv-loop μ-loop
 returns-3 c = c .before .loop .inv
 

@@ -10,11 +10,9 @@ use Rattle.text.proofs.validate.high_bits.Reads as reads
 use Rattle.text.proofs.validate.high_bits.Lts as lts
 use Rattle.text.proofs.validate.word.Reads as word-reads
 
--- src/validate.rt:36:5
 word-requires : tie.Need-word-requires
 word-requires c κs = search needs
 
--- src/validate.rt:32:1
 returns : tie.Need-returns
 returns c = λ e. low-word (c .before .before .args .text .now) (c .before .before .args .i) (λ k. omega (arith, c .before .shared-slice-known .given k)) (ap (λ (n : ℕ). bitAnd n 0x8080808080808080) (sym (c .word .ensures)) ∙ e)
 

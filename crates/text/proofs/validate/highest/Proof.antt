@@ -18,38 +18,30 @@ Inv-loop text i top₀ k₀ top k = (k ≤ 32) × AtMost text i k top
 abbrev μ-loop : tie.MeasureT-loop
 μ-loop text i top₀ k₀ top k = 32 - k
 
--- src/validate.rt:79:5
 loop-holds : tie.Need-loop-holds Inv-loop μ-loop
 loop-holds c = (search needs, record { at-most = below-none _ })
 
--- src/validate.rt:80:32
 add-larger : tie.Need-add-larger Inv-loop μ-loop
 add-larger c = search needs
 
--- src/validate.rt:80:27
 shared-slice-read-larger : tie.Need-shared-slice-read-larger Inv-loop μ-loop
 shared-slice-read-larger c = search needs
 
--- src/validate.rt:80:9
 larger-requires : tie.Need-larger-requires Inv-loop μ-loop
 larger-requires c κs = search needs
 
--- src/validate.rt:79:9
 add-k : tie.Need-add-k Inv-loop μ-loop
 add-k c = search needs
 
--- src/validate.rt:79:5
 loop-less : tie.Need-loop-less Inv-loop μ-loop
 loop-less c = search needs
 
--- src/validate.rt:79:5
 loop-again : tie.Need-loop-again Inv-loop μ-loop
 loop-again c = (
   search needs,
   record { at-most = below-more _ _ (λ m h. le-trans (c .before .before .before .loop .inv .1 .at-most m h) (c .larger .ensures .0)) (c .larger .ensures .1) },
 )
 
--- src/validate.rt:74:1
 returns : tie.Need-returns Inv-loop μ-loop
 returns c = record { at-most = λ m h. c .before .loop .inv .1 .at-most m (omega arith) }
 

@@ -17,31 +17,24 @@ Inv-loop text i words bits₀ k₀ bits k = (k ≤ words) × (bits ≡ 0 → AtM
 abbrev μ-loop : tie.MeasureT-loop
 μ-loop text i words bits₀ k₀ bits k = words - k
 
--- src/validate.rt:45:5
 loop-holds : tie.Need-loop-holds Inv-loop μ-loop
 loop-holds c = (search needs, λ e. record { at-most = below-none _ })
 
--- src/validate.rt:46:43
 mul-high-bits : tie.Need-mul-high-bits Inv-loop μ-loop
 mul-high-bits c = omega (arith, c .before .before .before .pre, c .before .loop .inv .0)
 
--- src/validate.rt:46:39
 add-high-bits : tie.Need-add-high-bits Inv-loop μ-loop
 add-high-bits c = omega (arith, c .before .before .before .pre, c .before .loop .inv .0)
 
--- src/validate.rt:46:23
 high-bits-requires : tie.Need-high-bits-requires Inv-loop μ-loop
 high-bits-requires c κs = omega (arith, c .before .before .before .pre, c .before .loop .inv .0)
 
--- src/validate.rt:45:9
 add-k : tie.Need-add-k Inv-loop μ-loop
 add-k c = search needs
 
--- src/validate.rt:45:5
 loop-less : tie.Need-loop-less Inv-loop μ-loop
 loop-less c = search needs
 
--- src/validate.rt:45:5
 loop-again : tie.Need-loop-again Inv-loop μ-loop
 loop-again c = (
   search needs,
@@ -51,7 +44,6 @@ loop-again c = (
       rw q at (at-most-append _ _ _ 8 _ (c .before .before .loop .inv .1 (z .0)) (c .high-bits .ensures (z .1))),
 )
 
--- src/validate.rt:40:1
 returns : tie.Need-returns Inv-loop μ-loop
 returns c =
     λ e. let q : c .before .loop .k ≡ c .before .before .before .args .words = omega (arith, c .before .loop .inv .0) in rw q at (c .before .loop .inv .1 e)

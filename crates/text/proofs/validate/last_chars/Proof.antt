@@ -17,31 +17,24 @@ Inv-loop text from i₀ i = Prefix text i
 abbrev μ-loop : tie.MeasureT-loop
 μ-loop text from i₀ i = length text - i
 
--- src/validate.rt:297:5
 loop-holds : tie.Need-loop-holds Inv-loop μ-loop
 loop-holds c = c .before .pre
 
--- src/validate.rt:298:13
 char-width-requires : tie.Need-char-width-requires Inv-loop μ-loop
 char-width-requires c κs = search needs
 
--- src/validate.rt:300:13
 returns : tie.Need-returns Inv-loop μ-loop
 returns c = end-here _ _ (c .before .before .before .loop .inv) (c .before .char-width .ensures .none (c .if1 .taken))
 
--- src/validate.rt:302:9
 add-i : tie.Need-add-i Inv-loop μ-loop
 add-i c = search needs
 
--- src/validate.rt:297:5
 loop-less : tie.Need-loop-less Inv-loop μ-loop
 loop-less c = omega (arith, c .before .char-width .ensures .is .fits, c .if1 .left)
 
--- src/validate.rt:297:5
 loop-again : tie.Need-loop-again Inv-loop μ-loop
 loop-again c = grown _ _ _ (c .before .before .before .loop .inv) (c .before .char-width .ensures .is)
 
--- src/validate.rt:292:1
 returns-2 : tie.Need-returns-2 Inv-loop μ-loop
 returns-2 c = end-all _ _ (c .before .loop .inv) (omega (arith, c .before .loop .inv .fits))
 

@@ -5,7 +5,6 @@ use Rattle.text.proofs.validate.misplaced.Tie as tie
 use Rattle.text.proofs.validate.misplaced.Reads as reads
 use Rattle.text.proofs.validate.misplaced.Lts as lts
 
--- src/validate.rt:28:1
 returns : tie.Need-returns
 unfolding misfit
 returns c = refl

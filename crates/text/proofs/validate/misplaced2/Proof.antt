@@ -5,7 +5,6 @@ use Rattle.text.proofs.validate.misplaced2.Tie as tie
 use Rattle.text.proofs.validate.misplaced2.Reads as reads
 use Rattle.text.proofs.validate.misplaced2.Lts as lts
 
--- src/validate.rt:57:1
 returns : tie.Need-returns
 unfolding misfit2
 returns c = refl

@@ -5,7 +5,6 @@ use Rattle.text.proofs.validate.misplaced3.Tie as tie
 use Rattle.text.proofs.validate.misplaced3.Reads as reads
 use Rattle.text.proofs.validate.misplaced3.Lts as lts
 
--- src/validate.rt:44:1
 returns : tie.Need-returns
 unfolding misfit3
 returns c = refl

@@ -9,27 +9,21 @@ use Rattle.text.proofs.validate.any_misplaced.Reads as any-misplaced-re
 use Rattle.text.proofs.validate.any_misplaced2.Reads as any-misplaced2-reads
 use Rattle.text.proofs.validate.any_misplaced3.Reads as any-misplaced3-reads
 
--- src/validate.rt:149:9
 any-misplaced2-requires : tie.Need-any-misplaced2-requires
 any-misplaced2-requires c κs = (c .before .before .pre .0, (c .before .before .pre .1 .0, at-most-up _ _ _ (c .before .before .args .top) 0xDF (c .before .before .pre .1 .1) (omega arith)))
 
--- src/validate.rt:149:9
 returns : tie.Need-returns
 returns c = search needs
 
--- src/validate.rt:152:9
 any-misplaced3-requires : tie.Need-any-misplaced3-requires
 any-misplaced3-requires c κs = (c .before .before .before .pre .0, (c .before .before .before .pre .1 .0, at-most-up _ _ _ (c .before .before .before .args .top) 0xEF (c .before .before .before .pre .1 .1) (omega arith)))
 
--- src/validate.rt:152:9
 returns-2 : tie.Need-returns-2
 returns-2 c = search needs
 
--- src/validate.rt:154:5
 any-misplaced-requires : tie.Need-any-misplaced-requires
 any-misplaced-requires c κs = search needs
 
--- src/validate.rt:142:1
 returns-3 : tie.Need-returns-3
 returns-3 c = search needs
 

@@ -9,27 +9,21 @@ use Rattle.text.proofs.validate.ascii_blocks.Reads as ascii-blocks-read
 use Rattle.text.proofs.validate.last_chars.Reads as last-chars-reads
 use Rattle.text.proofs.validate.skip_blocks.Reads as skip-blocks-reads
 
--- src/validate.rt:406:9
 ascii-blocks-requires : tie.Need-ascii-blocks-requires
 ascii-blocks-requires c κs = (none-prefix _, omega arith)
 
--- src/validate.rt:407:9
 ascii-blocks-requires-2 : tie.Need-ascii-blocks-requires-2
 ascii-blocks-requires-2 c κs = search needs
 
--- src/validate.rt:408:9
 skip-blocks-requires : tie.Need-skip-blocks-requires
 skip-blocks-requires c κs = search needs
 
--- src/validate.rt:409:9
 ascii-blocks-requires-3 : tie.Need-ascii-blocks-requires-3
 ascii-blocks-requires-3 c κs = search needs
 
--- src/validate.rt:410:5
 last-chars-requires : tie.Need-last-chars-requires
 last-chars-requires c κs = search needs
 
--- src/validate.rt:403:1
 returns : tie.Need-returns
 returns c = search needs
 

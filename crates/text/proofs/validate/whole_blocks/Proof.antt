@@ -17,55 +17,44 @@ Inv-loop text from i₀ i = (3 ≤ i) × Prefix text i
 abbrev μ-loop : tie.MeasureT-loop
 μ-loop text from i₀ i = length text - i
 
--- src/validate.rt:361:9
 returns : tie.Need-returns Inv-loop μ-loop
 returns c = c .before .before .pre
 
--- src/validate.rt:364:5
 loop-holds : tie.Need-loop-holds Inv-loop μ-loop
 loop-holds c = (c .if1 .left, c .before .before .pre)
 
--- src/validate.rt:364:17
 sub-loop : tie.Need-sub-loop Inv-loop μ-loop
 sub-loop c = omega (arith, c .loop .inv .1 .fits)
 
--- src/validate.rt:365:13
 highest-requires : tie.Need-highest-requires Inv-loop μ-loop
 highest-requires c κs = omega (arith, c .before .loop .inv .1 .fits)
 
--- src/validate.rt:366:39
 sub-block-width : tie.Need-sub-block-width Inv-loop μ-loop
 sub-block-width c = omega (arith, c .before .before .loop .inv .0)
 
--- src/validate.rt:366:13
 block-width-requires : tie.Need-block-width-requires Inv-loop μ-loop
 block-width-requires c κs =
     let q : c .before .before .loop .i - 3 + 3 ≡ c .before .before .loop .i = omega (arith, c .before .before .loop .inv .0) in
     (omega (arith, c .before .before .loop .inv .0, c .before .before .loop .inv .1 .fits), rw q (c .highest .ensures))
 
--- src/validate.rt:368:13
 returns-2 : tie.Need-returns-2 Inv-loop μ-loop
 returns-2 c = c .before .before .before .before .loop .inv .1
 
--- src/validate.rt:370:9
 add-i : tie.Need-add-i Inv-loop μ-loop
 add-i c =
     let q : c .before .before .before .before .loop .i - 3 + 3 ≡ c .before .before .before .before .loop .i = omega (arith, c .before .before .before .before .loop .inv .0) in
     omega (arith, rw q at (c .before .block-width .ensures .fits))
 
--- src/validate.rt:364:5
 loop-less : tie.Need-loop-less Inv-loop μ-loop
 loop-less c =
     let q : c .before .before .before .before .loop .i - 3 + 3 ≡ c .before .before .before .before .loop .i = omega (arith, c .before .before .before .before .loop .inv .0) in
     omega (arith, c .if2 .left, rw q at (c .before .block-width .ensures .fits))
 
--- src/validate.rt:364:5
 loop-again : tie.Need-loop-again Inv-loop μ-loop
 loop-again c =
     let q : c .before .before .before .before .loop .i - 3 + 3 ≡ c .before .before .before .before .loop .i = omega (arith, c .before .before .before .before .loop .inv .0) in
     (omega (arith, c .before .before .before .before .loop .inv .0), grown _ _ _ (c .before .before .before .before .loop .inv .1) (rw q at (c .before .block-width .ensures)))
 
--- src/validate.rt:356:1
 returns-3 : tie.Need-returns-3 Inv-loop μ-loop
 returns-3 c = c .before .loop .inv .1
 

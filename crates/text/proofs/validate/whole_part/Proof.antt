@@ -8,49 +8,39 @@ use Rattle.text.proofs.validate.whole_part.Tie as tie
 use Rattle.text.proofs.validate.whole_part.Reads as reads
 use Rattle.text.proofs.validate.whole_part.Lts as lts
 
--- src/validate.rt:129:21
 add-if1 : tie.Need-add-if1
 add-if1 c = search needs
 
--- src/validate.rt:129:16
 shared-slice-read-if1 : tie.Need-shared-slice-read-if1
 shared-slice-read-if1 c = search needs
 
--- src/validate.rt:130:9
 returns : tie.Need-returns
 returns c =
     let q : c .before .before .args .j + 34 ≡ c .before .before .args .j + 31 + 3 = omega arith in
     ends-before (c .before .before .args .text .now) (c .before .before .args .j) (c .before .before .pre .1 .0) (c .before .before .pre .1 .1) (c .before .before .pre .0) 31 (omega arith) (rw q at (c .if1 .taken))
 
--- src/validate.rt:132:21
 add-if2 : tie.Need-add-if2
 add-if2 c = search needs
 
--- src/validate.rt:132:16
 shared-slice-read-if2 : tie.Need-shared-slice-read-if2
 shared-slice-read-if2 c = search needs
 
--- src/validate.rt:133:9
 returns-2 : tie.Need-returns-2
 returns-2 c =
     let q : c .before .before .before .before .args .j + 30 + 3 ≡ c .before .before .before .before .args .j + 33 = omega arith in
     ends-before (c .before .before .before .before .args .text .now) (c .before .before .before .before .args .j) (c .before .before .before .before .pre .1 .0) (c .before .before .before .before .pre .1 .1) (c .before .before .before .before .pre .0) 30 (omega arith) (rw q (omega (arith, c .if2 .taken)))
 
--- src/validate.rt:135:21
 add-if3 : tie.Need-add-if3
 add-if3 c = search needs
 
--- src/validate.rt:135:16
 shared-slice-read-if3 : tie.Need-shared-slice-read-if3
 shared-slice-read-if3 c = search needs
 
--- src/validate.rt:136:9
 returns-3 : tie.Need-returns-3
 returns-3 c =
     let q : c .before .before .before .before .before .before .args .j + 29 + 3 ≡ c .before .before .before .before .before .before .args .j + 32 = omega arith in
     ends-before (c .before .before .before .before .before .before .args .text .now) (c .before .before .before .before .before .before .args .j) (c .before .before .before .before .before .before .pre .1 .0) (c .before .before .before .before .before .before .pre .1 .1) (c .before .before .before .before .before .before .pre .0) 29 (omega arith) (rw q (omega (arith, c .if3 .taken)))
 
--- src/validate.rt:123:1
 returns-4 : tie.Need-returns-4
 returns-4 c = ends-after (c .before .before .before .before .before .before .args .text .now) (c .before .before .before .before .before .before .args .j) (c .before .before .before .before .before .before .pre .1 .0) (c .before .before .before .before .before .before .pre .1 .1) (c .before .before .before .before .before .before .pre .0) (c .if3 .left) (c .before .before .if2 .left) (c .before .before .before .before .if1 .left)
 
