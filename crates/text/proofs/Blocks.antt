@@ -29,6 +29,11 @@ whole-none t i h = record { fits = omega arith; whole = unfold WellFormed in ref
 pub at-most-up : (t : List ℕ) (i n top more : ℕ) → AtMost t i n top → top ≤ more → AtMost t i n more
 at-most-up t i n top more a h = record { at-most = λ k l. le-trans (a .at-most k l) h }
 
+-- a part of such bytes
+pub at-most-part : (t : List ℕ) (a n i m top : ℕ) → AtMost t a n top → a ≤ i → i + m ≤ a + n → AtMost t i m top
+at-most-part t a n i m top c h g =
+    record { at-most = λ k l. let q : a + (i + k - a) ≡ i + k = omega arith in rw q at (c .at-most (i + k - a) (omega arith)) }
+
 -- one byte more
 pub after-snoc : (s : State) (t : List ℕ) (i m : ℕ) → i + m < length t
     → after s (take (m + 1) (drop i t)) ≡ next (after s (take m (drop i t))) (getD t (i + m) 0)
@@ -48,6 +53,15 @@ module _ (t : List ℕ) (i n top : ℕ) (a : AtMost t i n top) (low : top < 0x80
 
   pub ascii-whole : Whole t i n
   ascii-whole = record { fits = fits; whole = unfold WellFormed in ascii-after n (le-refl n) }
+
+-- the text's last bytes are ASCII
+pub ascii-end : (t : List ℕ) (i n : ℕ) → Prefix t i → n ≤ length t → length t - n ≤ i → AtMost t (length t - n) n 0x7F → Prefix t (length t)
+ascii-end t i n p f h a =
+    let fits : i ≤ length t = p .fits in
+    let q : i + (length t - i) ≡ length t = omega arith in
+    rw q at
+    (grown t i (length t - i) p
+    (ascii-whole t i (length t - i) 0x7F (at-most-part t (length t - n) n i (length t - i) 0x7F a h (omega arith)) (omega arith) (omega arith)))
 
 -- ---- the cheaper tests
 

@@ -1,11 +1,12 @@
 -- Laws of a choice by a test, of ranges and of tests on bytes. Assumes nothing.
-use mathlib.Core.Path.{_≡_, refl, sym, _∙_, ap₂}
+use mathlib.Core.Path.{_≡_, refl, sym, _∙_, ap, ap₂}
 use Prim.Native.Nat.{ℕ, _≤_, _<_}
 use mathlib.Core.Bool.{Bool, true, false, _&&_, _||_, true≢false}
-use mathlib.Core.List.{List, [], _∷_}
+use mathlib.Core.List.{List, [], _∷_, _++_}
 use lib.Dec.{eqb, leb}
+use lib.ListN.{length, drop}
 use borrow.Author.Tests.{eqb-true, eq-eqb, leb-false, le-leb, lt-leb}
-use Rattle.text.specs.Bytes.{pick, within, sameBytes}
+use Rattle.text.specs.Bytes.{pick, within, sameBytes, begins}
 
 -- what holds of both holds of the one that is picked
 pub pick-both {ℓ ℓ′} : {X : Type ℓ} (P : X → Type ℓ′) (t : Bool) {a b : X} → P a → P b → P (pick t a b)
@@ -73,3 +74,11 @@ same-equal (x ∷ xs) (y ∷ ys) e = go (λ h. same-equal xs ys h) (eqb x y) ref
 pub equal-same : (a : List ℕ) → sameBytes a a ≡ true
 equal-same [] = refl
 equal-same (x ∷ xs) = rw (eq-eqb x x refl) (equal-same xs)
+
+-- a text that begins with a pattern is the pattern and what follows it
+pub begins-split : (p t : List ℕ) → begins p t ≡ true → t ≡ p ++ drop (length p) t
+begins-split [] t e = refl
+begins-split (p ∷ ps) [] e = absurd (true≢false (sym e))
+begins-split (p ∷ ps) (b ∷ bs) e =
+    let q : b ≡ p = eqb-true b p (and-left (eqb b p) (begins ps bs) e) in
+    rw q (ap (λ (l : List ℕ). p ∷ l) (begins-split ps bs (and-right (eqb b p) (begins ps bs) e)))

@@ -14,7 +14,7 @@ fn wide(b: u8) -> u64
 }
 
 // The eight bytes from i on as one number. Written as this sum it is compiled to one load.
-fn word(text: &[u8], i: usize) -> u64
+pub fn word(text: &[u8], i: usize) -> u64
     requires { ⌜ i + 8 ≤ length (now text) ⌝ }
     ensures { λ r. ⌜ r ≡ wordAt (now (text .entry)) i ⌝ }
 {
@@ -399,13 +399,34 @@ fn skip_blocks(text: &[u8], from: usize) -> usize
     whole_blocks(text, first_chars(text, from))
 }
 
-// The end of the longest well-formed prefix.
+// The text's end, where no more than its last word is left and that is ASCII; it may start before `from`.
+fn last_word(text: &[u8], from: usize) -> usize
+    requires { ⌜ Prefix (now text) from ⌝ }
+    ensures { λ r. ⌜ Prefix (now (text .entry)) r ⌝ }
+{
+    if text.len() < 8 {
+        return from;
+    }
+    let last = text.len() - 8;
+    if from < last {
+        return from;
+    }
+    if high_bits(text, last) != 0 {
+        return from;
+    }
+    text.len()
+}
+
+// The end of the longest well-formed prefix. A text shorter than a word goes by none of the stages.
 pub fn utf8_end(text: &[u8]) -> usize
     ensures { λ r. ⌜ r ≡ utf8End (now (text .entry)) ⌝ }
 {
+    if text.len() < 8 {
+        return last_chars(text, 0);
+    }
     let far = ascii_blocks(text, 0, 8);
     let near = ascii_blocks(text, far, 4);
     let blocks = skip_blocks(text, near);
     let words = ascii_blocks(text, blocks, 1);
-    last_chars(text, words)
+    last_chars(text, last_word(text, words))
 }
