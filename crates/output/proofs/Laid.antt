@@ -6,12 +6,16 @@ use native.Mathlib.Omega.{arith}
 use native.Mathlib.Nat.{le-refl}
 use native.Mathlib.Numerals.{add-one}
 use lib.ListN.{length, take, drop, getD, set, length-append, length-drop, drop-of-length-le}
-use lib.Seq.{length-take-le, take-suc, take-all, take-append-seam, drop-append-seam, drop-drop, drop-cons, set-append-seam}
+use lib.Seq.{length-take-le, take-suc, take-add, take-all, take-append-seam, drop-append-seam, drop-drop, drop-cons, set-append-seam}
 use borrow.Rule.Slice.PartMut.{midOf, putMid}
 use Rattle.text.specs.Call.{laid}
 
 pub laid-none : (old : List ℕ) → laid [] old ≡ old
 laid-none old = refl
+
+-- a value that leaves nothing of the buffer
+pub laid-over : (value old : List ℕ) → length old ≤ length value → laid value old ≡ value
+laid-over value old h = rw (drop-of-length-le old h) (append-nil value)
 
 -- the buffer keeps its length
 pub laid-length : (value old : List ℕ) → length value ≤ length old → length (laid value old) ≡ length old
@@ -54,7 +58,16 @@ laid-byte value old b h =
     rw (drop-cons old (length value) 0 h, set-append-seam value (getD old (length value) 0) (drop (suc (length value)) old) b, length-append, append-assoc, add-one)
 
 -- after one byte more of a run
-pub laid-next : (run old : List ℕ) (i : ℕ) → i < length run → length run ≤ length old → set (laid (take i run) old) i (getD run i 0) ≡ laid (take (i + 1) run) old
+pub laid-next : (run old : List ℕ) (i : ℕ) → i < length run → i < length old → set (laid (take i run) old) i (getD run i 0) ≡ laid (take (i + 1) run) old
 laid-next run old i h g =
     let e : length (take i run) ≡ i = length-take-le i run (omega arith) in
-    rw (add-one i, take-suc run i 0 h) (ap (λ (n : ℕ). set (laid (take i run) old) n (getD run i 0)) (sym e) ∙ laid-byte (take i run) old (getD run i 0) (rw e (omega arith)))
+    rw (add-one i, take-suc run i 0 h) (ap (λ (n : ℕ). set (laid (take i run) old) n (getD run i 0)) (sym e) ∙ laid-byte (take i run) old (getD run i 0) (rw e g))
+
+-- after a part of a run more, by a call that is lent the rest of the output
+pub laid-part : (run old : List ℕ) (i e : ℕ) {buffer part : List ℕ} → i ≤ e → e ≤ length run
+    → buffer ≡ laid (take i run) old → part ≡ laid (midOf i (e - i) run) (midOf i (length buffer - i) buffer)
+    → putMid i (length buffer - i) buffer part ≡ laid (take e run) old
+laid-part run old i e h g b p =
+    let q : e ≡ i + (e - i) = omega arith in
+    laid-more (take i run) (midOf i (e - i) run) old b (sym (length-take-le i run (omega arith))) p
+    ∙ ap (λ (l : List ℕ). laid l old) (sym (ap (λ (n : ℕ). take n run) q ∙ take-add i (e - i) run))

@@ -1,8 +1,10 @@
-// What every writer shares: a run of bytes, written at the start of the output that is lent.
+// What every writer shares: a run of bytes, written at the start of the output that is lent. A writer that clips writes as much as
+// there is room for, so that a walk over an output of no bytes counts.
 ghost use mathlib.Core.Path.{_≡_};
-ghost use Prim.Native.Nat.{_≤_};
-ghost use lib.ListN.{length};
+ghost use Prim.Native.Nat.{_≤_, min};
+ghost use lib.ListN.{length, set};
 ghost use Rattle.text.specs.Call.{laid};
+ghost use Rattle.output.specs.Over.{over};
 
 // Copies the run to the start of `out`, and keeps the rest.
 pub fn put_run(src: &[u8], out: &mut [u8])
@@ -15,4 +17,38 @@ pub fn put_run(src: &[u8], out: &mut [u8])
         out[i] = src[i];
         i += 1;
     }
+}
+
+pub fn least(a: usize, b: usize) -> usize
+    ensures { λ r. ⌜ r ≡ min a b ⌝ }
+{
+    if a < b { a } else { b }
+}
+
+// As much of the run as there is room for.
+pub fn put_over(src: &[u8], out: &mut [u8])
+    ensures { λ _. ⌜ now (out .exit) ≡ over (now (src .entry)) (now (out .entry)) ⌝ }
+{
+    let n = least(src.len(), out.len());
+    put_run(&src[..n], out);
+}
+
+// One byte at a place, where the output reaches it.
+pub fn put_byte(b: u8, at: usize, out: &mut [u8])
+    ensures { λ _. ⌜ now (out .exit) ≡ set (now (out .entry)) at b ⌝ }
+{
+    if at < out.len() {
+        out[at] = b;
+    }
+}
+
+// Copies a run of 16 bytes: by way of a local array, which can overlap with neither, so that it takes one load and one store.
+pub fn put_block(src: &[u8], out: &mut [u8])
+    requires { ⌜ length (now src) ≡ 16 ⌝ }
+    requires { ⌜ 16 ≤ length (now out) ⌝ }
+    ensures { λ _. ⌜ now (out .exit) ≡ laid (now (src .entry)) (now (out .entry)) ⌝ }
+{
+    let mut block = [0u8; 16];
+    put_run(src, &mut block);
+    put_run(&block, out);
 }

@@ -36,7 +36,7 @@ loop-again : tie.Need-loop-again Inv-loop μ-loop
 loop-again c =
     let l = c .before .before .loop in
     let src = c .before .before .before .args .src .now in
-    (search needs, ap (λ (o : List ℕ). set o (l .i) (getD src (l .i) 0)) (l .inv .1) ∙ laid-next src (c .before .before .before .args .out .now) (l .i) (omega arith) (c .before .before .before .pre), length-set (l .out) (l .i) (getD src (l .i) 0) ∙ l .inv .2)
+    (search needs, ap (λ (o : List ℕ). set o (l .i) (getD src (l .i) 0)) (l .inv .1) ∙ laid-next src (c .before .before .before .args .out .now) (l .i) (omega arith) (omega (arith, c .before .before .before .pre)), length-set (l .out) (l .i) (getD src (l .i) 0) ∙ l .inv .2)
 
 same-length : tie.Need-same-length Inv-loop μ-loop
 same-length c = c .before .loop .inv .2

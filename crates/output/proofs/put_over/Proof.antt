@@ -1,0 +1,32 @@
+use mathlib.Core.Path.{_≡_, sym, _∙_}
+use native.Mathlib.Omega.{arith}
+use lib.ListN.{length, take, length-take}
+use lib.Seq.{length-take-le}
+use Rattle.output.proofs.Clip.{over-clipped}
+use borrow.Author.Needs.{needs}
+use Rattle.output.proofs.put_over.Statement.{statement}
+use Rattle.output.proofs.put_over.Tie as tie
+use Rattle.output.proofs.put_over.Reads as reads
+use Rattle.output.proofs.put_over.Lts as lts
+use Rattle.output.proofs.least.Reads as least-reads
+use Rattle.output.proofs.put_run.Reads as put-run-reads
+
+least-requires : tie.Need-least-requires
+least-requires c κs = search needs
+
+slice-aggregate-put-run : tie.Need-slice-aggregate-put-run
+slice-aggregate-put-run c = sym (length-take-le (c .before .least .result) (c .before .before .before .before .args .src .now) (omega (arith, c .before .least .ensures)))
+
+put-run-requires : tie.Need-put-run-requires
+put-run-requires c κs = simp length-take (omega (arith, c .before .before .least .ensures))
+
+same-length : tie.Need-same-length
+same-length c = search needs
+
+returns : tie.Need-returns
+returns c = c .before .before .put-run .ensures ∙ over-clipped (c .before .before .before .before .before .before .before .before .args .src .now) (c .before .before .before .before .before .before .before .before .args .out .now) (c .before .before .before .before .before .least .ensures)
+
+pub put-over-spec : {M : Type 1} → statement M
+put-over-spec =
+    tie.close
+    (tie.spec least-requires slice-aggregate-put-run put-run-requires same-length returns)
