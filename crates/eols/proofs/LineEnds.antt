@@ -4,17 +4,19 @@ use mathlib.Core.Bool.{Bool, true, false, _&&_, _||_, true≢false}
 use mathlib.Core.List.{List, [], _∷_, _++_}
 use Prim.Native.Nat.{ℕ, zero, suc, _+_, _-_, _≤_, _<_, zero-le, suc-le-suc}
 use native.Mathlib.Omega.{arith}
-use native.Mathlib.Nat.{le-refl, le-trans}
+use native.Mathlib.Nat.{le-refl}
 use native.Mathlib.Numerals.{add-one}
 use lib.Dec.{eqb, ltb}
 use lib.ListN.{length, take, drop, getD, length-drop, drop-of-length-le}
-use lib.Seq.{drop-cons, drop-drop, take-nil}
-use borrow.Author.Tests.{eqb-true, eqb-false, eq-eqb, ne-eqb, lt-ltb, ltb-true, ltb-false}
+use lib.Seq.{drop-cons, drop-drop}
+use borrow.Author.Tests.{eqb-true, eqb-false, eq-eqb, ne-eqb, lt-ltb}
 use Rattle.text.specs.Bytes.{pick, begins}
 use Rattle.text.specs.Version.{Rule, xml10, xml11, ruleOf}
 use Rattle.text.proofs.Bytes.{pick-by, pick-both, and-left, and-right, or-left, or-right}
 use Rattle.eols.specs.LineEnds.{lineEnds, widthOf, lineEnd, eolByte, eolSkip, eolsFrom, eols}
-use Rattle.eols.specs.Stops.{ruleFor, stopByte, Plain, Stepped}
+use Rattle.output.specs.Runs.{Plain}
+use Rattle.output.proofs.Writers.{Copies}
+use Rattle.eols.specs.Stops.{ruleFor, stopByte, Stepped}
 use Rattle.eols.specs.declared.Step.{Step}
 
 -- to skip bytes is to start later
@@ -38,7 +40,7 @@ eols-at r t i h =
     ∙ ap (eolsFrom r 0) (drop-drop (eolSkip (lineEnd r (getD t i 0 ∷ drop (i + 1) t))) (i + 1) t)))
 
 -- a pattern is no longer than the text that begins with it
-begins-fits : (p t : List ℕ) → begins p t ≡ true → length p ≤ length t
+pub begins-fits : (p t : List ℕ) → begins p t ≡ true → length p ≤ length t
 begins-fits [] t e = zero-le
 begins-fits (p ∷ ps) [] e = absurd (true≢false (sym e))
 begins-fits (p ∷ ps) (b ∷ bs) e = suc-le-suc (begins-fits ps bs (and-right (eqb b p) (begins ps bs) e))
@@ -171,46 +173,18 @@ plain-one newer t i h e =
     let z = plain-width newer (getD t i 0) (drop (i + 1) t) e in
     rw (at-head t i h, z .0, z .1)
 
-plain-count : (newer : Bool) (t : List ℕ) (n i : ℕ) → Plain newer t i (i + n)
-    → eolsFrom (ruleFor newer) 0 (drop i t) ≡ take n (drop i t) ++ eolsFrom (ruleFor newer) 0 (drop (i + n) t)
-plain-count newer t zero i p = let q : i + 0 ≡ i = omega arith in rw q
-plain-count newer t (suc n) i p =
+-- a run without stops is copied as it stands
+pub plain-run : (newer : Bool) → Copies (stopByte newer) (eolsFrom (ruleFor newer) 0)
+plain-run newer t i zero p = let q : i + 0 ≡ i = omega arith in rw q
+plain-run newer t i (suc n) p =
     let f = p .to in
     let q : i + suc n ≡ i + 1 + n = omega arith in
     plain-one newer t i (omega arith) (p .none i (le-refl i) (omega arith))
     ∙ rw (at-head t i (omega arith), q)
-    (ap (λ (l : List ℕ). getD t i 0 ∷ l) (plain-count newer t n (i + 1)
+    (ap (λ (l : List ℕ). getD t i 0 ∷ l) (plain-run newer t (i + 1) n
     (record { from = omega arith; to = omega arith; none = λ k g h. p .none k (omega arith) (omega arith) })))
-
--- a run without stops is copied as it stands
-pub plain-run : (newer : Bool) (t : List ℕ) (i e : ℕ) → Plain newer t i e
-    → eolsFrom (ruleFor newer) 0 (drop i t) ≡ take (e - i) (drop i t) ++ eolsFrom (ruleFor newer) 0 (drop e t)
-plain-run newer t i e p =
-    let f = p .from in
-    let q : i + (e - i) ≡ e = omega arith in
-    plain-count newer t (e - i) i (rw q p) ∙ rw q
 
 pub version-rule : (version : ℕ) (newer : Bool) → newer ≡ ltb 1 version → ruleFor newer ≡ ruleOf version
 version-rule zero newer e = rw e
 version-rule (suc zero) newer e = rw e
 version-rule (suc (suc n)) newer e = rw (e, lt-ltb 1 (suc (suc n)) (omega arith))
-
--- ---- runs found by the code
-
-pub plain-of : (newer : Bool) (t : List ℕ) (i n : ℕ) → i + n ≤ length t → ((m : ℕ) → m < n → stopByte newer (getD t (i + m) 0) ≡ false) → Plain newer t i (i + n)
-plain-of newer t i n h f =
-    record { from = omega arith; to = h; none = λ k g l. let q : i + (k - i) ≡ k = omega arith in rw q at (f (k - i) (omega arith)) }
-
-pub plain-none : (newer : Bool) (t : List ℕ) (i : ℕ) → i ≤ length t → Plain newer t i i
-plain-none newer t i h = record { from = le-refl i; to = h; none = λ k g l. absurd (omega arith) }
-
-pub plain-join : (newer : Bool) (t : List ℕ) (i j k : ℕ) → Plain newer t i j → Plain newer t j k → Plain newer t i k
-plain-join newer t i j k a b =
-    record { from = le-trans (a .from) (b .from); to = b .to; none = λ m g h. go m (ltb m j) refl g h }
-  where
-    go : (m : ℕ) (x : Bool) → ltb m j ≡ x → i ≤ m → m < k → stopByte newer (getD t m 0) ≡ false
-    go m true e g h = a .none m g (ltb-true m j e)
-    go m false e g h = b .none m (ltb-false m j e) h
-
-pub plain-byte : (newer : Bool) (t : List ℕ) (i : ℕ) → i < length t → stopByte newer (getD t i 0) ≡ false → Plain newer t i (i + 1)
-plain-byte newer t i h e = plain-of newer t i 1 (omega arith) (λ m l. let q : i + m ≡ i = omega arith in rw q e)

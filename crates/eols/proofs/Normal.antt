@@ -1,5 +1,5 @@
 -- What normalizing line ends gives: no line end but LF, the same when done twice, UTF-8 kept, no more bytes. Assumes nothing.
-use mathlib.Core.Path.{_≡_, refl, sym, ap, _∙_}
+use mathlib.Core.Path.{_≡_, refl, sym, ap, subst, _∙_}
 use mathlib.Core.Bool.{Bool, true, false, _&&_, true≢false}
 use mathlib.Core.List.{List, [], _∷_, _++_}
 use mathlib.Core.Logic.{_⊎_, inl, inr, ⊎-elim}
@@ -13,7 +13,7 @@ use lib.Seq.{drop-nil}
 use Rattle.text.specs.Bytes.{pick, begins}
 use Rattle.text.specs.Version.{Rule, xml10, xml11}
 use Rattle.text.specs.Utf8.{State, between, one, two, three, after-e0, after-ed, after-f0, after-f4, broken, next, after, WellFormed}
-use Rattle.text.proofs.Bytes.{pick-by, pick-both, and-left, and-right}
+use Rattle.text.proofs.Bytes.{pick-by, pick-both, and-left, and-right, begins-split}
 use Rattle.text.proofs.Utf8.{after-append, settle, next-ascii, after-ascii, allAscii}
 use Rattle.eols.specs.LineEnds.{lineEnds, widthOf, lineEnd, eolByte, eolSkip, eolsFrom, eols, Normal}
 use Rattle.eols.proofs.LineEnds.{lf-alone, none10, none11, nel, not-nel, ls, not-ls}
@@ -40,13 +40,6 @@ Settles p = (s : State) → after s p ≡ settle s
 data AllSettle : List (List ℕ) → Type 0 where
   no-more : AllSettle []
   and-also : {x : ℕ} {xs : List ℕ} {ps : List (List ℕ)} → Settles (x ∷ xs) → AllSettle ps → AllSettle ((x ∷ xs) ∷ ps)
-
-begins-split : (p t : List ℕ) → begins p t ≡ true → t ≡ p ++ drop (length p) t
-begins-split [] t e = refl
-begins-split (p ∷ ps) [] e = absurd (true≢false (sym e))
-begins-split (p ∷ ps) (b ∷ bs) e =
-    let q : b ≡ p = eqb-true b p (and-left (eqb b p) (begins ps bs) e) in
-    rw q (ap (λ (l : List ℕ). p ∷ l) (begins-split ps bs (and-right (eqb b p) (begins ps bs) e)))
 
 Ends : List ℕ → ℕ → Type 0
 Ends t zero = Unit {0}
@@ -112,6 +105,11 @@ line-ends-settle xml11 =
     (and-also (ascii-settles 10 [] refl)
     (and-also nel-settles
     (and-also ls-settles no-more)))))
+
+-- a line end leaves a reader where one ASCII byte would
+pub line-end-settles : (r : Rule) (t : List ℕ) (w : ℕ) → lineEnd r t ≡ suc w → (s : State) → after s t ≡ after (settle s) (drop (suc w) t)
+unfolding Ends lineEnd
+line-end-settles r t w e = subst (Ends t) e (width-settles (lineEnds r) (line-ends-settle r) t)
 
 keeps : (r : Rule) (t : List ℕ) (k : ℕ) (s : State) → after s (drop k t) ≡ between → after s (eolsFrom r k t) ≡ between
 unfolding eolsFrom after lineEnd Ends

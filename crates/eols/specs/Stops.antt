@@ -1,10 +1,10 @@
 -- The bytes at which a line end other than LF may start: the terms in which the code's runs are proved. Assumes nothing.
-use Prim.Native.Nat.{ℕ, _+_, _≤_, _<_}
+use Prim.Native.Nat.{ℕ, _+_, _≤_}
 use mathlib.Core.Path.{_≡_}
 use mathlib.Core.Bool.{Bool, true, false, _&&_, _||_}
 use mathlib.Core.List.{List, _∷_}
 use lib.Dec.{eqb}
-use lib.ListN.{length, drop, getD}
+use lib.ListN.{length, drop}
 use Rattle.text.specs.Version.{Rule, xml10, xml11}
 use Rattle.eols.specs.LineEnds.{eolsFrom}
 use Rattle.eols.specs.declared.Step.{Step}
@@ -16,12 +16,6 @@ ruleFor true = xml11
 
 abbrev pub stopByte : Bool → ℕ → Bool
 stopByte newer b = eqb b 13 || (newer && (eqb b 0xC2 || eqb b 0xE2))
-
--- no stop from `i` up to `e`
-pub record Plain (newer : Bool) (text : List ℕ) (i e : ℕ) : Type 0 where
-  pub from : i ≤ e
-  pub to : e ≤ length text
-  pub none : (k : ℕ) → i ≤ k → k < e → stopByte newer (getD text k 0) ≡ false
 
 -- the byte that is written for what stands at `i`, and how many bytes that is
 pub record Stepped (newer : Bool) (text : List ℕ) (i : ℕ) (s : Step) : Type 0 where

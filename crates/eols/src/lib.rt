@@ -8,7 +8,8 @@ ghost use Rattle.text.specs.Bytes.{begins};
 ghost use Rattle.text.specs.Call.{callOf, finish, laid};
 ghost use Rattle.text.specs.Version.{ruleOf, xml11};
 ghost use Rattle.eols.specs.LineEnds.{lineEnd, eols};
-ghost use Rattle.eols.specs.Stops.{ruleFor, stopByte, Plain, Stepped};
+ghost use Rattle.output.specs.Runs.{Plain, Copied, Room};
+ghost use Rattle.eols.specs.Stops.{ruleFor, stopByte, Stepped};
 use text::Answer;
 
 // A byte to write, and how many bytes of the text it stands for.
@@ -23,13 +24,13 @@ fn is_stop(b: u8, newer: bool) -> bool
     (b == 13) | (newer & ((b == 0xc2) | (b == 0xe2)))
 }
 
-// Is one of the 32 bytes from i on a stop?
+// Is one of the 16 bytes from i on a stop?
 fn any_stop(text: &[u8], i: usize, newer: bool) -> bool
-    requires { ⌜ i + 32 ≤ length (now text) ⌝ }
-    ensures { λ r. ⌜ (r ≡ false → Plain newer (now (text .entry)) i (i + 32)) ⌝ }
+    requires { ⌜ i + 16 ≤ length (now text) ⌝ }
+    ensures { λ r. ⌜ (r ≡ false → Plain (stopByte newer) (now (text .entry)) i (i + 16)) ⌝ }
 {
     let mut hit = false;
-    for k in 0..32usize {
+    for k in 0..16usize {
         hit = hit | is_stop(text[i + k], newer);
     }
     hit
@@ -37,14 +38,14 @@ fn any_stop(text: &[u8], i: usize, newer: bool) -> bool
 
 fn plain_blocks(text: &[u8], from: usize, newer: bool) -> usize
     requires { ⌜ from ≤ length (now text) ⌝ }
-    ensures { λ r. ⌜ Plain newer (now (text .entry)) from r ⌝ }
+    ensures { λ r. ⌜ Plain (stopByte newer) (now (text .entry)) from r ⌝ }
 {
     let mut i = from;
-    while 32 <= text.len() - i {
+    while 16 <= text.len() - i {
         if any_stop(text, i, newer) {
             return i;
         }
-        i += 32;
+        i += 16;
     }
     i
 }
@@ -52,7 +53,7 @@ fn plain_blocks(text: &[u8], from: usize, newer: bool) -> usize
 // The end of a run without stops that starts at `from`.
 fn plain_end(text: &[u8], from: usize, newer: bool) -> usize
     requires { ⌜ from ≤ length (now text) ⌝ }
-    ensures { λ r. ⌜ Plain newer (now (text .entry)) from r ⌝ }
+    ensures { λ r. ⌜ Plain (stopByte newer) (now (text .entry)) from r ⌝ }
 {
     let mut i = plain_blocks(text, from, newer);
     while i < text.len() {
@@ -64,7 +65,7 @@ fn plain_end(text: &[u8], from: usize, newer: bool) -> usize
     i
 }
 
-fn byte_at(text: &[u8], i: usize, b: u8) -> bool
+pub fn byte_at(text: &[u8], i: usize, b: u8) -> bool
     ensures { λ r. ⌜ r ≡ begins (b ∷ []) (drop i (now (text .entry))) ⌝ }
 {
     if text.len() <= i {
@@ -73,7 +74,7 @@ fn byte_at(text: &[u8], i: usize, b: u8) -> bool
     text[i] == b
 }
 
-fn two_at(text: &[u8], i: usize, a: u8, b: u8) -> bool
+pub fn two_at(text: &[u8], i: usize, a: u8, b: u8) -> bool
     requires { ⌜ i ≤ length (now text) ⌝ }
     ensures { λ r. ⌜ r ≡ begins (a ∷ b ∷ []) (drop i (now (text .entry))) ⌝ }
 {
@@ -121,7 +122,7 @@ fn newer_width(text: &[u8], i: usize) -> usize
 }
 
 // The width of the line end at i, 0 where none is.
-fn eol_width(text: &[u8], i: usize, newer: bool) -> usize
+pub fn eol_width(text: &[u8], i: usize, newer: bool) -> usize
     requires { ⌜ i < length (now text) ⌝ }
     ensures { λ r. ⌜ r ≡ lineEnd (ruleFor newer) (drop i (now (text .entry))) ⌝ }
 {
@@ -171,6 +172,48 @@ fn eols_length(text: &[u8], newer: bool) -> usize
     n
 }
 
+// Copies the blocks without stops at the text's start, each as soon as it is tested.
+fn put_blocks(text: &[u8], newer: bool, out: &mut [u8]) -> usize
+    requires { ⌜ Room (stopByte newer) (now text) (now out) ⌝ }
+    ensures { λ r. ⌜ Copied (stopByte newer) (now (text .entry)) (now (out .entry)) (now (out .exit)) r ⌝ }
+{
+    let mut i: usize = 0;
+    while 16 <= text.len() - i {
+        if any_stop(text, i, newer) {
+            return i;
+        }
+        output::put_block(&text[i..i + 16], &mut out[i..]);
+        i += 16;
+    }
+    i
+}
+
+// Copies the bytes up to the first stop.
+fn put_bytes(text: &[u8], newer: bool, out: &mut [u8]) -> usize
+    requires { ⌜ Room (stopByte newer) (now text) (now out) ⌝ }
+    ensures { λ r. ⌜ Copied (stopByte newer) (now (text .entry)) (now (out .entry)) (now (out .exit)) r ⌝ }
+{
+    let mut i: usize = 0;
+    while i < text.len() {
+        let b = text[i];
+        if is_stop(b, newer) {
+            return i;
+        }
+        out[i] = b;
+        i += 1;
+    }
+    i
+}
+
+// Copies the run without stops at the text's start, and says how long it is.
+fn put_plain(text: &[u8], newer: bool, out: &mut [u8]) -> usize
+    requires { ⌜ Room (stopByte newer) (now text) (now out) ⌝ }
+    ensures { λ r. ⌜ Copied (stopByte newer) (now (text .entry)) (now (out .entry)) (now (out .exit)) r ⌝ }
+{
+    let near = put_blocks(text, newer, out);
+    near + put_bytes(&text[near..], newer, &mut out[near..])
+}
+
 // Writes the text with its line ends normalized, run by run. The length written.
 fn write_eols(text: &[u8], newer: bool, out: &mut [u8]) -> usize
     requires { ⌜ length (eols (ruleFor newer) (now text)) ≤ length (now out) ⌝ }
@@ -179,9 +222,9 @@ fn write_eols(text: &[u8], newer: bool, out: &mut [u8]) -> usize
     let mut at: usize = 0;
     let mut i: usize = 0;
     while i < text.len() {
-        let e = plain_end(text, i, newer);
-        output::put_run(&text[i..e], &mut out[at..]);
-        at += e - i;
+        let count = put_plain(&text[i..], newer, &mut out[at..]);
+        let e = i + count;
+        at += count;
         if e == text.len() {
             return at;
         }

@@ -5,8 +5,9 @@ use lib.ListN.{length, drop, getD}
 use mathlib.Core.Bool.{Bool, true, false}
 use borrow.Author.Count.{below-none, below-more}
 use Rattle.text.proofs.Bytes.{or-left, or-right}
-use Rattle.eols.specs.Stops.{stopByte, Plain}
-use Rattle.eols.proofs.LineEnds.{plain-of}
+use Rattle.eols.specs.Stops.{stopByte}
+use Rattle.output.specs.Runs.{Plain}
+use Rattle.output.proofs.Runs.{plain-of}
 use borrow.Author.Needs.{needs}
 use Rattle.eols.proofs.any_stop.Statement.{statement}
 use Rattle.eols.proofs.any_stop.Tie as tie
@@ -15,10 +16,10 @@ use Rattle.eols.proofs.any_stop.Lts as lts
 use Rattle.eols.proofs.is_stop.Reads as is-stop-reads
 
 abbrev Inv-loop : tie.InvT-loop
-Inv-loop text i newer hit₀ k₀ hit k = (k ≤ 32) × (hit ≡ false → (m : ℕ) → m < k → stopByte newer (getD text (i + m) 0) ≡ false)
+Inv-loop text i newer hit₀ k₀ hit k = (k ≤ 16) × (hit ≡ false → (m : ℕ) → m < k → stopByte newer (getD text (i + m) 0) ≡ false)
 
 abbrev μ-loop : tie.MeasureT-loop
-μ-loop text i newer hit₀ k₀ hit k = 32 - k
+μ-loop text i newer hit₀ k₀ hit k = 16 - k
 
 loop-holds : tie.Need-loop-holds Inv-loop μ-loop
 loop-holds c = (search needs, λ e. below-none _)
@@ -42,7 +43,7 @@ loop-again : tie.Need-loop-again Inv-loop μ-loop
 loop-again c = (search needs, λ e. below-more (λ (m : ℕ). stopByte (c .before .before .before .before .before .args .newer) (getD (c .before .before .before .before .before .args .text .now) (c .before .before .before .before .before .args .i + m) 0) ≡ false) _ (c .before .before .before .loop .inv .1 (or-left _ _ e)) (sym (c .is-stop .ensures) ∙ or-right (c .before .before .before .loop .hit) _ e))
 
 returns : tie.Need-returns Inv-loop μ-loop
-returns c = λ e. plain-of _ _ _ 32 (c .before .before .before .pre) (λ m h. c .before .loop .inv .1 e m (omega arith))
+returns c = λ e. plain-of _ _ _ 16 (c .before .before .before .pre) (λ m h. c .before .loop .inv .1 e m (omega arith))
 
 pub any-stop-spec : {M : Type 1} → statement M
 any-stop-spec =

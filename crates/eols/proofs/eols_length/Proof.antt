@@ -4,7 +4,7 @@ use native.Mathlib.Omega.{arith}
 use lib.ListN.{length, drop}
 use Rattle.eols.specs.LineEnds.{eolsFrom, eols}
 use Rattle.eols.specs.Stops.{ruleFor}
-use Rattle.eols.proofs.Writing.{eols-over, run-length, step-length}
+use Rattle.eols.proofs.Writing.{eols-over, run-counts, step-length}
 use Rattle.eols.proofs.eols_length.Statement.{statement}
 use Rattle.eols.proofs.eols_length.Tie as tie
 use Rattle.eols.proofs.eols_length.Reads as reads
@@ -34,7 +34,7 @@ add-n c = omega (arith, c .before .before .loop .inv .1, c .plain-end .ensures .
 returns : tie.Need-returns Inv-loop μ-loop
 returns c =
     let p = c .before .plain-end .ensures in
-    let z = run-length _ _ _ _ p in
+    let z = run-counts (c .before .before .before .before .before .args .newer) (c .before .before .before .before .before .args .text .now) (c .before .before .before .loop .i) (c .before .plain-end .result) p in
     let o = ap length (eols-over (c .before .before .before .before .before .args .newer) (c .before .before .before .before .before .args .text .now) (c .before .plain-end .result) (omega arith)) in
     sym (c .before .before .before .loop .inv .2 ∙ omega (arith, z, o))
 
@@ -54,7 +54,7 @@ loop-again : tie.Need-loop-again Inv-loop μ-loop
 loop-again c = (
   omega (arith, c .before .normalize-eol-step .ensures .inside),
   omega (arith, c .before .before .before .before .before .loop .inv .1, c .before .before .before .plain-end .ensures .from, c .before .normalize-eol-step .ensures .some),
-  c .before .before .before .before .before .loop .inv .2 ∙ omega (arith, run-length _ _ _ _ (c .before .before .before .plain-end .ensures), step-length _ _ _ _ (c .before .normalize-eol-step .ensures), c .before .before .before .plain-end .ensures .from),
+  c .before .before .before .before .before .loop .inv .2 ∙ omega (arith, run-counts (c .before .before .before .before .before .before .before .args .newer) (c .before .before .before .before .before .before .before .args .text .now) (c .before .before .before .before .before .loop .i) (c .before .before .before .plain-end .result) (c .before .before .before .plain-end .ensures), step-length _ _ _ _ (c .before .normalize-eol-step .ensures), c .before .before .before .plain-end .ensures .from),
 )
 
 returns-2 : tie.Need-returns-2 Inv-loop μ-loop

@@ -2,8 +2,9 @@ use mathlib.Core.Path.{_≡_, refl, sym, ap, _∙_}
 use Prim.Native.Nat.{ℕ, _+_, _-_, _≤_, _<_}
 use native.Mathlib.Omega.{arith}
 use lib.ListN.{length, drop, getD}
-use Rattle.eols.specs.Stops.{stopByte, Plain}
-use Rattle.eols.proofs.LineEnds.{plain-byte, plain-join}
+use Rattle.eols.specs.Stops.{stopByte}
+use Rattle.output.specs.Runs.{Plain}
+use Rattle.output.proofs.Runs.{plain-byte, plain-join}
 use borrow.Author.Needs.{needs}
 use Rattle.eols.proofs.plain_end.Statement.{statement}
 use Rattle.eols.proofs.plain_end.Tie as tie
@@ -13,7 +14,7 @@ use Rattle.eols.proofs.is_stop.Reads as is-stop-reads
 use Rattle.eols.proofs.plain_blocks.Reads as plain-blocks-reads
 
 abbrev Inv-loop : tie.InvT-loop
-Inv-loop text from newer i₀ i = Plain newer text from i
+Inv-loop text from newer i₀ i = Plain (stopByte newer) text from i
 
 abbrev μ-loop : tie.MeasureT-loop
 μ-loop text from newer i₀ i = length text - i

@@ -1,19 +1,17 @@
+-- `write_eols` meets its contract: at each turn what is written of the first i bytes lies in the output, and the rest of it is kept. Assumes nothing.
 use mathlib.Core.Path.{_≡_, refl, sym, ap, _∙_}
 use Prim.Native.Nat.{ℕ, _+_, _-_, _≤_, _<_}
 use native.Mathlib.Omega.{arith}
 use lib.ListN.{length, drop}
 use Rattle.eols.specs.LineEnds.{eolsFrom, eols}
-use Rattle.eols.specs.Stops.{ruleFor}
-use Rattle.eols.proofs.Writing.{eols-over, run-room, run-written}
+use Rattle.eols.specs.Stops.{ruleFor, stopByte}
+use Rattle.eols.proofs.Writing.{eols-over}
+use Rattle.eols.proofs.LineEnds.{plain-run}
+use Rattle.output.proofs.Writers.{rest-room, rest-run, run-written}
 use Rattle.output.proofs.Written.{Written, written-start, written-as, written-byte, written-all, written-end, to-come, same-length as same, byte-room}
 use borrow.Author.Needs.{needs}
 use Rattle.eols.proofs.write_eols.Statement.{statement}
 use Rattle.eols.proofs.write_eols.Tie as tie
-use Rattle.eols.proofs.write_eols.Reads as reads
-use Rattle.eols.proofs.write_eols.Lts as lts
-use Rattle.eols.proofs.normalize_eol_step.Reads as normalize-eol-step-reads
-use Rattle.eols.proofs.plain_end.Reads as plain-end-reads
-use Rattle.output.proofs.put_run.Reads as put-run-reads
 
 abbrev Inv-loop : tie.InvT-loop
 Inv-loop text newer out₀ at₀ i₀ out at i = (i ≤ length text) × Written (eols (ruleFor newer) text) (eolsFrom (ruleFor newer) 0 (drop i text)) out₀ out at
@@ -25,65 +23,72 @@ loop-holds : tie.Need-loop-holds Inv-loop μ-loop
 unfolding eols
 loop-holds c = (omega arith, written-start _ _)
 
-plain-end-requires : tie.Need-plain-end-requires Inv-loop μ-loop
-plain-end-requires c κs = c .before .loop .inv .0
+sub-put-plain : tie.Need-sub-put-plain Inv-loop μ-loop
+sub-put-plain c = c .before .loop .inv .0
 
-sub-put-run : tie.Need-sub-put-run Inv-loop μ-loop
-sub-put-run c = c .plain-end .ensures .from
+part-put-plain-start : tie.Need-part-put-plain-start Inv-loop μ-loop
+part-put-plain-start c = c .before .loop .inv .0
 
-part-put-run-start : tie.Need-part-put-run-start Inv-loop μ-loop
-part-put-run-start c = c .plain-end .ensures .from
+part-put-plain-end : tie.Need-part-put-plain-end Inv-loop μ-loop
+part-put-plain-end c = search needs
 
-part-put-run-end : tie.Need-part-put-run-end Inv-loop μ-loop
-part-put-run-end c = c .plain-end .ensures .to
+sub-put-plain-2 : tie.Need-sub-put-plain-2 Inv-loop μ-loop
+sub-put-plain-2 c = omega (arith, to-come (c .before .before .loop .inv .1), same (c .before .before .loop .inv .1) (c .before .before .before .before .before .pre), c .before .before .before .before .before .pre)
 
-sub-put-run-2 : tie.Need-sub-put-run-2 Inv-loop μ-loop
-sub-put-run-2 c = omega (arith, to-come (c .before .before .before .loop .inv .1), same (c .before .before .before .loop .inv .1) (c .before .before .before .before .before .before .pre), c .before .before .before .before .before .before .pre)
+part-put-plain-start-2 : tie.Need-part-put-plain-start-2 Inv-loop μ-loop
+part-put-plain-start-2 c = omega (arith, to-come (c .before .before .loop .inv .1), same (c .before .before .loop .inv .1) (c .before .before .before .before .before .pre), c .before .before .before .before .before .pre)
 
-part-put-run-start-2 : tie.Need-part-put-run-start-2 Inv-loop μ-loop
-part-put-run-start-2 c = omega (arith, to-come (c .before .before .before .loop .inv .1), same (c .before .before .before .loop .inv .1) (c .before .before .before .before .before .before .pre), c .before .before .before .before .before .before .pre)
+part-put-plain-end-2 : tie.Need-part-put-plain-end-2 Inv-loop μ-loop
+part-put-plain-end-2 c = search needs
 
-part-put-run-end-2 : tie.Need-part-put-run-end-2 Inv-loop μ-loop
-part-put-run-end-2 c = search needs
+put-plain-requires : tie.Need-put-plain-requires Inv-loop μ-loop
+put-plain-requires c κs = rest-room (stopByte (c .before .before .before .before .before .before .args .newer)) (eolsFrom (ruleFor (c .before .before .before .before .before .before .args .newer)) 0) (plain-run (c .before .before .before .before .before .before .args .newer)) (c .before .before .before .before .before .before .args .text .now) (c .before .before .before .loop .i) (c .before .before .before .loop .inv .1) (c .before .before .before .before .before .before .pre)
 
-put-run-requires : tie.Need-put-run-requires Inv-loop μ-loop
-put-run-requires c κs = run-room _ _ _ _ (c .before .before .plain-end .ensures) (c .before .before .before .before .loop .inv .1) (c .before .before .before .before .before .before .before .pre)
-
-sub-at : tie.Need-sub-at Inv-loop μ-loop
-sub-at c = c .before .before .before .before .before .plain-end .ensures .from
+add-e : tie.Need-add-e Inv-loop μ-loop
+add-e c = omega (arith, rest-run (stopByte (c .before .before .before .before .before .before .before .before .before .args .newer)) (eolsFrom (ruleFor (c .before .before .before .before .before .before .before .before .before .args .newer)) 0) (plain-run (c .before .before .before .before .before .before .before .before .before .args .newer)) (c .before .before .before .before .before .before .before .before .before .args .text .now) (c .before .before .before .before .before .before .loop .i) (c .before .before .before .before .before .before .loop .inv .1) (c .before .before .before .before .before .before .loop .inv .0) (c .before .before .put-plain .ensures) .to)
 
 add-at : tie.Need-add-at Inv-loop μ-loop
-add-at c = omega (arith, to-come (run-written (c .before .before .before .before .before .before .before .before .before .before .args .newer) (c .before .before .before .before .before .before .before .before .before .before .args .text .now) (c .before .before .before .before .before .before .before .loop .i) (c .before .before .before .before .before .plain-end .result) (c .before .before .before .before .before .plain-end .ensures) (c .before .before .before .before .before .before .before .loop .inv .1) (c .before .before .put-run .ensures)), c .before .before .before .before .before .before .before .before .before .before .pre)
+add-at c =
+    omega (arith, to-come (run-written (stopByte (c .before .before .before .before .before .before .before .before .before .args .newer)) (eolsFrom (ruleFor (c .before .before .before .before .before .before .before .before .before .args .newer)) 0) (plain-run (c .before .before .before .before .before .before .before .before .before .args .newer)) (c .before .before .before .before .before .before .before .before .before .args .text .now) (c .before .before .before .before .before .before .loop .i) (c .before .before .before .before .before .before .loop .inv .1) (c .before .before .before .before .before .before .loop .inv .0) (c .before .before .put-plain .ensures)), c .before .before .before .before .before .before .before .before .before .pre)
 
 same-length : tie.Need-same-length Inv-loop μ-loop
-same-length c = same (run-written (c .before .before .before .before .before .before .before .before .before .before .before .args .newer) (c .before .before .before .before .before .before .before .before .before .before .before .args .text .now) (c .before .before .before .before .before .before .before .before .loop .i) (c .before .before .before .before .before .before .plain-end .result) (c .before .before .before .before .before .before .plain-end .ensures) (c .before .before .before .before .before .before .before .before .loop .inv .1) (c .before .before .before .put-run .ensures)) (c .before .before .before .before .before .before .before .before .before .before .before .pre)
+same-length c = same (run-written (stopByte (c .before .before .before .before .before .before .before .before .before .before .args .newer)) (eolsFrom (ruleFor (c .before .before .before .before .before .before .before .before .before .before .args .newer)) 0) (plain-run (c .before .before .before .before .before .before .before .before .before .before .args .newer)) (c .before .before .before .before .before .before .before .before .before .before .args .text .now) (c .before .before .before .before .before .before .before .loop .i) (c .before .before .before .before .before .before .before .loop .inv .1) (c .before .before .before .before .before .before .before .loop .inv .0) (c .before .before .before .put-plain .ensures)) (c .before .before .before .before .before .before .before .before .before .before .pre)
 
 returns : tie.Need-returns Inv-loop μ-loop
-returns c = (written-all (written-as (eols-over (c .before .before .before .before .before .before .before .before .before .before .before .args .newer) (c .before .before .before .before .before .before .before .before .before .before .before .args .text .now) (c .before .before .before .before .before .before .plain-end .result) (omega arith)) (run-written (c .before .before .before .before .before .before .before .before .before .before .before .args .newer) (c .before .before .before .before .before .before .before .before .before .before .before .args .text .now) (c .before .before .before .before .before .before .before .before .loop .i) (c .before .before .before .before .before .before .plain-end .result) (c .before .before .before .before .before .before .plain-end .ensures) (c .before .before .before .before .before .before .before .before .loop .inv .1) (c .before .before .before .put-run .ensures))), written-end (written-as (eols-over (c .before .before .before .before .before .before .before .before .before .before .before .args .newer) (c .before .before .before .before .before .before .before .before .before .before .before .args .text .now) (c .before .before .before .before .before .before .plain-end .result) (omega arith)) (run-written (c .before .before .before .before .before .before .before .before .before .before .before .args .newer) (c .before .before .before .before .before .before .before .before .before .before .before .args .text .now) (c .before .before .before .before .before .before .before .before .loop .i) (c .before .before .before .before .before .before .plain-end .result) (c .before .before .before .before .before .before .plain-end .ensures) (c .before .before .before .before .before .before .before .before .loop .inv .1) (c .before .before .before .put-run .ensures))))
+returns c =
+    let w = written-as (eols-over (c .before .before .before .before .before .before .before .before .before .before .args .newer) (c .before .before .before .before .before .before .before .before .before .before .args .text .now) (c .before .before .before .before .before .before .before .loop .i + c .before .before .before .put-plain .result) (omega arith)) (run-written (stopByte (c .before .before .before .before .before .before .before .before .before .before .args .newer)) (eolsFrom (ruleFor (c .before .before .before .before .before .before .before .before .before .before .args .newer)) 0) (plain-run (c .before .before .before .before .before .before .before .before .before .before .args .newer)) (c .before .before .before .before .before .before .before .before .before .before .args .text .now) (c .before .before .before .before .before .before .before .loop .i) (c .before .before .before .before .before .before .before .loop .inv .1) (c .before .before .before .before .before .before .before .loop .inv .0) (c .before .before .before .put-plain .ensures)) in
+    (written-all w, written-end w)
 
 normalize-eol-step-requires : tie.Need-normalize-eol-step-requires Inv-loop μ-loop
-normalize-eol-step-requires c κs = omega (arith, c .before .before .before .before .before .before .plain-end .ensures .to)
+normalize-eol-step-requires c κs = omega (arith, rest-run (stopByte (c .before .before .before .before .before .before .before .before .before .before .args .newer)) (eolsFrom (ruleFor (c .before .before .before .before .before .before .before .before .before .before .args .newer)) 0) (plain-run (c .before .before .before .before .before .before .before .before .before .before .args .newer)) (c .before .before .before .before .before .before .before .before .before .before .args .text .now) (c .before .before .before .before .before .before .before .loop .i) (c .before .before .before .before .before .before .before .loop .inv .1) (c .before .before .before .before .before .before .before .loop .inv .0) (c .before .before .before .put-plain .ensures) .to)
 
 slice-write-out : tie.Need-slice-write-out Inv-loop μ-loop
-slice-write-out c = byte-room (written-as (c .normalize-eol-step .ensures .rest) (run-written (c .before .before .before .before .before .before .before .before .before .before .before .before .args .newer) (c .before .before .before .before .before .before .before .before .before .before .before .before .args .text .now) (c .before .before .before .before .before .before .before .before .before .loop .i) (c .before .before .before .before .before .before .before .plain-end .result) (c .before .before .before .before .before .before .before .plain-end .ensures) (c .before .before .before .before .before .before .before .before .before .loop .inv .1) (c .before .before .before .before .put-run .ensures))) (c .before .before .before .before .before .before .before .before .before .before .before .before .pre)
+slice-write-out c =
+    byte-room (written-as (c .normalize-eol-step .ensures .rest) (run-written (stopByte (c .before .before .before .before .before .before .before .before .before .before .before .args .newer)) (eolsFrom (ruleFor (c .before .before .before .before .before .before .before .before .before .before .before .args .newer)) 0) (plain-run (c .before .before .before .before .before .before .before .before .before .before .before .args .newer)) (c .before .before .before .before .before .before .before .before .before .before .before .args .text .now) (c .before .before .before .before .before .before .before .before .loop .i) (c .before .before .before .before .before .before .before .before .loop .inv .1) (c .before .before .before .before .before .before .before .before .loop .inv .0) (c .before .before .before .before .put-plain .ensures))) (c .before .before .before .before .before .before .before .before .before .before .before .pre)
 
 add-at-2 : tie.Need-add-at-2 Inv-loop μ-loop
-add-at-2 c = omega (arith, to-come (written-as (c .normalize-eol-step .ensures .rest) (run-written (c .before .before .before .before .before .before .before .before .before .before .before .before .args .newer) (c .before .before .before .before .before .before .before .before .before .before .before .before .args .text .now) (c .before .before .before .before .before .before .before .before .before .loop .i) (c .before .before .before .before .before .before .before .plain-end .result) (c .before .before .before .before .before .before .before .plain-end .ensures) (c .before .before .before .before .before .before .before .before .before .loop .inv .1) (c .before .before .before .before .put-run .ensures))), c .before .before .before .before .before .before .before .before .before .before .before .before .pre)
+add-at-2 c =
+    omega (arith, to-come (written-as (c .normalize-eol-step .ensures .rest) (run-written (stopByte (c .before .before .before .before .before .before .before .before .before .before .before .args .newer)) (eolsFrom (ruleFor (c .before .before .before .before .before .before .before .before .before .before .before .args .newer)) 0) (plain-run (c .before .before .before .before .before .before .before .before .before .before .before .args .newer)) (c .before .before .before .before .before .before .before .before .before .before .before .args .text .now) (c .before .before .before .before .before .before .before .before .loop .i) (c .before .before .before .before .before .before .before .before .loop .inv .1) (c .before .before .before .before .before .before .before .before .loop .inv .0) (c .before .before .before .before .put-plain .ensures))), c .before .before .before .before .before .before .before .before .before .before .before .pre)
 
 add-i : tie.Need-add-i Inv-loop μ-loop
 add-i c = omega (arith, c .before .normalize-eol-step .ensures .inside)
 
 loop-less : tie.Need-loop-less Inv-loop μ-loop
-loop-less c = omega (arith, c .before .normalize-eol-step .ensures .some, c .before .normalize-eol-step .ensures .inside, c .before .before .before .before .before .before .before .before .plain-end .ensures .from)
+loop-less c = omega (arith, c .before .normalize-eol-step .ensures .some, c .before .normalize-eol-step .ensures .inside)
 
 loop-again : tie.Need-loop-again Inv-loop μ-loop
-loop-again c = (c .before .normalize-eol-step .ensures .inside, written-byte _ (written-as (c .before .normalize-eol-step .ensures .rest) (run-written (c .before .before .before .before .before .before .before .before .before .before .before .before .before .args .newer) (c .before .before .before .before .before .before .before .before .before .before .before .before .before .args .text .now) (c .before .before .before .before .before .before .before .before .before .before .loop .i) (c .before .before .before .before .before .before .before .before .plain-end .result) (c .before .before .before .before .before .before .before .before .plain-end .ensures) (c .before .before .before .before .before .before .before .before .before .before .loop .inv .1) (c .before .before .before .before .before .put-run .ensures))) (c .before .before .before .before .before .before .before .before .before .before .before .before .before .pre))
+loop-again c = (
+  c .before .normalize-eol-step .ensures .inside,
+  written-byte _ (written-as (c .before .normalize-eol-step .ensures .rest) (run-written (stopByte (c .before .before .before .before .before .before .before .before .before .before .before .before .args .newer)) (eolsFrom (ruleFor (c .before .before .before .before .before .before .before .before .before .before .before .before .args .newer)) 0) (plain-run (c .before .before .before .before .before .before .before .before .before .before .before .before .args .newer)) (c .before .before .before .before .before .before .before .before .before .before .before .before .args .text .now) (c .before .before .before .before .before .before .before .before .before .loop .i) (c .before .before .before .before .before .before .before .before .before .loop .inv .1) (c .before .before .before .before .before .before .before .before .before .loop .inv .0) (c .before .before .before .before .before .put-plain .ensures))) (c .before .before .before .before .before .before .before .before .before .before .before .before .pre),
+)
 
 same-length-2 : tie.Need-same-length-2 Inv-loop μ-loop
 same-length-2 c = same (c .before .loop .inv .1) (c .before .before .before .before .pre)
 
 returns-2 : tie.Need-returns-2 Inv-loop μ-loop
-returns-2 c = (written-all (written-as (eols-over (c .before .before .before .before .args .newer) (c .before .before .before .before .args .text .now) (c .before .loop .i) (c .loop-test .left)) (c .before .loop .inv .1)), written-end (written-as (eols-over (c .before .before .before .before .args .newer) (c .before .before .before .before .args .text .now) (c .before .loop .i) (c .loop-test .left)) (c .before .loop .inv .1)))
+returns-2 c =
+    let w = written-as (eols-over (c .before .before .before .before .args .newer) (c .before .before .before .before .args .text .now) (c .before .loop .i) (c .loop-test .left)) (c .before .loop .inv .1) in
+    (written-all w, written-end w)
 
 pub write-eols-spec : {M : Type 1} → statement M
 write-eols-spec =
@@ -92,15 +97,14 @@ write-eols-spec =
     Inv-loop
     μ-loop
     loop-holds
-    plain-end-requires
-    sub-put-run
-    part-put-run-start
-    part-put-run-end
-    sub-put-run-2
-    part-put-run-start-2
-    part-put-run-end-2
-    put-run-requires
-    sub-at
+    sub-put-plain
+    part-put-plain-start
+    part-put-plain-end
+    sub-put-plain-2
+    part-put-plain-start-2
+    part-put-plain-end-2
+    put-plain-requires
+    add-e
     add-at
     same-length
     returns
