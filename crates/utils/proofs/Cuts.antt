@@ -2,7 +2,7 @@
 use mathlib.Core.Path.{_≡_, refl, sym, _∙_, ap}
 use Prim.Native.Nat.{ℕ, zero, suc, _+_, _-_, _≤_, _<_}
 use native.Mathlib.Omega.{arith}
-use mathlib.Core.Bool.{Bool, true, false, _&&_}
+use mathlib.Core.Bool.{Bool, true, false, _&&_, not, true≢false}
 use mathlib.Core.List.{List, [], _∷_}
 use lib.ListN.{length, drop, getD, length-drop, drop-of-length-le, List·getD-eq-default}
 use lib.Seq.{getD-drop}
@@ -102,6 +102,15 @@ passed-block t from i n p h c = record { fits = h; on = p .on ∙ cut-past t i n
 pub clear-one : (t : List ℕ) (i : ℕ) → closesAt t i ≡ false → Clear t i 1
 clear-one t i e = record { clear = λ k h. let z : i + k ≡ i = omega arith in rw z e }
 
+pub not-true : (b : Bool) → not b ≡ true → b ≡ false
+not-true false e = refl
+not-true true e = absurd (true≢false (sym e))
+
+-- a part of a clear block
+pub clear-part : (t : List ℕ) (a n i m : ℕ) → Clear t a n → a ≤ i → m ≤ a + n - i → Clear t i m
+clear-part t a n i m c h g =
+    record { clear = λ k l. let q : a + (i + k - a) ≡ i + k = omega arith in rw q at (c .clear (i + k - a) (omega arith)) }
+
 -- ---- the end of a piece
 
 module _ (t : List ℕ) (from i : ℕ) (p : Passed t from i) where
@@ -116,6 +125,10 @@ short t (suc n) i h k =
 
 pub end-last : (t : List ℕ) (from i : ℕ) → Passed t from i → length t - i < 3 → length t ≡ from + firstCut (drop from t)
 end-last t from i p h = omega (arith, p .fits, p .on, short t (length t - i) i (omega (arith, p .fits)) h)
+
+pub end-clear : (t : List ℕ) (from i : ℕ) → Passed t from i → Clear t i (length t - 2 - i) → length t ≡ from + firstCut (drop from t)
+end-clear t from i p c =
+    end-last t from (i + (length t - 2 - i)) (passed-block t from i (length t - 2 - i) p (omega (arith, p .fits)) c) (omega arith)
 
 -- ---- the cursor
 

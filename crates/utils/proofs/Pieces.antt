@@ -8,10 +8,10 @@ use mathlib.Core.List.{List, [], _∷_, _++_, append-assoc, append-nil}
 use lib.ListN.{length, take, drop, getD, replicate, length-append, length-drop}
 use lib.Seq.{take-at, drop-at, drop-drop, getD-drop, take-append-add}
 use lib.Dec.{eqb}
-use borrow.Author.Tests.{eqb-true, eq-eqb, ne-eqb, le-ltb}
+use borrow.Author.Tests.{eq-eqb, ne-eqb, le-ltb}
 use Rattle.text.specs.Bytes.{begins}
 use Rattle.text.specs.Utf8.{WellFormed}
-use Rattle.text.proofs.Bytes.{contrary, and-left, and-right}
+use Rattle.text.proofs.Bytes.{begins-split}
 use Rattle.text.proofs.Utf8.{split-ascii, ascii-well-formed}
 use Rattle.utils.proofs.Boundary.{start-inside}
 use Rattle.utils.specs.CData.{closing, firstCut, stepped, pieceFrom, outside, cdataStep}
@@ -21,16 +21,6 @@ use Rattle.utils.specs.declared.Piece.the-variants.{Part, NoMore}
 use Rattle.utils.specs.declared.Stepped.{Stepped}
 
 -- ---- where the first cut falls
-
-begins-split : (t : List ℕ) → begins closing t ≡ true → t ≡ 93 ∷ 93 ∷ 62 ∷ drop 3 t
-begins-split [] e = contrary e refl
-begins-split (a ∷ []) e = contrary (and-right (eqb a 93) false e) refl
-begins-split (a ∷ b ∷ []) e = contrary (and-right (eqb b 93) false (and-right (eqb a 93) _ e)) refl
-begins-split (a ∷ b ∷ c ∷ t) e =
-    let x : a ≡ 93 = eqb-true a 93 (and-left (eqb a 93) _ e) in
-    let y : b ≡ 93 = eqb-true b 93 (and-left (eqb b 93) _ (and-right (eqb a 93) _ e)) in
-    let z : c ≡ 62 = eqb-true c 62 (and-left (eqb c 62) true (and-right (eqb b 93) _ (and-right (eqb a 93) _ e))) in
-    cc
 
 -- what the whole does not begin with, no part from its start begins with
 begins-part : (p u v : List ℕ) → begins p (u ++ v) ≡ false → begins p u ≡ false
@@ -49,7 +39,7 @@ data Cut (t : List ℕ) : Type 0 where
 
 view-cons : (b : ℕ) (bs : List ℕ) (w : Bool) → begins closing (b ∷ bs) ≡ w → Cut bs → Cut (b ∷ bs)
 unfolding firstCut
-view-cons b bs true e v = cut [] (drop 3 (b ∷ bs)) (begins-split (b ∷ bs) e) refl (rw e)
+view-cons b bs true e v = cut [] (drop 3 (b ∷ bs)) (begins-split closing (b ∷ bs) e) refl (rw e)
 view-cons b bs false e (last h q) = last (rw e h) (rw e (ap suc q))
 view-cons b bs false e (cut xs rest s h q) =
     let f : begins closing ((b ∷ xs ++ (93 ∷ 93 ∷ [])) ++ (62 ∷ rest)) ≡ false = ap (λ (l : List ℕ). begins closing (b ∷ l)) (sym s) ∙ e in

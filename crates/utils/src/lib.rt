@@ -1,6 +1,6 @@
 // White space at the ends of a text, and the pieces of a text for CDATA sections.
 ghost use mathlib.Core.Path.{_≡_};
-ghost use Prim.Native.Nat.{_+_, _<_, _≤_};
+ghost use Prim.Native.Nat.{_+_, _-_, _<_, _≤_};
 ghost use mathlib.Core.Bool.{true, false};
 ghost use lib.ListN.{length, drop};
 ghost use Rattle.utils.specs.Trim.{isWhitespace, trimStart, trimEnd, trimSpaces};
@@ -50,10 +50,16 @@ fn any_other(text: &[u8], i: usize) -> bool
     hit
 }
 
-// Blocks of white space at the start.
+// Blocks of white space at the start. Most texts have none, which the first byte shows.
 fn skip_blanks(text: &[u8]) -> usize
     ensures { λ r. ⌜ Skipped (now (text .entry)) r ⌝ }
 {
+    if text.len() < 32 {
+        return 0;
+    }
+    if !is_whitespace(text[0]) {
+        return 0;
+    }
     let mut i: usize = 0;
     while 32 <= text.len() - i {
         if any_other(text, i) {
@@ -64,11 +70,17 @@ fn skip_blanks(text: &[u8]) -> usize
     i
 }
 
-// Blocks of white space at the end.
+// Blocks of white space at the end, where the last byte is white space.
 fn drop_blanks(text: &[u8]) -> usize
     ensures { λ r. ⌜ Dropped (now (text .entry)) r ⌝ }
 {
     let mut end = text.len();
+    if end < 32 {
+        return end;
+    }
+    if !is_whitespace(text[end - 1]) {
+        return end;
+    }
     while 32 <= end {
         if any_other(text, end - 32) {
             return end;
@@ -178,6 +190,20 @@ fn skip_blocks(text: &[u8], from: usize, size: usize) -> usize
     i
 }
 
+// Is there no `]]>` from i on? Seen where the text's last block, which may start before i, has no `>`.
+fn ends_clear(text: &[u8], i: usize) -> bool
+    ensures { λ r. ⌜ (r ≡ true → Clear (now (text .entry)) i (length (now (text .entry)) - 2 - i)) ⌝ }
+{
+    if text.len() < 34 {
+        return false;
+    }
+    let last = text.len() - 34;
+    if i < last {
+        return false;
+    }
+    !any_gt(text, last, 32)
+}
+
 // The end of the piece that starts at `from`: the first cut, or the text's end.
 fn piece_end(text: &[u8], from: usize) -> usize
     requires { ⌜ from ≤ length (now text) ⌝ }
@@ -185,6 +211,9 @@ fn piece_end(text: &[u8], from: usize) -> usize
 {
     let near = skip_blocks(text, from, 128);
     let mut i = skip_blocks(text, near, 32);
+    if ends_clear(text, i) {
+        return text.len();
+    }
     while 3 <= text.len() - i {
         if closes_at(text, i) {
             return i + 2;

@@ -4,7 +4,7 @@ use native.Mathlib.Omega.{arith}
 use mathlib.Core.Path.{sym, _∙_}
 use lib.ListN.{length}
 use Rattle.utils.specs.Blocks.{Passed}
-use Rattle.utils.proofs.Cuts.{passed-on, passed-block, end-cut, end-last, clear-one}
+use Rattle.utils.proofs.Cuts.{passed-on, passed-block, end-cut, end-last, end-clear, clear-one}
 use borrow.Author.Needs.{needs}
 use Rattle.utils.proofs.piece_end.Statement.{statement}
 use Rattle.utils.proofs.piece_end.Tie as tie
@@ -21,8 +21,15 @@ skip-blocks-requires c κs = search needs
 skip-blocks-requires-2 : tie.Need-skip-blocks-requires-2 Inv-loop μ-loop
 skip-blocks-requires-2 c κs = search needs
 
+ends-clear-requires : tie.Need-ends-clear-requires Inv-loop μ-loop
+ends-clear-requires c κs = search needs
+
+returns : tie.Need-returns Inv-loop μ-loop
+returns c =
+    end-clear (c .before .before .before .before .before .args .text .now) (c .before .before .before .before .before .args .from) (c .before .before .skip-blocks2 .result) (passed-on _ _ _ _ (c .before .before .before .skip-blocks .ensures) (c .before .before .skip-blocks2 .ensures)) (c .before .ends-clear .ensures (c .if1 .taken))
+
 loop-holds : tie.Need-loop-holds Inv-loop μ-loop
-loop-holds c = passed-on _ _ _ _ (c .before .skip-blocks .ensures) (c .skip-blocks2 .ensures)
+loop-holds c = passed-on _ _ _ _ (c .before .before .before .skip-blocks .ensures) (c .before .before .skip-blocks2 .ensures)
 
 sub-loop : tie.Need-sub-loop Inv-loop μ-loop
 sub-loop c = search needs
@@ -33,8 +40,8 @@ closes-at-requires c κs = search needs
 add-result : tie.Need-add-result Inv-loop μ-loop
 add-result c = search needs
 
-returns : tie.Need-returns Inv-loop μ-loop
-returns c = end-cut _ _ _ (c .before .before .before .loop .inv) (omega (arith, c .before .before .before .loop .inv .fits)) (sym (c .before .closes-at .ensures) ∙ c .if1 .taken)
+returns-2 : tie.Need-returns-2 Inv-loop μ-loop
+returns-2 c = end-cut _ _ _ (c .before .before .before .loop .inv) (omega (arith, c .before .before .before .loop .inv .fits)) (sym (c .before .closes-at .ensures) ∙ c .if2 .taken)
 
 add-i : tie.Need-add-i Inv-loop μ-loop
 add-i c = search needs
@@ -44,11 +51,10 @@ loop-less c = search needs
 
 loop-again : tie.Need-loop-again Inv-loop μ-loop
 loop-again c =
-    let l = c .before .before .before .loop in
-    passed-block (c .before .before .before .before .before .before .before .args .text .now) (c .before .before .before .before .before .before .before .args .from) (l .i) 1 (l .inv) (omega (arith, l .inv .fits)) (clear-one (c .before .before .before .before .before .before .before .args .text .now) (l .i) (sym (c .before .closes-at .ensures) ∙ c .if1 .left))
+    passed-block (c .before .before .before .before .before .before .before .before .before .args .text .now) (c .before .before .before .before .before .before .before .before .before .args .from) (c .before .before .before .loop .i) 1 (c .before .before .before .loop .inv) (omega (arith, c .before .before .before .loop .inv .fits)) (clear-one (c .before .before .before .before .before .before .before .before .before .args .text .now) (c .before .before .before .loop .i) (sym (c .before .closes-at .ensures) ∙ c .if2 .left))
 
-returns-2 : tie.Need-returns-2 Inv-loop μ-loop
-returns-2 c = end-last _ _ _ (c .before .loop .inv) (omega (arith, c .before .loop .inv .fits))
+returns-3 : tie.Need-returns-3 Inv-loop μ-loop
+returns-3 c = end-last _ _ _ (c .before .loop .inv) (omega (arith, c .before .loop .inv .fits))
 
 pub piece-end-spec : {M : Type 1} → statement M
 piece-end-spec =
@@ -58,12 +64,14 @@ piece-end-spec =
     μ-loop
     skip-blocks-requires
     skip-blocks-requires-2
+    ends-clear-requires
+    returns
     loop-holds
     sub-loop
     closes-at-requires
     add-result
-    returns
+    returns-2
     add-i
     loop-less
     loop-again
-    returns-2)
+    returns-3)
