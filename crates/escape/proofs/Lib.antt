@@ -1,5 +1,4 @@
 pub mod View
 pub mod Write
 pub mod Scan
-pub mod Written
 pub mod Levels

@@ -1,79 +1,62 @@
--- Runs of bytes that are not replaced: joined, grown by one byte, and written as they are. Assumes nothing.
+-- What is written of a text's rest: a run of bytes that are not replaced as it stands, and then a replacement. Assumes nothing.
 use mathlib.Core.Path.{_≡_, refl, sym, ap, _∙_}
-use mathlib.Core.Bool.{Bool, true, false}
-use mathlib.Core.List.{List, _∷_, _++_}
+use mathlib.Core.Bool.{true}
+use mathlib.Core.List.{List, [], _∷_, _++_}
 use Prim.Native.Nat.{ℕ, zero, suc, _+_, _-_, _≤_, _<_}
 use native.Mathlib.Omega.{arith}
 use native.Mathlib.Nat.{le-refl}
 use native.Mathlib.Numerals.{add-one}
-use lib.Dec.{ltb}
-use lib.ListN.{length, take, drop, getD, length-drop}
-use lib.Seq.{drop-cons, getD-drop, take-add}
-use borrow.Author.Tests.{ltb-true, ltb-false}
-use Rattle.escape.specs.Escape.{Replacements, write}
-use Rattle.escape.specs.Scan.{Plain, Run, WholeRun}
+use lib.ListN.{length, take, drop, getD, drop-of-length-le}
+use lib.Seq.{drop-cons}
+use borrow.Rule.Slice.PartMut.{midOf, putMid}
+use Rattle.text.specs.Call.{laid}
+use Rattle.output.specs.Runs.{Ends}
+use Rattle.output.proofs.Written.{Written, written-as, written-more, piece-room}
+use Rattle.output.proofs.Writers.{Copies}
+use Rattle.escape.specs.Escape.{Replacements, write, reference}
+use Rattle.escape.specs.Scan.{escapedBy, charsSet}
+use Rattle.escape.specs.declared.EscapeChars.{EscapeChars}
+use Rattle.escape.proofs.Write.{write-at}
 
-module _ (set : Replacements) (text : List ℕ) where
-  pub plain-none : (at : ℕ) → Plain set text at at
-  plain-none at = record { plain = λ k g h. absurd (omega arith) }
+module _ (set : Replacements) where
+  pub plain-run : Copies (set .picks) (write set)
+  plain-run t i zero p = let q : i + 0 ≡ i = omega arith in rw q
+  plain-run t i (suc n) p =
+      let f = p .to in
+      let q : i + suc n ≡ i + 1 + n = omega arith in
+      write-at set t i (omega arith)
+      ∙ rw (p .none i (le-refl i) (omega arith), q, drop-cons t i 0 (omega arith), sym (add-one i))
+      (ap (λ (l : List ℕ). getD t i 0 ∷ l) (plain-run t (i + 1) n
+      (record { from = omega arith; to = omega arith; none = λ k g h. p .none k (omega arith) (omega arith) })))
 
-  pub plain-one : (at : ℕ) → set .picks (getD text at 0) ≡ false → Plain set text at (at + 1)
-  plain-one at e =
-      record { plain = λ k g h. let q : k ≡ at = omega arith in ap (λ (n : ℕ). set .picks (getD text n 0)) q ∙ e }
+  pub replaced : (t : List ℕ) (i : ℕ) → i < length t → set .picks (getD t i 0) ≡ true → write set (drop i t) ≡ set .by (getD t i 0) ++ write set (drop (i + 1) t)
+  replaced t i h e = write-at set t i h ∙ rw e
 
-  pub plain-join : (from mid to : ℕ) → Plain set text from mid → Plain set text mid to → Plain set text from to
-  plain-join from mid to p q = record { plain = λ k g h. go k g h (ltb k mid) refl }
-    where
-      go : (k : ℕ) → from ≤ k → k < to → (t : Bool) → ltb k mid ≡ t → set .picks (getD text k 0) ≡ false
-      go k g h true e = p .plain k g (ltb-true k mid e)
-      go k g h false e = q .plain k (ltb-false k mid e) h
-
-  pub plain-step : (from to : ℕ) → Plain set text from to → set .picks (getD text to 0) ≡ false → Plain set text from (to + 1)
-  plain-step from to p e = plain-join from to (to + 1) p (plain-one to e)
-
-  -- a run, and more of it
-  pub run-none : (at : ℕ) → at ≤ length text → Run set text at at
-  run-none at h = record { starts = le-refl at; inside = h; run = plain-none at }
-
-  pub run-more : (from mid to : ℕ) → Run set text from mid → mid ≤ to → to ≤ length text → Plain set text mid to → Run set text from to
-  run-more from mid to r g h p =
-      record { starts = omega (arith, r .starts); inside = h; run = plain-join from mid to (r .run) p }
-
-  -- written as it is
-  pub write-count : (n from : ℕ) → from + n ≤ length text → Plain set text from (from + n) → write set (take n (drop from text)) ≡ take n (drop from text)
+  -- past the end nothing is left
+  pub write-over : (t : List ℕ) (i : ℕ) → length t ≤ i → write set (drop i t) ≡ []
   unfolding write
-  write-count zero from h p = refl
-  write-count (suc n) from h p =
-      let e : from + suc n ≡ from + 1 + n = omega arith in
-      let q : Plain set text (from + 1) (from + 1 + n) = record { plain = λ k g l. p .plain k (omega arith) (omega arith) } in
-      rw (drop-cons text from 0 (omega arith), p .plain from (le-refl from) (omega arith), sym (add-one from))
-      (ap (λ (l : List ℕ). getD text from 0 ∷ l) (write-count n (from + 1) (omega arith) q))
+  write-over t i h = rw (drop-of-length-le t h)
 
-  pub write-run : (from to : ℕ) → Run set text from to → write set (take (to - from) (drop from text)) ≡ take (to - from) (drop from text)
-  write-run from to r =
-      let g = r .starts in
-      let h = r .inside in
-      write-count (to - from) from (omega arith) (record { plain = λ k l m. r .run .plain k l (omega arith) })
+-- ---- by the flags of a level
 
--- a run from the start of the text's rest
-pub run-shift : (set : Replacements) (text : List ℕ) (i n : ℕ) → i ≤ length text → WholeRun set (drop i text) 0 n → WholeRun set text i (i + n)
-run-shift set text i n h r =
-    let inside : n ≤ length text - i = rw length-drop at (r .whole .inside) in
-    record {
-      whole = record {
-        starts = omega arith;
-        inside = omega arith;
-        run = record {
-          plain = λ k g l.
-              let q : i + (k - i) ≡ k = omega arith in
-              rw (getD-drop i text (k - i) 0, q) at (r .whole .run .plain (k - i) (omega arith) (omega arith));
-        };
-      };
-      ends = λ l. rw (getD-drop i text n 0) at (r .ends (rw length-drop (omega arith)));
-    }
+pub chars-run : (chars : EscapeChars) → Copies (escapedBy chars) (write (charsSet chars))
+unfolding charsSet
+chars-run chars = plain-run (charsSet chars)
 
--- the start of a text, and more of it
-pub taken-more : (text : List ℕ) (i end : ℕ) → i ≤ end → take i text ++ take (end - i) (drop i text) ≡ take end text
-taken-more text i end h =
-    let q : i + (end - i) ≡ end = omega arith in
-    sym (take-add i (end - i) text) ∙ rw q
+chars-replaced : (chars : EscapeChars) (t : List ℕ) (i : ℕ) → i < length t → escapedBy chars (getD t i 0) ≡ true
+    → write (charsSet chars) (drop i t) ≡ reference (getD t i 0) ++ write (charsSet chars) (drop (i + 1) t)
+unfolding charsSet
+chars-replaced chars t i h e = replaced (charsSet chars) t i h e
+
+-- the reference to the byte where a run ends
+module _ (chars : EscapeChars) (t : List ℕ) (e : ℕ) (h : e < length t) (p : Ends (escapedBy chars) t e)
+    {whole old out : List ℕ} {at : ℕ} (w : Written whole (write (charsSet chars) (drop e t)) old out at) where
+  next : Written whole (reference (getD t e 0) ++ write (charsSet chars) (drop (e + 1) t)) old out at
+  next = written-as (chars-replaced chars t e h (p h)) w
+
+  pub reference-fits : length whole ≤ length old → length (reference (getD t e 0)) ≤ length (midOf at (length out - at) out)
+  reference-fits g = piece-room (reference (getD t e 0)) (write (charsSet chars) (drop (e + 1) t)) next g
+
+  pub reference-written : {m : ℕ} {part : List ℕ} → m ≡ length (reference (getD t e 0)) → part ≡ laid (reference (getD t e 0)) (midOf at (length out - at) out)
+      → Written whole (write (charsSet chars) (drop (e + 1) t)) old (putMid at (length out - at) out part) (at + m)
+  reference-written q d = rw q (written-more (reference (getD t e 0)) next d)

@@ -27,7 +27,7 @@ pub data Kind : ℕ → Type 0 where
   is-other : {b : ℕ} → Other b → Kind b
 
 -- the byte x where the test passes, else what the failed test helps to prove
-orElse : (P : ℕ → Type 0) (b x : ℕ) → P x → (eqb b x ≡ false → P b) → P b
+pub orElse : (P : ℕ → Type 0) (b x : ℕ) → P x → (eqb b x ≡ false → P b) → P b
 orElse P b x here other = go (eqb b x) refl
   where
     go : (t : Bool) → eqb b x ≡ t → P b

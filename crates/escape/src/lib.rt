@@ -1,4 +1,4 @@
-// The escape levels: the length is counted first, then runs of copied bytes and replacements are written in turn.
+// The escape levels: runs of copied bytes and replacements are written in turn, after a count where the output may be too short.
 ghost use mathlib.Core.Path.{_≡_};
 ghost use mathlib.Core.Bool.{false};
 ghost use mathlib.Core.List.{[], _∷_};
@@ -7,7 +7,8 @@ ghost use lib.ListN.{length, take, drop};
 ghost use Rattle.text.specs.Bytes.{pick};
 ghost use Rattle.text.specs.Call.{laid, finish, callOf};
 ghost use Rattle.escape.specs.Escape.{write, levelOf, levelSet, levelCheck, reference};
-ghost use Rattle.escape.specs.Scan.{escapedBy, addedBy, charsSet, levelChars, Plain, Run, WholeRun, ShortRun};
+ghost use Rattle.output.specs.Runs.{Plain, Copied, Ends, Room};
+ghost use Rattle.escape.specs.Scan.{escapedBy, addedBy, charsSet, levelChars};
 use text::Answer;
 
 // The characters that are escaped besides `<`, `&` and CR: LF and TAB, `'`, `"`, `>`.
@@ -94,46 +95,16 @@ fn is_escaped(chars: EscapeChars, b: u8) -> bool
     escapes(chars, b)
 }
 
-// Is one of the 32 bytes from i on escaped?
+// Is one of the 16 bytes from i on escaped?
 fn any_escaped(text: &[u8], i: usize, chars: EscapeChars) -> bool
-    requires { ⌜ i + 32 ≤ length (now text) ⌝ }
-    ensures { λ r. ⌜ (r ≡ false → Plain (charsSet chars) (now (text .entry)) i (i + 32)) ⌝ }
+    requires { ⌜ i + 16 ≤ length (now text) ⌝ }
+    ensures { λ r. ⌜ (r ≡ false → Plain (escapedBy chars) (now (text .entry)) i (i + 16)) ⌝ }
 {
     let mut hit = false;
-    for k in 0..32usize {
+    for k in 0..16usize {
         hit = hit | escapes(chars, text[i + k]);
     }
     hit
-}
-
-// Blocks of 32 bytes of which none is escaped.
-fn skip_plain(text: &[u8], from: usize, chars: EscapeChars) -> usize
-    requires { ⌜ from ≤ length (now text) ⌝ }
-    ensures { λ r. ⌜ Run (charsSet chars) (now (text .entry)) from r ⌝ }
-{
-    let mut i = from;
-    while 32 <= text.len() - i {
-        if any_escaped(text, i, chars) {
-            return i;
-        }
-        i += 32;
-    }
-    i
-}
-
-// The next byte from `from` on that is escaped, or the end.
-fn next_escaped(text: &[u8], from: usize, chars: EscapeChars) -> usize
-    requires { ⌜ from ≤ length (now text) ⌝ }
-    ensures { λ r. ⌜ WholeRun (charsSet chars) (now (text .entry)) from r ⌝ }
-{
-    let mut i = skip_plain(text, from, chars);
-    while i < text.len() {
-        if is_escaped(chars, text[i]) {
-            return i;
-        }
-        i += 1;
-    }
-    i
 }
 
 fn put(reference: &[u8], out: &mut [u8]) -> usize
@@ -217,7 +188,7 @@ fn added_rest(text: &[u8], i: usize, count: usize, chars: EscapeChars) -> usize
 
 // The length of the escaped text.
 pub fn escaped_length(text: &[u8], chars: EscapeChars) -> usize
-    requires { ⌜ length (now text) ≤ 16777216 ⌝ }
+    requires { ⌜ length (now text) ≤ 0x1000000000000 ⌝ }
     ensures { λ r. ⌜ r ≡ length (write (charsSet chars) (now (text .entry))) ⌝ }
 {
     let mut n: usize = 0;
@@ -230,21 +201,30 @@ pub fn escaped_length(text: &[u8], chars: EscapeChars) -> usize
     n + added_rest(text, i, rest, chars) + text.len()
 }
 
-fn least(a: usize, b: usize) -> usize
-    ensures { λ r. ⌜ (r ≤ a) × ((r ≤ b) × ((r < b → r ≡ a))) ⌝ }
+// Copies the blocks at the text's start of which no byte is escaped, each as soon as it is tested.
+fn put_blocks(text: &[u8], chars: EscapeChars, out: &mut [u8]) -> usize
+    requires { ⌜ Room (escapedBy chars) (now text) (now out) ⌝ }
+    ensures { λ r. ⌜ Copied (escapedBy chars) (now (text .entry)) (now (out .entry)) (now (out .exit)) r ⌝ }
 {
-    if a < b { a } else { b }
+    let mut i: usize = 0;
+    while 16 <= text.len() - i {
+        if any_escaped(text, i, chars) {
+            return i;
+        }
+        output::put_block(&text[i..i + 16], &mut out[i..]);
+        i += 16;
+    }
+    i
 }
 
-// Copies the bytes up to the next that is escaped, 32 at most: in one loop, as most runs between such bytes are short.
-fn put_short_run(text: &[u8], chars: EscapeChars, out: &mut [u8]) -> usize
-    requires { ⌜ length (write (charsSet chars) (now text)) ≤ length (now out) ⌝ }
-    ensures { λ r. ⌜ ShortRun (charsSet chars) (now (text .entry)) r ⌝ }
-    ensures { λ r. ⌜ now (out .exit) ≡ laid (take r (now (text .entry))) (now (out .entry)) ⌝ }
+// Copies the bytes up to the next that is escaped, or to the end.
+fn put_bytes(text: &[u8], chars: EscapeChars, out: &mut [u8]) -> usize
+    requires { ⌜ Room (escapedBy chars) (now text) (now out) ⌝ }
+    ensures { λ r. ⌜ Copied (escapedBy chars) (now (text .entry)) (now (out .entry)) (now (out .exit)) r ⌝ }
+    ensures { λ r. ⌜ Ends (escapedBy chars) (now (text .entry)) r ⌝ }
 {
-    let end = least(text.len(), 32);
     let mut i: usize = 0;
-    while i < end {
+    while i < text.len() {
         let b = text[i];
         if is_escaped(chars, b) {
             return i;
@@ -255,25 +235,21 @@ fn put_short_run(text: &[u8], chars: EscapeChars, out: &mut [u8]) -> usize
     i
 }
 
-// Copies the bytes up to the next that is escaped, or to the end, and says how many.
+// The same by blocks first, and says how many.
 fn put_plain(text: &[u8], chars: EscapeChars, out: &mut [u8]) -> usize
-    requires { ⌜ length (write (charsSet chars) (now text)) ≤ length (now out) ⌝ }
-    ensures { λ r. ⌜ WholeRun (charsSet chars) (now (text .entry)) 0 r ⌝ }
-    ensures { λ r. ⌜ now (out .exit) ≡ laid (take r (now (text .entry))) (now (out .entry)) ⌝ }
+    requires { ⌜ Room (escapedBy chars) (now text) (now out) ⌝ }
+    ensures { λ r. ⌜ Copied (escapedBy chars) (now (text .entry)) (now (out .entry)) (now (out .exit)) r ⌝ }
+    ensures { λ r. ⌜ Ends (escapedBy chars) (now (text .entry)) r ⌝ }
 {
-    let near = put_short_run(text, chars, out);
-    if near < 32 {
-        return near;
-    }
-    let end = next_escaped(text, near, chars);
-    output::put_run(&text[near..end], &mut out[near..]);
-    end
+    let near = put_blocks(text, chars, out);
+    near + put_bytes(&text[near..], chars, &mut out[near..])
 }
 
-// Writes the escaped text at the start of `out`, and keeps the rest.
-pub fn write_escaped(text: &[u8], chars: EscapeChars, out: &mut [u8])
+// Writes the escaped text at the start of `out`, keeps the rest, and says how many bytes it wrote.
+pub fn write_escaped(text: &[u8], chars: EscapeChars, out: &mut [u8]) -> usize
     requires { ⌜ length (write (charsSet chars) (now text)) ≤ length (now out) ⌝ }
-    ensures { λ _. ⌜ now (out .exit) ≡ laid (write (charsSet chars) (now (text .entry))) (now (out .entry)) ⌝ }
+    ensures { λ r. ⌜ r ≡ length (write (charsSet chars) (now (text .entry))) ⌝ }
+    ensures { λ r. ⌜ now (out .exit) ≡ laid (write (charsSet chars) (now (text .entry))) (now (out .entry)) ⌝ }
 {
     let mut at: usize = 0;
     let mut i: usize = 0;
@@ -282,30 +258,33 @@ pub fn write_escaped(text: &[u8], chars: EscapeChars, out: &mut [u8])
         let end = i + count;
         at += count;
         if end == text.len() {
-            return;
+            return at;
         }
         at += escape_char(text[end], &mut out[at..]);
         i = end + 1;
     }
 }
 
-// One of the four levels. Counts first, so that 19 leaves the output as it is.
+// One of the four levels. Where the output has six times the text's length there is room for the result: no count is needed.
+// Else it counts first, so that 19 leaves the output as it is.
 pub fn escape(text: &[u8], level: u8, out: &mut [u8]) -> Answer
     requires { ⌜ length (now text) ≤ 16777216 ⌝ }
     ensures { λ r. ⌜ callOf r (now (out .exit) ∷ []) ≡ finish (write (levelSet (levelOf level)) (now (text .entry))) 0 (now (out .entry)) ⌝ }
 {
     let chars = escape_chars(level);
-    let length = escaped_length(text, chars);
-    if out.len() < length {
-        return Answer::Refused {
-            number: 19,
-            first: length as u64,
-            second: 0,
-        };
+    if out.len() < 6 * text.len() {
+        let length = escaped_length(text, chars);
+        if out.len() < length {
+            return Answer::Refused {
+                number: 19,
+                first: length as u64,
+                second: 0,
+            };
+        }
     }
-    write_escaped(text, chars, out);
+    let written = write_escaped(text, chars, out);
     Answer::Done {
-        first: length as u64,
+        first: written as u64,
         second: 0,
     }
 }
