@@ -1,3 +1,4 @@
 pub mod Encoding
 pub mod Numbers
 mod Examples
+pub mod Ascii
