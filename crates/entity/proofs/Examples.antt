@@ -1,0 +1,53 @@
+-- Refusals and bindings of small tables, by computation. Assumes nothing.
+use mathlib.Core.Path.{_≡_, refl}
+use mathlib.Core.List.{List, [], _∷_}
+use Prim.Native.Nat.{ℕ}
+use Rattle.text.specs.declared.Answer.the-variants.{Done, Refused}
+use Rattle.entity.specs.Table.{tableCheck}
+use Rattle.entity.specs.Binding.{text, predefined, unknown, binding}
+
+-- document 01, refusal 7: no end, bytes after the end, an unknown command, cut operands
+ends : (tableCheck [] [] ≡ Refused 7 0 0)
+    × (tableCheck (0 ∷ 0 ∷ []) [] ≡ Refused 7 1 0)
+    × (tableCheck (2 ∷ []) [] ≡ Refused 7 0 0)
+    × (tableCheck (1 ∷ 0 ∷ 0 ∷ 0 ∷ []) [] ≡ Refused 7 0 0)
+unfolding tableCheck
+ends = (refl, refl, refl, refl)
+
+-- checks run command by command: an empty name at 0 comes before the end that is missing at 12
+empty-name : tableCheck (1 ∷ 0 ∷ 0 ∷ 0 ∷ 0 ∷ 0 ∷ 0 ∷ 0 ∷ 0 ∷ 0 ∷ 0 ∷ 0 ∷ []) [] ≡ Refused 9 0 0
+unfolding tableCheck
+empty-name = refl
+
+-- refusal 8: a start past the pool, with length 0 too
+past : tableCheck (1 ∷ 1 ∷ 0 ∷ 0 ∷ 0 ∷ 0 ∷ 0 ∷ 0 ∷ 0 ∷ 0 ∷ 0 ∷ 0 ∷ 0 ∷ []) [] ≡ Refused 8 0 0
+unfolding tableCheck
+past = refl
+
+-- e = C2 BD, then e = `e`; amp = `X`
+abbrev list : List ℕ
+list =
+    1 ∷ 0 ∷ 0 ∷ 0 ∷ 0 ∷ 1 ∷ 1 ∷ 0 ∷ 0 ∷ 0 ∷ 2 ∷ 0
+    ∷ 1 ∷ 0 ∷ 0 ∷ 0 ∷ 0 ∷ 1 ∷ 0 ∷ 0 ∷ 0 ∷ 0 ∷ 1 ∷ 0
+    ∷ 1 ∷ 3 ∷ 0 ∷ 0 ∷ 0 ∷ 3 ∷ 6 ∷ 0 ∷ 0 ∷ 0 ∷ 1 ∷ 0
+    ∷ 0 ∷ []
+
+abbrev pool : List ℕ
+pool = 101 ∷ 0xC2 ∷ 0xBD ∷ 97 ∷ 109 ∷ 112 ∷ 88 ∷ []
+
+valid : tableCheck list pool ≡ Done 3 0
+unfolding tableCheck
+valid = refl
+
+-- a text that is not UTF-8: its first command is refused
+not-utf8 : tableCheck list (101 ∷ 0xC2 ∷ 0x20 ∷ 97 ∷ 109 ∷ 112 ∷ 88 ∷ []) ≡ Refused 9 0 0
+unfolding tableCheck
+not-utf8 = refl
+
+-- the first text of e, `X` for amp, `<` for lt, and a name that nothing binds
+bound : (binding list pool (101 ∷ []) ≡ text (0xC2 ∷ 0xBD ∷ []))
+    × (binding list pool (97 ∷ 109 ∷ 112 ∷ []) ≡ text (88 ∷ []))
+    × (binding list pool (108 ∷ 116 ∷ []) ≡ predefined (60 ∷ []))
+    × (binding list pool (102 ∷ []) ≡ unknown)
+unfolding binding
+bound = (refl, refl, refl, refl)

@@ -1,0 +1,154 @@
+-- A lookup in a valid table: what is known at the command that it stands at. Assumes nothing.
+use mathlib.Core.Path.{_≡_, refl, ap, sym, _∙_}
+use mathlib.Core.Bool.{Bool, true, false}
+use mathlib.Core.List.{List, []}
+use Prim.Native.Nat.{ℕ, _+_, _-_, _≤_, _<_, zero-le}
+use native.Mathlib.Omega.{arith}
+use lib.Dec.{ltb}
+use lib.ListN.{length, getD, drop, drop-of-length-le}
+use lib.Seq.{drop-cons, ext-getD}
+use borrow.Author.Count.{below-none, below-more}
+use borrow.Author.Tests.{ne-eqb, ltb-true, ltb-false}
+use Rattle.text.specs.Bytes.{pick, sameBytes}
+use Rattle.text.specs.Blocks.{wordAt}
+use Rattle.text.specs.Call.{andThen}
+use Rattle.text.specs.declared.Answer.the-variants.{Done}
+use Rattle.text.proofs.Bytes.{same-equal, equal-same}
+use Rattle.entity.specs.Table.{littleEndian, part, nameOf, textOf, declarationsFrom, declarations, runsPast, commandsCheck, sizeCheck, tableCheck, ValidTable}
+use Rattle.entity.specs.Binding.{text, bodyBound, bindingIn, binding, predefinedOf, boundTo, Lies}
+use Rattle.entity.specs.Steps.{commandCheck, TextAt, Agree}
+use Rattle.entity.specs.declared.Binding.{Binding}
+use Rattle.entity.specs.declared.Binding.the-variants.{Text, Predefined, Unknown}
+use Rattle.entity.proofs.Commands.{IsDone, is-done, both-done, command-done, next-check, next-declaration}
+use Rattle.entity.proofs.Parts.{part-length, part-at, name-fits, text-fits}
+use Rattle.entity.proofs.Reading.{declaration-at}
+use Rattle.entity.proofs.Words.{word-bytes, same-u32}
+
+-- ---- names
+
+module _ (pool : List ℕ) (start : ℕ) (name : List ℕ) where
+  pub agree-none : Agree pool start name 0
+  agree-none = record { fits = zero-le; agree = below-none (λ k. getD pool (start + k) 0 ≡ getD name k 0) }
+
+  pub agree-more : (i : ℕ) → Agree pool start name i → i < length name → getD pool (start + i) 0 ≡ getD name i 0 → Agree pool start name (i + 1)
+  agree-more i a h e = record { fits = omega arith; agree = below-more (λ k. getD pool (start + k) 0 ≡ getD name k 0) i (a .agree) e }
+
+  -- eight more, by one word
+  pub agree-word : (i : ℕ) → Agree pool start name i → i + 8 ≤ length name → ((k : ℕ) → getD pool k 0 < 0x100) → ((k : ℕ) → getD name k 0 < 0x100)
+      → wordAt pool (start + i) ≡ wordAt name i → Agree pool start name (i + 8)
+  agree-word i a h ps ns e = record { fits = h; agree = λ k l. go (ltb k i) refl l }
+    where
+      go : {k : ℕ} (t : Bool) → ltb k i ≡ t → k < i + 8 → getD pool (start + k) 0 ≡ getD name k 0
+      go {k} true q l = a .agree k (ltb-true k i q)
+      go {k} false q l =
+          let g = ltb-false k i q in
+          let p1 : start + i + (k - i) ≡ start + k = omega arith in
+          let p2 : i + (k - i) ≡ k = omega arith in
+          rw (p1, p2) at (word-bytes pool name (start + i) i ps ns e (k - i) (omega arith))
+
+  module _ (n : ℕ) where
+    pub same-all : start + n ≤ length pool → n ≡ length name → Agree pool start name n → sameBytes (part pool start n) name ≡ true
+    same-all h l a =
+        let s = part-length pool start n h in
+        let q : part pool start n ≡ name = ext-getD 0 (part pool start n) name (s ∙ l) (λ i k. part-at pool start n i (rw s at k) ∙ a .agree i (rw s at k)) in
+        rw q (equal-same name)
+
+    differ : (part pool start n ≡ name → ⊥) → sameBytes (part pool start n) name ≡ false
+    differ other = go (sameBytes (part pool start n) name) refl
+      where
+        go : (t : Bool) → sameBytes (part pool start n) name ≡ t → sameBytes (part pool start n) name ≡ false
+        go true e = absurd (other (same-equal (part pool start n) name e))
+        go false e = e
+
+    pub differ-length : start + n ≤ length pool → (n ≡ length name → ⊥) → sameBytes (part pool start n) name ≡ false
+    differ-length h other = differ (λ e. other (sym (part-length pool start n h) ∙ ap length e))
+
+    pub differ-at : (i : ℕ) → i < n → (getD pool (start + i) 0 ≡ getD name i 0 → ⊥) → sameBytes (part pool start n) name ≡ false
+    differ-at i h other = differ (λ e. other (sym (part-at pool start n i h) ∙ ap (λ (l : List ℕ). getD l i 0) e))
+
+    -- four bytes as one number
+    pub differ-u32 : (i : ℕ) → i + 4 ≤ n → (littleEndian pool (start + i) 4 ≡ littleEndian name i 4 → ⊥) → sameBytes (part pool start n) name ≡ false
+    differ-u32 i h other = differ (λ e. other (same-u32 pool name (start + i) i (λ k l. at-byte e k (omega arith))))
+      where
+        at-byte : part pool start n ≡ name → (k : ℕ) → i + k < n → getD pool (start + i + k) 0 ≡ getD name (i + k) 0
+        at-byte e k l =
+            let q : start + (i + k) ≡ start + i + k = omega arith in
+            rw q at (sym (part-at pool start n (i + k) l) ∙ ap (λ (l : List ℕ). getD l (i + k) 0) e)
+
+-- ---- commands
+
+-- the table is valid from here on, and the answer from here on is the answer
+pub record Here (list pool name : List ℕ) (at : ℕ) : Type 0 where
+  pub valid : IsDone (commandsCheck pool at 0 (drop at list))
+  pub is : bindingIn (declarationsFrom 0 (drop at list)) pool name ≡ binding list pool name
+
+pub table-done : (list pool : List ℕ) → ValidTable list pool → IsDone (commandsCheck pool 0 0 list)
+unfolding tableCheck
+table-done list pool e =
+    let p = both-done (sizeCheck list pool) (andThen (commandsCheck pool 0 0 list) (Done (length (declarations list)) 0)) (is-done e) in
+    both-done (commandsCheck pool 0 0 list) (Done (length (declarations list)) 0) (p .1) .0
+
+pub begin : (list pool name : List ℕ) → ValidTable list pool → Here list pool name 0
+begin list pool name e = record { valid = table-done list pool e; is = unfold binding declarations in refl }
+
+-- the command's byte is there
+pub in-list : {list pool name : List ℕ} {at : ℕ} → Here list pool name at → at < length list
+in-list {list} {pool} {name} {at} h = go (ltb at (length list)) refl
+  where
+    none : length list ≤ at → IsDone (commandsCheck pool at 0 [])
+    none l = rw (drop-of-length-le list l) at (h .valid)
+
+    go : (t : Bool) → ltb at (length list) ≡ t → at < length list
+    go true e = ltb-true at (length list) e
+    go false e = absurd (unfold commandsCheck in none (ltb-false at (length list) e))
+
+-- at another byte than 1 the table has no more names
+pub over : {list pool name : List ℕ} {at : ℕ} → Here list pool name at → (getD list at 0 ≡ 1 → ⊥) → predefinedOf name ≡ binding list pool name
+over {list} {pool} {name} {at} h other = go ∙ h .is
+  where
+    go : predefinedOf name ≡ bindingIn (declarationsFrom 0 (drop at list)) pool name
+    go = unfold bindingIn declarationsFrom in rw (drop-cons list at 0 (in-list h), ne-eqb (getD list at 0) 1 other)
+
+-- a command 1: its operands are there, and name and text lie in the pool
+pub record Command (list pool : List ℕ) (at : ℕ) : Type 0 where
+  pub fits : at + 12 ≤ length list
+  pub name : littleEndian list (at + 1) 4 + getD list (at + 5) 0 ≤ length pool
+  pub text : littleEndian list (at + 6) 4 + littleEndian list (at + 10) 2 ≤ length pool
+
+module _ {list pool name : List ℕ} {at : ℕ} (h : Here list pool name at) (one : getD list at 0 ≡ 1) where
+  done : IsDone (commandCheck list pool at) × IsDone (commandsCheck pool (at + 12) 0 (drop (at + 12) list))
+  done =
+      both-done (commandCheck list pool at) (commandsCheck pool (at + 12) 0 (drop (at + 12) list))
+      (rw (next-check list pool at (in-list h) one) at (h .valid))
+
+  pub command : Command list pool at
+  unfolding runsPast
+  command =
+      let d = command-done list pool at (done .0) in
+      let r = rw (declaration-at list at) at (d .1) in
+      record { fits = d .0; name = name-fits pool _ _ _ _ r; text = text-fits pool _ _ _ _ r }
+
+  turn : bindingIn (declarationsFrom 0 (drop at list)) pool name
+      ≡ pick (sameBytes (part pool (littleEndian list (at + 1) 4) (getD list (at + 5) 0)) name)
+      (text (part pool (littleEndian list (at + 6) 4) (littleEndian list (at + 10) 2)))
+      (bindingIn (declarationsFrom 0 (drop (at + 12) list)) pool name)
+  unfolding bindingIn nameOf bodyBound textOf
+  turn = rw (next-declaration list pool at (in-list h) one, declaration-at list at)
+
+  module _ {start n : ℕ} (is-start : start ≡ littleEndian list (at + 1) 4) (is-length : n ≡ getD list (at + 5) 0) where
+    -- another name
+    pub on : sameBytes (part pool start n) name ≡ false → Here list pool name (at + 12)
+    on e =
+        let f : sameBytes (part pool (littleEndian list (at + 1) 4) (getD list (at + 5) 0)) name ≡ false = rw (is-start, is-length) at e in
+        record { valid = done .1; is = sym (rw f at turn) ∙ h .is }
+
+    -- this name
+    pub hit : sameBytes (part pool start n) name ≡ true → (r : Binding) → TextAt list at r → (boundTo pool r ≡ binding list pool name) × Lies pool r
+    unfolding boundTo
+    hit e (Text from end) t =
+        let f : sameBytes (part pool (littleEndian list (at + 1) 4) (getD list (at + 5) 0)) name ≡ true = rw (is-start, is-length) at e in
+        let k = command in
+        let q : end - from ≡ littleEndian list (at + 10) 2 = omega arith in
+        (rw (q, t .0) (sym (rw f at turn) ∙ h .is), (omega arith, omega arith, t .2))
+    hit e (Predefined b) t = absurd t
+    hit e Unknown t = absurd t

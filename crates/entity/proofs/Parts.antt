@@ -1,0 +1,76 @@
+-- Parts of the pool, and refusals 8 and 9 of a declaration. Assumes nothing.
+use mathlib.Core.Path.{_≡_, refl, ap, sym, _∙_}
+use mathlib.Core.Bool.{Bool, true, false, _||_, not}
+use mathlib.Core.List.{List}
+use Prim.Native.Nat.{ℕ, _+_, _-_, _≤_, _<_}
+use native.Mathlib.Omega.{arith}
+use native.Mathlib.Nat.{add-sub-cancel-left}
+use lib.Dec.{eqb, ltb}
+use lib.ListN.{length, getD, take, drop, length-take, length-drop}
+use lib.Seq.{getD-take, getD-drop}
+use borrow.Author.Tests.{eq-eqb, ne-eqb, ltb-false}
+use Rattle.text.specs.Utf8.{utf8End, wellFormed}
+use Rattle.text.specs.Call.{passed}
+use Rattle.text.specs.declared.Answer.the-variants.{Refused}
+use Rattle.text.proofs.Bytes.{contrary, or-left, or-right}
+use Rattle.text.proofs.Utf8.{tested, testable}
+use Rattle.text.proofs.Longest.{end-whole, whole-end}
+use Rattle.entity.specs.Table.{part, inside, Declaration, illFormed, declarationCheck}
+
+module _ (pool : List ℕ) (start size : ℕ) where
+  -- from start to end, and so many from the start
+  pub part-span : take (start + size - start) (drop start pool) ≡ part pool start size
+  unfolding part
+  part-span = ap (λ (n : ℕ). take n (drop start pool)) (add-sub-cancel-left start size)
+
+  pub part-length : start + size ≤ length pool → length (part pool start size) ≡ size
+  unfolding part
+  part-length h = simp (length-take, length-drop) (omega arith)
+
+  pub part-at : (i : ℕ) → i < size → getD (part pool start size) i 0 ≡ getD pool (start + i) 0
+  unfolding part
+  part-at i h = rw (getD-take, getD-drop)
+
+-- the test of the end is the test of the text
+pub utf8-tested : (t : List ℕ) {end : ℕ} → end ≡ utf8End t → eqb end (length t) ≡ wellFormed t
+utf8-tested t {end} e = go (wellFormed t) refl
+  where
+    go : (x : Bool) → wellFormed t ≡ x → eqb end (length t) ≡ wellFormed t
+    go true h = eq-eqb end (length t) (e ∙ whole-end t (tested t h)) ∙ sym h
+    go false h = ne-eqb end (length t) (λ q. contrary (testable t (end-whole t (sym e ∙ q))) h) ∙ sym h
+
+-- a declaration's tests as the code has them; the refusal's number is asked by itself, so that a wrong one is refused as a number
+module _ (pool : List ℕ) (name n text t : ℕ) where
+  abbrev declared : Declaration
+  declared = record { nameStart = name; nameLength = n; body = inside text t }
+
+  abbrev past : Bool
+  past = ltb (length pool) (name + n) || ltb (length pool) (text + t)
+
+  abbrev ill : Bool
+  ill =
+      eqb (length (take (name + n - name) (drop name pool))) 0
+      || not (wellFormed (take (name + n - name) (drop name pool)))
+      || not (wellFormed (take (text + t - text) (drop text pool)))
+
+  pub name-fits : past ≡ false → name + n ≤ length pool
+  name-fits e = ltb-false (length pool) (name + n) (or-left (ltb (length pool) (name + n)) (ltb (length pool) (text + t)) e)
+
+  pub text-fits : past ≡ false → text + t ≤ length pool
+  text-fits e = ltb-false (length pool) (text + t) (or-right (ltb (length pool) (name + n)) (ltb (length pool) (text + t)) e)
+
+  ill-is : past ≡ false → ill ≡ illFormed pool declared
+  unfolding illFormed
+  ill-is e = rw (part-span pool name n, part-span pool text t, part-length pool name n (name-fits e))
+
+  pub past-refused : (at : ℕ) {number : ℕ} → number ≡ 8 → past ≡ true → Refused number at 0 ≡ declarationCheck pool at declared passed
+  unfolding declarationCheck
+  past-refused at is e = rw (is, e)
+
+  pub ill-refused : (at : ℕ) {number : ℕ} → number ≡ 9 → past ≡ false → true ≡ ill → Refused number at 0 ≡ declarationCheck pool at declared passed
+  unfolding declarationCheck
+  ill-refused at is e i = let j : illFormed pool declared ≡ true = sym (i ∙ ill-is e) in rw (is, e, j)
+
+  pub well-passed : (at : ℕ) → past ≡ false → false ≡ ill → passed ≡ declarationCheck pool at declared passed
+  unfolding declarationCheck
+  well-passed at e i = let j : illFormed pool declared ≡ false = sym (i ∙ ill-is e) in rw (e, j)

@@ -1,0 +1,154 @@
+-- What a valid table binds names to, and how a caller learns that a table is valid. Assumes nothing.
+use mathlib.Core.Path.{_≡_, refl, sym, _∙_}
+use mathlib.Core.Bool.{true, false, _||_, not}
+use mathlib.Core.List.{List, [], _∷_}
+use Prim.Native.Nat.{ℕ, zero, suc, _≤_, _<_}
+use native.Mathlib.Omega.{arith}
+use lib.Dec.{eqb, ltb, lit≤, lit<}
+use lib.ListN.{length, getD, length-take}
+use borrow.Author.Tests.{eqb-true, not-false, le-leb}
+use Rattle.text.specs.Bytes.{pick, sameBytes}
+use Rattle.text.specs.Utf8.{wellFormed, WellFormed}
+use Rattle.text.specs.Call.{andThen}
+use Rattle.text.specs.declared.Answer.{Answer}
+use Rattle.text.specs.declared.Answer.the-variants.{Done, Refused}
+use Rattle.text.proofs.Bytes.{pick-by, pick-both, or-right}
+use Rattle.text.proofs.Utf8.{tested, ascii-well-formed}
+use Rattle.entity.specs.Table.{part, Body, inside, Declaration, declaration, nameOf, textOf, declarationsFrom, declarations, runsPast, illFormed, declarationCheck, commandsCheck, sizeCheck, tableCheck, ValidTable, operands}
+use Rattle.entity.specs.Binding.{Bound, text, predefined, unknown, predefinedOf, bodyBound, bindingIn, binding, ShortBound, GoodBound}
+use Rattle.entity.proofs.Commands.{IsDone, is-done, passes}
+use Rattle.entity.proofs.Lookup.{table-done}
+use Rattle.entity.proofs.Reading.{u16-small}
+
+-- ---- a table that was checked
+
+-- a check that let the table pass: `r` is what `check_table` returned
+pub checked-table : (list pool : List ℕ) {r : Answer} {first second : ℕ} → r ≡ tableCheck list pool → r ≡ Done first second → ValidTable list pool
+unfolding tableCheck
+checked-table list pool e q = go (sizeCheck list pool) (commandsCheck pool 0 0 list) (sym e ∙ q)
+  where
+    go : (x y : Answer) {a b : ℕ} → andThen x (andThen y (Done (length (declarations list)) 0)) ≡ Done a b → andThen x (andThen y (Done (length (declarations list)) 0)) ≡ Done (length (declarations list)) 0
+    go (Done c d) (Done f g) h = refl
+    go (Done c d) (Refused n f g) h = absurd (is-done h)
+    go (Refused n f g) y h = absurd (is-done h)
+
+pub empty-valid : ValidTable (0 ∷ []) []
+unfolding tableCheck
+empty-valid = refl
+
+pub empty-binding : (name : List ℕ) → binding (0 ∷ []) [] name ≡ predefinedOf name
+unfolding binding
+empty-binding name = refl
+
+-- ---- bindings by declaration
+
+-- XML 1.0, 4.2: the first declaration binds
+pub first-binds : (d : Declaration) (ds : List Declaration) (pool name : List ℕ) → sameBytes (nameOf pool d) name ≡ true → bindingIn (d ∷ ds) pool name ≡ bodyBound pool (d .body)
+unfolding bindingIn
+first-binds d ds pool name e = rw e
+
+pub later-binds : (d : Declaration) (ds : List Declaration) (pool name : List ℕ) → sameBytes (nameOf pool d) name ≡ false → bindingIn (d ∷ ds) pool name ≡ bindingIn ds pool name
+unfolding bindingIn
+later-binds d ds pool name e = rw e
+
+-- no declaration of the list has the name
+abbrev pub Undeclared : List Declaration → List ℕ → List ℕ → Type 0
+Undeclared [] pool name = Unit {0}
+Undeclared (d ∷ ds) pool name = (sameBytes (nameOf pool d) name ≡ false) × Undeclared ds pool name
+
+-- the five where the table has no such name
+pub undeclared-binds : (ds : List Declaration) (pool name : List ℕ) → Undeclared ds pool name → bindingIn ds pool name ≡ predefinedOf name
+unfolding bindingIn
+undeclared-binds [] pool name h = refl
+undeclared-binds (d ∷ ds) pool name h = rw (h .0) (undeclared-binds ds pool name (h .1))
+
+-- ---- what all bindings have
+
+-- what holds of each declaration's text and of the five holds of each binding
+module _ (P : Bound → Type 0) (pool : List ℕ) (five : (name : List ℕ) → P (predefinedOf name)) where
+  abbrev Each : List Declaration → Type 0
+  Each [] = Unit {0}
+  Each (d ∷ ds) = P (bodyBound pool (d .body)) × Each ds
+
+  each-bound : (ds : List Declaration) → Each ds → (name : List ℕ) → P (bindingIn ds pool name)
+  unfolding bindingIn
+  each-bound [] h name = five name
+  each-bound (d ∷ ds) h name =
+      pick-both P (sameBytes (nameOf pool d) name) {a = bodyBound pool (d .body)} {b = bindingIn ds pool name} (h .0) (each-bound ds (h .1) name)
+
+-- one of the five is an ASCII byte
+five-all : (P : Bound → Type 0) → ((b : ℕ) → b < 128 → P (predefined (b ∷ []))) → P unknown → (name : List ℕ) → P (predefinedOf name)
+unfolding predefinedOf
+five-all P one none name =
+    pick-both P (sameBytes name (108 ∷ 116 ∷ [])) {a = predefined (60 ∷ [])} (one 60 (lit< tt))
+    (pick-both P (sameBytes name (103 ∷ 116 ∷ [])) {a = predefined (62 ∷ [])} (one 62 (lit< tt))
+    (pick-both P (sameBytes name (97 ∷ 109 ∷ 112 ∷ [])) {a = predefined (38 ∷ [])} (one 38 (lit< tt))
+    (pick-both P (sameBytes name (97 ∷ 112 ∷ 111 ∷ 115 ∷ [])) {a = predefined (39 ∷ [])} (one 39 (lit< tt))
+    (pick-both P (sameBytes name (113 ∷ 117 ∷ 111 ∷ 116 ∷ [])) {a = predefined (34 ∷ [])} {b = unknown} (one 34 (lit< tt)) none))))
+
+-- ---- well-formed texts
+
+-- a command 1 of a valid list
+command-good : (pool bs : List ℕ) (offset : ℕ) → IsDone (commandsCheck pool offset 0 (1 ∷ bs))
+    → (illFormed pool (declaration bs) ≡ false) × IsDone (commandsCheck pool (suc offset) operands bs)
+unfolding commandsCheck declarationCheck
+command-good pool bs offset h =
+    let rest = commandsCheck pool (suc offset) operands bs in
+    let p = passes (ltb (length bs) operands) 7 offset (declarationCheck pool offset (declaration bs) rest) h in
+    let q = passes (runsPast pool (declaration bs)) 8 offset (pick (illFormed pool (declaration bs)) (Refused 9 offset 0) rest) (p .1) in
+    passes (illFormed pool (declaration bs)) 9 offset rest (q .1)
+
+body-good : (pool : List ℕ) (d : Declaration) → illFormed pool d ≡ false → GoodBound (bodyBound pool (d .body))
+unfolding illFormed bodyBound
+body-good pool d e =
+    go (d .body)
+    (tested (textOf pool (d .body))
+    (not-false (wellFormed (textOf pool (d .body)))
+    (or-right (eqb (d .nameLength) 0 || not (wellFormed (nameOf pool d))) (not (wellFormed (textOf pool (d .body)))) e)))
+  where
+    go : (b : Body) → WellFormed (textOf pool b) → GoodBound (bodyBound pool b)
+    go (inside start size) h = h
+
+byte-good : (b : ℕ) → b < 128 → WellFormed (b ∷ [])
+byte-good b h = ascii-well-formed (b ∷ []) (rw (le-leb b 0x7F (omega arith)))
+
+five-good : (name : List ℕ) → GoodBound (predefinedOf name)
+five-good = five-all GoodBound byte-good tt
+
+list-good : (pool list : List ℕ) (offset skip : ℕ) → IsDone (commandsCheck pool offset skip list) → Each GoodBound pool five-good (declarationsFrom skip list)
+unfolding commandsCheck declarationsFrom
+list-good pool [] offset skip h = tt
+list-good pool (b ∷ bs) offset (suc skip) h = list-good pool bs (suc offset) skip h
+list-good pool (b ∷ bs) offset zero h =
+    pick-by (Each GoodBound pool five-good) (eqb b 1) {a = declaration bs ∷ declarationsFrom operands bs} {b = []}
+    (λ e.
+    let p = command-good pool bs offset (rw (eqb-true b 1 e) at h) in
+    (body-good pool (declaration bs) (p .0), list-good pool bs (suc offset) operands (p .1)))
+    (λ e. tt)
+
+-- refusal 9 keeps other texts out
+pub binding-good : (list pool : List ℕ) → ValidTable list pool → (name : List ℕ) → GoodBound (binding list pool name)
+unfolding binding declarations
+binding-good list pool e name = each-bound GoodBound pool five-good (declarations list) (list-good pool list 0 0 (table-done list pool e)) name
+
+-- ---- lengths
+
+text-short : (pool bs : List ℕ) → ((k : ℕ) → getD bs k 0 < 0x100) → length (textOf pool (declaration bs .body)) ≤ 65535
+unfolding textOf part declaration
+text-short pool bs small = rw length-take (omega (arith, u16-small bs 9 small))
+
+five-short : (name : List ℕ) → ShortBound (predefinedOf name)
+five-short = five-all ShortBound (λ b h. lit≤ tt) tt
+
+list-short : (pool list : List ℕ) (skip : ℕ) → ((k : ℕ) → getD list k 0 < 0x100) → Each ShortBound pool five-short (declarationsFrom skip list)
+unfolding declarationsFrom bodyBound
+list-short pool [] skip small = tt
+list-short pool (b ∷ bs) (suc skip) small = list-short pool bs skip (λ k. small (suc k))
+list-short pool (b ∷ bs) zero small =
+    pick-both (Each ShortBound pool five-short) (eqb b 1) {a = declaration bs ∷ declarationsFrom operands bs} {b = []}
+    (text-short pool bs (λ k. small (suc k)), list-short pool bs operands (λ k. small (suc k))) tt
+
+-- the length of a text is written in two bytes
+pub binding-short : (list pool : List ℕ) → ((k : ℕ) → getD list k 0 < 0x100) → (name : List ℕ) → ShortBound (binding list pool name)
+unfolding binding declarations
+binding-short list pool small name = each-bound ShortBound pool five-short (declarations list) (list-short pool list 0 small) name

@@ -1,0 +1,16 @@
+use Rattle.entity.proofs.Parts.{utf8-tested}
+use borrow.Author.Needs.{needs}
+use Rattle.entity.proofs.is_utf8.Statement.{statement}
+use Rattle.entity.proofs.is_utf8.Tie as tie
+use Rattle.entity.proofs.is_utf8.Reads as reads
+use Rattle.entity.proofs.is_utf8.Lts as lts
+use Rattle.text.proofs.validate.utf8_end.Reads as utf8-end-reads
+
+utf8-end-requires : tie.Need-utf8-end-requires
+utf8-end-requires c κs = search needs
+
+returns : tie.Need-returns
+returns c = utf8-tested (c .before .before .args .text .now) (c .utf8-end .ensures)
+
+pub is-utf8-spec : {M : Type 1} → statement M
+is-utf8-spec = tie.close (tie.spec utf8-end-requires returns)

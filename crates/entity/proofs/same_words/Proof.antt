@@ -1,0 +1,68 @@
+use mathlib.Core.Path.{sym, _∙_}
+use native.Mathlib.Omega.{arith}
+use lib.ListN.{length}
+use Prim.Native.Nat.{_-_}
+use Rattle.entity.specs.Steps.{Agree}
+use Rattle.entity.proofs.Lookup.{agree-none, agree-word}
+use Rattle.entity.proofs.same_words.Statement.{statement}
+use Rattle.entity.proofs.same_words.Tie as tie
+use Rattle.entity.proofs.same_words.Reads as reads
+use Rattle.entity.proofs.same_words.Lts as lts
+use Rattle.text.proofs.validate.word.Reads as word-reads
+
+abbrev Inv-loop : tie.InvT-loop
+Inv-loop pool start name i₀ i = Agree pool start name i
+
+abbrev μ-loop : tie.MeasureT-loop
+μ-loop pool start name i₀ i = length name - i
+
+loop-holds : tie.Need-loop-holds Inv-loop μ-loop
+loop-holds c = agree-none (c .before .before .args .pool .now) (c .before .before .args .start) (c .before .before .args .name .now)
+
+sub-loop : tie.Need-sub-loop Inv-loop μ-loop
+sub-loop c = c .loop .inv .fits
+
+add-word : tie.Need-add-word Inv-loop μ-loop
+add-word c = let f = c .before .loop .inv .fits in omega arith
+
+word-requires : tie.Need-word-requires Inv-loop μ-loop
+word-requires c κs = let f = c .before .loop .inv .fits in omega arith
+
+word-requires-2 : tie.Need-word-requires-2 Inv-loop μ-loop
+word-requires-2 c κs = let f = c .before .before .loop .inv .fits in omega arith
+
+returns : tie.Need-returns Inv-loop μ-loop
+returns c = c .before .before .before .before .loop .inv
+
+add-i : tie.Need-add-i Inv-loop μ-loop
+add-i c = let f = c .before .before .before .before .loop .inv .fits in omega arith
+
+loop-less : tie.Need-loop-less Inv-loop μ-loop
+loop-less c = let f = c .before .before .before .before .loop .inv .fits in omega arith
+
+loop-again : tie.Need-loop-again Inv-loop μ-loop
+loop-again c =
+    let f = c .before .before .before .before .loop .inv .fits in
+    agree-word (c .before .before .before .before .before .before .before .args .pool .now) (c .before .before .before .before .before .before .before .args .start) (c .before .before .before .before .before .before .before .args .name .now) (c .before .before .before .before .loop .i) (c .before .before .before .before .loop .inv) (omega arith)
+    (λ k. omega (arith, c .before .before .before .before .before .before .shared-slice-known .given k)) (λ k. omega (arith, c .before .before .before .before .before .shared-slice-known2 .given k))
+    (sym (c .before .before .word .ensures) ∙ c .if1 .left ∙ c .before .word2 .ensures)
+
+returns-2 : tie.Need-returns-2 Inv-loop μ-loop
+returns-2 c = c .before .loop .inv
+
+pub same-words-spec : {M : Type 1} → statement M
+same-words-spec =
+    tie.close
+    (tie.spec
+    Inv-loop
+    μ-loop
+    loop-holds
+    sub-loop
+    add-word
+    word-requires
+    word-requires-2
+    returns
+    add-i
+    loop-less
+    loop-again
+    returns-2)

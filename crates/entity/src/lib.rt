@@ -1,0 +1,290 @@
+// The entity table: its check, and the lookup of a name.
+ghost use mathlib.Core.Path.{_≡_};
+ghost use Prim.Native.Nat.{ℕ, _+_, _<_, _≤_};
+ghost use mathlib.Core.Bool.{true, false, _||_, not};
+ghost use mathlib.Core.List.{List, [], _∷_};
+ghost use lib.Dec.{eqb};
+ghost use lib.ListN.{length, drop};
+ghost use Rattle.text.specs.Bytes.{sameBytes};
+ghost use Rattle.text.specs.Utf8.{wellFormed};
+ghost use Rattle.text.specs.Call.{passed};
+ghost use Rattle.entity.specs.Table.{littleEndian, part, inside, declarationCheck, tableCheck, ValidTable};
+ghost use Rattle.entity.specs.Binding.{predefinedOf, binding, boundTo, Lies};
+ghost use Rattle.entity.specs.Steps.{commandCheck, lastCheck, TextAt, Agree};
+use text::Answer;
+use text::validate;
+
+// What a name is bound to: a text of the table as start and end in the pool, a predefined byte, or nothing.
+pub enum Binding {
+    Text { start: usize, end: usize },
+    Predefined(u8),
+    Unknown,
+}
+
+fn wide(b: u8) -> usize
+    ensures { λ r. ⌜ (r ≡ b) × (r < 0x100) ⌝ }
+{
+    b as usize
+}
+
+fn u16_at(bytes: &[u8], i: usize) -> usize
+    requires { ⌜ i + 2 ≤ length (now bytes) ⌝ }
+    ensures { λ r. ⌜ (r ≡ littleEndian (now (bytes .entry)) i 2) × (r < 0x10000) ⌝ }
+{
+    wide(bytes[i]) + wide(bytes[i + 1]) * 0x100
+}
+
+// Written as this sum it is compiled to one load.
+fn u32_at(bytes: &[u8], i: usize) -> usize
+    requires { ⌜ i + 4 ≤ length (now bytes) ⌝ }
+    ensures { λ r. ⌜ (r ≡ littleEndian (now (bytes .entry)) i 4) × (r < 0x100000000) ⌝ }
+{
+    wide(bytes[i])
+        + wide(bytes[i + 1]) * 0x100
+        + wide(bytes[i + 2]) * 0x10000
+        + wide(bytes[i + 3]) * 0x1000000
+}
+
+fn refused(number: u32, at: usize) -> Answer
+    ensures { λ r. ⌜ r ≡ Answer.Refused number at 0 ⌝ }
+{
+    Answer::Refused {
+        number: number,
+        first: at as u64,
+        second: 0,
+    }
+}
+
+fn is_utf8(text: &[u8]) -> bool
+    ensures { λ r. ⌜ r ≡ wellFormed (now (text .entry)) ⌝ }
+{
+    validate::utf8_end(text) == text.len()
+}
+
+// Refusal 9 of a declaration that has this name and this text.
+fn ill_formed(name: &[u8], text: &[u8]) -> bool
+    ensures { λ r. ⌜ r ≡ (eqb (length (now (name .entry))) 0 || not (wellFormed (now (name .entry))) || not (wellFormed (now (text .entry)))) ⌝ }
+{
+    if name.len() == 0 {
+        return true;
+    }
+    if is_utf8(name) {
+        return !is_utf8(text);
+    }
+    true
+}
+
+// Refusals 8 and 9 of the declaration with these numbers, whose command is at `at`.
+fn check_declaration(
+    pool: &[u8],
+    at: usize,
+    name_start: usize,
+    name_length: usize,
+    text_start: usize,
+    text_length: usize,
+) -> Answer
+    requires { ⌜ («name_start» < 0x100000000) × («name_length» < 0x100) × («text_start» < 0x100000000) × («text_length» < 0x10000) ⌝ }
+    ensures { λ r. ⌜ r ≡ declarationCheck (now (pool .entry)) at (record { nameStart = «name_start»; nameLength = «name_length»; body = inside «text_start» «text_length» }) passed ⌝ }
+{
+    let name_end = name_start + name_length;
+    let text_end = text_start + text_length;
+    if (pool.len() < name_end) | (pool.len() < text_end) {
+        return refused(8, at);
+    }
+    if ill_formed(&pool[name_start..name_end], &pool[text_start..text_end]) {
+        return refused(9, at);
+    }
+    Answer::Done {
+        first: 0,
+        second: 0,
+    }
+}
+
+// Refusals 7 to 9 of the command 1 at `at`.
+fn check_command(list: &[u8], pool: &[u8], at: usize) -> Answer
+    requires { ⌜ at < length (now list) ⌝ }
+    ensures { λ r. ⌜ r ≡ commandCheck (now (list .entry)) (now (pool .entry)) at ⌝ }
+{
+    if list.len() - at < 12 {
+        return refused(7, at);
+    }
+    check_declaration(
+        pool,
+        at,
+        u32_at(list, at + 1),
+        wide(list[at + 5]),
+        u32_at(list, at + 6),
+        u16_at(list, at + 10),
+    )
+}
+
+// What the list answers where no command 1 is at `at`, after so many of them.
+fn check_end(list: &[u8], at: usize, count: u64) -> Answer
+    requires { ⌜ at ≤ length (now list) ⌝ }
+    ensures { λ r. ⌜ r ≡ lastCheck (drop at (now (list .entry))) at count ⌝ }
+{
+    if at == list.len() {
+        return refused(7, at);
+    }
+    if list[at] != 0 {
+        return refused(7, at);
+    }
+    if at + 1 != list.len() {
+        return refused(7, at + 1);
+    }
+    Answer::Done {
+        first: count,
+        second: 0,
+    }
+}
+
+// Refusals 6 to 9, else the number of declarations.
+pub fn check_table(list: &[u8], pool: &[u8]) -> Answer
+    ensures { λ r. ⌜ r ≡ tableCheck (now (list .entry)) (now (pool .entry)) ⌝ }
+{
+    if 49153 < list.len() {
+        return refused(6, 0);
+    }
+    if 1048576 < pool.len() {
+        return refused(6, 0);
+    }
+    let mut at: usize = 0;
+    let mut count: u64 = 0;
+    while at < list.len() && list[at] == 1 {
+        let checked = check_command(list, pool, at);
+        let Answer::Done {
+            first: _,
+            second: _,
+        } = checked
+        else {
+            return checked;
+        };
+        at += 12;
+        count += 1;
+    }
+    check_end(list, at, count)
+}
+
+fn is_two(name: &[u8], a: u8, b: u8) -> bool
+    ensures { λ r. ⌜ r ≡ sameBytes (now (name .entry)) (a ∷ b ∷ []) ⌝ }
+{
+    if name.len() != 2 {
+        return false;
+    }
+    (name[0] == a) & (name[1] == b)
+}
+
+pub fn is_three(name: &[u8], a: u8, b: u8, c: u8) -> bool
+    ensures { λ r. ⌜ r ≡ sameBytes (now (name .entry)) (a ∷ b ∷ c ∷ []) ⌝ }
+{
+    if name.len() != 3 {
+        return false;
+    }
+    (name[0] == a) & (name[1] == b) & (name[2] == c)
+}
+
+fn is_four(name: &[u8], a: u8, b: u8, c: u8, d: u8) -> bool
+    ensures { λ r. ⌜ r ≡ sameBytes (now (name .entry)) (a ∷ b ∷ c ∷ d ∷ []) ⌝ }
+{
+    if name.len() != 4 {
+        return false;
+    }
+    (name[0] == a) & (name[1] == b) & (name[2] == c) & (name[3] == d)
+}
+
+// One of the five, or nothing, whatever the pool.
+pub fn resolve_xml_entity(name: &[u8]) -> Binding
+    ensures { λ r. ⌜ ((pool : List ℕ) → boundTo pool r ≡ predefinedOf (now (name .entry))) ⌝ }
+    ensures { λ r. ⌜ ((pool : List ℕ) → Lies pool r) ⌝ }
+{
+    if is_two(name, b'l', b't') {
+        return Binding::Predefined(b'<');
+    }
+    if is_two(name, b'g', b't') {
+        return Binding::Predefined(b'>');
+    }
+    if is_three(name, b'a', b'm', b'p') {
+        return Binding::Predefined(b'&');
+    }
+    if is_four(name, b'a', b'p', b'o', b's') {
+        return Binding::Predefined(b'\'');
+    }
+    if is_four(name, b'q', b'u', b'o', b't') {
+        return Binding::Predefined(b'"');
+    }
+    Binding::Unknown
+}
+
+// The text of the command 1 at `at`.
+fn text_at(list: &[u8], at: usize) -> Binding
+    requires { ⌜ at + 12 ≤ length (now list) ⌝ }
+    ensures { λ r. ⌜ TextAt (now (list .entry)) at r ⌝ }
+{
+    let start = u32_at(list, at + 6);
+    Binding::Text {
+        start: start,
+        end: start + u16_at(list, at + 10),
+    }
+}
+
+// Do the last four bytes differ? So most names are told apart at once, the long ones too that begin alike.
+fn ends_differ(pool: &[u8], start: usize, name: &[u8]) -> bool
+    requires { ⌜ start + length (now name) ≤ length (now pool) ⌝ }
+    ensures { λ r. ⌜ (r ≡ true → sameBytes (part (now (pool .entry)) start (length (now (name .entry)))) (now (name .entry)) ≡ false) ⌝ }
+{
+    if name.len() < 4 {
+        return false;
+    }
+    let last = name.len() - 4;
+    u32_at(pool, start + last) != u32_at(name, last)
+}
+
+// How many bytes at the start are the same in both, by eights.
+fn same_words(pool: &[u8], start: usize, name: &[u8]) -> usize
+    requires { ⌜ start + length (now name) ≤ length (now pool) ⌝ }
+    ensures { λ r. ⌜ Agree (now (pool .entry)) start (now (name .entry)) r ⌝ }
+{
+    let mut i: usize = 0;
+    while 8 <= name.len() - i {
+        if validate::word(pool, start + i) != validate::word(name, i) {
+            return i;
+        }
+        i += 8;
+    }
+    i
+}
+
+// The text of the first command whose name is `name`, else one of the five, else nothing.
+pub fn resolve_entity(list: &[u8], pool: &[u8], name: &[u8]) -> Binding
+    requires { ⌜ ValidTable (now list) (now pool) ⌝ }
+    ensures { λ r. ⌜ boundTo (now (pool .entry)) r ≡ binding (now (list .entry)) (now (pool .entry)) (now (name .entry)) ⌝ }
+    ensures { λ r. ⌜ Lies (now (pool .entry)) r ⌝ }
+{
+    let mut at: usize = 0;
+    'commands: loop {
+        if list[at] != 1 {
+            break 'commands resolve_xml_entity(name);
+        }
+        let length = wide(list[at + 5]);
+        if length != name.len() {
+            at += 12;
+            continue 'commands;
+        }
+        let start = u32_at(list, at + 1);
+        if ends_differ(pool, start, name) {
+            at += 12;
+            continue 'commands;
+        }
+        let mut i = same_words(pool, start, name);
+        'bytes: loop {
+            if i == length {
+                break 'commands text_at(list, at);
+            }
+            if pool[start + i] != name[i] {
+                break 'bytes;
+            }
+            i += 1;
+        }
+        at += 12;
+    }
+}
