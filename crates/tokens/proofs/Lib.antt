@@ -1,0 +1,11 @@
+pub mod Runs
+pub mod Names
+pub mod References
+pub mod Numbers
+pub mod Progress
+pub mod Finished
+pub mod Carried
+pub mod Openings
+pub mod Lengths
+pub mod WellFormedness
+pub mod Related

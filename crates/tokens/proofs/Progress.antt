@@ -1,0 +1,222 @@
+-- What a walk's loop keeps, for any reading of heads and any answers to stops: the value so far, and the outcome of the tokens still to
+-- come. Assumes nothing.
+use mathlib.Core.Path.{_≡_, refl, sym, ap, _∙_}
+use mathlib.Core.Bool.{Bool, false}
+use mathlib.Core.List.{List, [], _∷_, _++_, append-nil, append-assoc}
+use Prim.Native.Nat.{ℕ, zero, suc, _+_, _-_, _≤_, _<_, min}
+use native.Mathlib.Omega.{arith}
+use lib.ListN.{length, getD, take, drop, length-append, length-drop, drop-of-length-le}
+use lib.Seq.{drop-cons, length-take-le}
+use native.Mathlib.Numerals.{add-one}
+use borrow.Rule.Slice.PartMut.{midOf, putMid}
+use Rattle.text.specs.declared.Answer.{Answer}
+use Rattle.text.specs.declared.Answer.the-variants.{Done, Refused}
+use Rattle.output.specs.Over.{over}
+use Rattle.output.proofs.Clip.{over-more, length-over}
+use Rattle.tokens.specs.Tokens.{Stop, Token, copy, stop, Head, head, Heads, tokens, tokenOf, skipOf}
+use Rattle.tokens.specs.Outcome.{Outcome, done, refused, prepend, followed, run, produced}
+use Rattle.output.specs.Runs.{Plain}
+use Rattle.tokens.specs.Walking.{Copies, headAt, nextAt, outcomeOf, Stepped, Walked}
+use Rattle.tokens.specs.declared.Step.{Step}
+use Rattle.tokens.specs.declared.Step.the-variants.{Next, Stopped}
+use Rattle.tokens.proofs.Runs.{tokens-at}
+
+-- ---- outcomes
+
+pub prepend-none : (o : Outcome) → prepend [] o ≡ o
+prepend-none (done value openings) = refl
+prepend-none (refused before openings number first second) = refl
+
+pub prepend-prepend : (a b : List ℕ) (o : Outcome) → prepend a (prepend b o) ≡ prepend (a ++ b) o
+prepend-prepend a b (done value openings) = ap (λ (l : List ℕ). done l openings) (sym (append-assoc a b value))
+prepend-prepend a b (refused before openings number first second) =
+    ap (λ (l : List ℕ). refused l openings number first second) (sym (append-assoc a b before))
+
+-- one token and then the rest
+run-token : (answer : Stop → ℕ → Outcome) (t : Token) (ts : List Token) (openings : ℕ)
+    → run answer (t ∷ ts) openings ≡ followed (outcomeOf answer t openings) (λ n. run answer ts n)
+unfolding run
+run-token answer (copy b) ts openings = refl
+run-token answer (stop s) ts openings = refl
+
+module _ (at : Heads) (answer : Stop → ℕ → Outcome) (text : List ℕ) where
+  -- the outcome of the tokens from an index on
+  abbrev pub fromOn : ℕ → ℕ → Outcome
+  fromOn i openings = run answer (tokens at i 0 (drop i text)) openings
+
+  pub run-at : (i openings : ℕ) → i < length text
+      → fromOn i openings ≡ followed (outcomeOf answer (tokenOf (headAt at text i)) openings) (λ n. fromOn (nextAt at text i) n)
+  run-at i openings h =
+      ap (λ (ts : List Token). run answer ts openings) (tokens-at at text i h)
+      ∙ run-token answer (tokenOf (headAt at text i)) (tokens at (nextAt at text i) 0 (drop (nextAt at text i) text)) openings
+
+  pub run-over : (i openings : ℕ) → length text ≤ i → fromOn i openings ≡ done [] openings
+  unfolding run tokens
+  run-over i openings h = rw (drop-of-length-le text h)
+
+  -- ---- a run of bytes that are copied
+
+  module _ (stops : ℕ → Bool) (copies : Copies stops at) where
+    run-byte : (i openings : ℕ) → i < length text → stops (getD text i 0) ≡ false
+        → fromOn i openings ≡ prepend (getD text i 0 ∷ []) (fromOn (i + 1) openings)
+    run-byte i openings h e =
+        let q : i + 1 + 0 ≡ i + 1 = omega arith in
+        run-at i openings h
+        ∙ ap (λ (d : Head). followed (outcomeOf answer (tokenOf d) openings) (λ n. fromOn (i + 1 + skipOf d) n)) (copies i (getD text i 0) (drop (i + 1) text) e)
+        ∙ ap (λ (k : ℕ). prepend (getD text i 0 ∷ []) (fromOn k openings)) q
+
+    run-count : (n i openings : ℕ) → i + n ≤ length text → ((k : ℕ) → i ≤ k → k < i + n → stops (getD text k 0) ≡ false)
+        → fromOn i openings ≡ prepend (take n (drop i text)) (fromOn (i + n) openings)
+    run-count zero i openings h p =
+        let q : i + 0 ≡ i = omega arith in
+        rw q (sym (prepend-none (fromOn i openings)))
+    run-count (suc n) i openings h p =
+        let q : i + 1 + n ≡ i + suc n = omega arith in
+        let b = getD text i 0 in
+        run-byte i openings (omega arith) (p i (omega arith) (omega arith))
+        ∙ ap (prepend (b ∷ [])) (run-count n (i + 1) openings (omega arith) (λ k g l. p k (omega arith) (omega arith)))
+        ∙ prepend-prepend (b ∷ []) (take n (drop (i + 1) text)) (fromOn (i + 1 + n) openings)
+        ∙ ap (λ (k : ℕ). prepend (b ∷ take n (drop (i + 1) text)) (fromOn k openings)) q
+        ∙ ap (λ (l : List ℕ). prepend (take (suc n) l) (fromOn (i + suc n) openings))
+        (ap (λ (k : ℕ). b ∷ drop k text) (add-one i) ∙ sym (drop-cons text i 0 (omega arith)))
+
+    pub run-plain : (i e openings : ℕ) → Plain stops text i e → fromOn i openings ≡ prepend (take (e - i) (drop i text)) (fromOn e openings)
+    run-plain i e openings p =
+        let q : i + (e - i) ≡ e = omega (arith, p .from) in
+        run-count (e - i) i openings (omega (arith, p .from, p .to)) (λ k g l. p .none k g (omega (arith, p .from)))
+        ∙ ap (λ (k : ℕ). prepend (take (e - i) (drop i text)) (fromOn k openings)) q
+
+-- ---- a single step
+
+-- the head at the offset is known
+pub stepped-at : (at : Heads) (answer : Stop → ℕ → Outcome) (text : List ℕ) (i openings : ℕ) {t : Token} {k next : ℕ} {old new : List ℕ} {r : Step}
+    → headAt at text i ≡ head t k → i + 1 + k ≡ next → Stepped next (outcomeOf answer t openings) old new r
+    → Stepped (nextAt at text i) (outcomeOf answer (tokenOf (headAt at text i)) openings) old new r
+stepped-at at answer text i openings e q s = rw (e, q) s
+
+-- its answer, taken apart
+
+record Went (next : ℕ) (o : Outcome) (old new : List ℕ) (a l m : ℕ) : Type 0 where
+  value : List ℕ
+  whole : o ≡ done value m
+  size : length value ≡ l
+  to : a ≡ next
+  holds : new ≡ over value old
+
+went : (next : ℕ) (o : Outcome) (old new : List ℕ) (a l m : ℕ) → Stepped next o old new (Next a l m) → Went next o old new a l m
+went next (done value openings) old new a l m s =
+    let e = s .answers in
+    let x : m ≡ openings = cc in
+    let y : length value ≡ l = cc in
+    let z : a ≡ next = cc in
+    record { value = value; whole = ap (done value) (sym x); size = y; to = z; holds = s .writes }
+went next (refused before openings number first second) old new a l m s =
+    let e = s .answers in
+    let z : _≡_ {A = ℕ} 0 1 = cc in
+    absurd (omega arith)
+
+record Halted (o : Outcome) (old new : List ℕ) (number first second : ℕ) : Type 0 where
+  before : List ℕ
+  openings : ℕ
+  whole : o ≡ refused before openings number first second
+  holds : new ≡ over before old
+
+halted : (next : ℕ) (o : Outcome) (old new : List ℕ) (n f s : ℕ) → Stepped next o old new (Stopped n f s) → Halted o old new n f s
+halted next (done value openings) old new n f s p =
+    let e = p .answers in
+    let z : _≡_ {A = ℕ} 0 1 = cc in
+    absurd (omega arith)
+halted next (refused before openings number first second) old new n f s p =
+    let e = p .answers in
+    let x : number ≡ n = cc in
+    let y : first ≡ f = cc in
+    let z : second ≡ s = cc in
+    record { before = before; openings = openings; whole = rw (x, y, z); holds = p .writes }
+
+-- ---- the whole walk
+
+-- the output keeps its length
+pub walked-length : {o : Outcome} {old new : List ℕ} {r : Answer} → Walked o old new r → length new ≡ length old
+walked-length {o} {old} w = ap length (w .writes) ∙ length-over (produced o) old
+
+-- ---- the loop
+
+module _ (at : Heads) (answer : Stop → ℕ → Outcome) (text : List ℕ) (opened : ℕ) (old : List ℕ) where
+  -- the tokens before `i` gave the value so far, `len` bytes, which lies over what the output held
+  pub record Progress (out : List ℕ) (i len made : ℕ) : Type 0 where
+    pub value : List ℕ
+    pub size : length value ≡ len
+    pub holds : out ≡ over value old
+    pub rest : run answer (tokens at 0 0 text) opened ≡ prepend value (fromOn at answer text i made)
+    pub inside : i ≤ length text
+
+  pub progress-start : Progress old 0 0 opened
+  progress-start = record {
+    value = [];
+    size = refl;
+    holds = refl;
+    rest = sym (prepend-none (fromOn at answer text 0 opened));
+    inside = omega arith;
+  }
+
+  module _ {out : List ℕ} {i len made : ℕ} (p : Progress out i len made) where
+    -- the output keeps its length
+    pub progress-length : length out ≡ length old
+    progress-length = ap length (p .holds) ∙ length-over (p .value) old
+
+    pub progress-end : length text ≤ i → Walked (run answer (tokens at 0 0 text) opened) old out (Done len made)
+    progress-end h =
+        let whole : run answer (tokens at 0 0 text) opened ≡ done (p .value) made =
+        p .rest
+        ∙ ap (prepend (p .value)) (run-over at answer text i made h)
+        ∙ ap (λ (l : List ℕ). done l made) (append-nil (p .value)) in
+        record { answers = rw (whole, p .size); writes = rw whole (p .holds) }
+
+    -- a writer was lent the rest of the output, `&mut out[w..]`
+    module _ {w : ℕ} {part : List ℕ} (least : w ≡ min len (length out)) where
+      pub progress-run : (stops : ℕ → Bool) → Copies stops at → {e : ℕ} → Plain stops text i e
+          → part ≡ over (take (e - i) (drop i text)) (midOf w (length out - w) out)
+          → Progress (putMid w (length out - w) out part) e (len + (e - i)) made
+      progress-run stops copies {e} r q =
+          let piece = take (e - i) (drop i text) in
+          let n : length piece ≡ e - i = length-take-le (e - i) (drop i text) (rw length-drop (omega (arith, r .from, r .to))) in
+          record {
+            value = p .value ++ piece;
+            size = rw (length-append, p .size, n);
+            holds = over-more (p .value) piece old (p .holds) (sym (p .size)) least q;
+            rest =
+                p .rest
+                ∙ ap (prepend (p .value)) (run-plain at answer text stops copies i e made r)
+                ∙ prepend-prepend (p .value) piece (fromOn at answer text e made);
+            inside = r .to;
+          }
+
+      module _ (h : i < length text) where
+        pub progress-step : {a l m : ℕ}
+            → Stepped (nextAt at text i) (outcomeOf answer (tokenOf (headAt at text i)) made) (midOf w (length out - w) out) part (Next a l m)
+            → a ≤ length text → Progress (putMid w (length out - w) out part) a (len + l) m
+        progress-step {a} {l} {m} s b =
+            let n = went (nextAt at text i) (outcomeOf answer (tokenOf (headAt at text i)) made) (midOf w (length out - w) out) part a l m s in
+            record {
+              value = p .value ++ n .value;
+              size = rw (length-append, p .size, n .size);
+              holds = over-more (p .value) (n .value) old (p .holds) (sym (p .size)) least (n .holds);
+              rest =
+                  p .rest
+                  ∙ ap (prepend (p .value)) (run-at at answer text i made h)
+                  ∙ ap (λ (o : Outcome). prepend (p .value) (followed o (λ k. fromOn at answer text (nextAt at text i) k))) (n .whole)
+                  ∙ prepend-prepend (p .value) (n .value) (fromOn at answer text (nextAt at text i) m)
+                  ∙ ap (λ (k : ℕ). prepend (p .value ++ n .value) (fromOn at answer text k m)) (sym (n .to));
+              inside = b;
+            }
+
+        pub progress-refused : {number first second : ℕ}
+            → Stepped (nextAt at text i) (outcomeOf answer (tokenOf (headAt at text i)) made) (midOf w (length out - w) out) part (Stopped number first second)
+            → Walked (run answer (tokens at 0 0 text) opened) old (putMid w (length out - w) out part) (Refused number first second)
+        progress-refused {number} {first} {second} s =
+            let n = halted (nextAt at text i) (outcomeOf answer (tokenOf (headAt at text i)) made) (midOf w (length out - w) out) part number first second s in
+            let whole : run answer (tokens at 0 0 text) opened ≡ refused (p .value ++ n .before) (n .openings) number first second =
+            p .rest
+            ∙ ap (prepend (p .value)) (run-at at answer text i made h)
+            ∙ ap (λ (o : Outcome). prepend (p .value) (followed o (λ k. fromOn at answer text (nextAt at text i) k))) (n .whole) in
+            record { answers = rw whole; writes = rw whole (over-more (p .value) (n .before) old (p .holds) (sym (p .size)) least (n .holds)) }

@@ -1,0 +1,45 @@
+use Prim.Native.Nat.{ℕ}
+use mathlib.Core.Path.{sym, ap, _∙_}
+use mathlib.Core.List.{List}
+use native.Mathlib.Omega.{arith}
+use lib.ListN.{take}
+use lib.Seq.{length-take-le, take-at}
+use Rattle.charref.specs.CharRef.{encode}
+use Rattle.charref.proofs.Encoding.{encode-at-most}
+use Rattle.output.specs.Over.{over}
+use borrow.Author.Needs.{needs}
+use Rattle.tokens.proofs.put_clipped.Statement.{statement}
+use Rattle.tokens.proofs.put_clipped.Tie as tie
+
+slice-aggregate-encode-utf8 : tie.Need-slice-aggregate-encode-utf8
+slice-aggregate-encode-utf8 c = search needs
+
+encode-utf8-requires : tie.Need-encode-utf8-requires
+encode-utf8-requires c κs = (c .before .before .pre, encode-at-most (c .before .before .args .c))
+
+array-share-prefix-bytes : tie.Need-array-share-prefix-bytes
+array-share-prefix-bytes c = omega (arith, c .before .encode-utf8 .ensures .0, c .before .encode-utf8 .kept .1 .0, encode-at-most (c .before .before .before .before .args .c))
+
+slice-aggregate-put-over : tie.Need-slice-aggregate-put-over
+slice-aggregate-put-over c = sym (length-take-le (c .before .before .encode-utf8 .result) (c .before .before .encode-utf8 .last .1 .0) (omega (arith, c .before .before .encode-utf8 .ensures .0, c .before .before .encode-utf8 .kept .1 .0, encode-at-most (c .before .before .before .before .before .args .c))))
+
+put-over-requires : tie.Need-put-over-requires
+put-over-requires c κs = search needs
+
+same-length : tie.Need-same-length
+same-length c = search needs
+
+returns : tie.Need-returns
+returns c = (c .before .before .before .before .before .before .encode-utf8 .ensures .0, c .before .before .put-over .ensures ∙ ap (λ (l : List ℕ). over l (c .before .before .before .before .before .before .before .before .before .args .out .now)) (ap (take (c .before .before .before .before .before .before .encode-utf8 .result)) (c .before .before .before .before .before .before .encode-utf8 .ensures .1) ∙ take-at (encode (c .before .before .before .before .before .before .before .before .before .args .c)) _ (c .before .before .before .before .before .before .encode-utf8 .result) (sym (c .before .before .before .before .before .before .encode-utf8 .ensures .0))))
+
+pub put-clipped-spec : {M : Type 1} → statement M
+put-clipped-spec =
+    tie.close
+    (tie.spec
+    slice-aggregate-encode-utf8
+    encode-utf8-requires
+    array-share-prefix-bytes
+    slice-aggregate-put-over
+    put-over-requires
+    same-length
+    returns)

@@ -1,0 +1,106 @@
+// What the walks over a text's tokens share: a single step's answer, the end of a reference's name, and a character reference.
+ghost use mathlib.Core.Path.{_≡_};
+ghost use Prim.Native.Nat.{_≤_, _<_};
+ghost use lib.ListN.{length};
+ghost use Rattle.output.specs.Over.{over};
+ghost use Rattle.charref.specs.CharRef.{anyCharacter, encode};
+ghost use Rattle.tokens.specs.Outcome.{numberOutcome};
+ghost use Rattle.tokens.specs.Walking.{NameEnd, Stepped, handedOn};
+use charref::CharNumber;
+use text::Answer;
+
+// The offset of the next token, the length written and the openings so far; or the refusal.
+pub enum Step {
+    Next {
+        at: usize,
+        len: usize,
+        openings: u64,
+    },
+    Stopped {
+        number: u32,
+        first: u64,
+        second: u64,
+    },
+}
+
+// The `;` that ends the name; the text's length where there is none, and where `inner` says that a `&` before it is none.
+pub fn name_end(text: &[u8], from: usize, inner: bool) -> usize
+    requires { ⌜ from ≤ length (now text) ⌝ }
+    ensures { λ r. ⌜ NameEnd inner (now (text .entry)) from r ⌝ }
+{
+    let mut i = from;
+    while i < text.len() {
+        if text[i] == b';' {
+            return i;
+        }
+        if inner & (text[i] == b'&') {
+            return text.len();
+        }
+        i += 1;
+    }
+    i
+}
+
+// The character's bytes, as many as there is room for. Their count.
+fn put_clipped(c: u32, out: &mut [u8]) -> usize
+    requires { ⌜ c ≤ 1114111 ⌝ }
+    ensures { λ r. ⌜ (r ≡ length (encode c)) × (now (out .exit) ≡ over (encode c) (now (out .entry))) ⌝ }
+{
+    let mut bytes = [0u8; 4];
+    let n = charref::encode_utf8(c, &mut bytes);
+    output::put_over(&bytes[..n], out);
+    n
+}
+
+// The same: a walk that writes has room for all of them, and one that counts for none.
+fn put_char(c: u32, out: &mut [u8]) -> usize
+    requires { ⌜ c ≤ 1114111 ⌝ }
+    ensures { λ r. ⌜ (r ≡ length (encode c)) × (now (out .exit) ≡ over (encode c) (now (out .entry))) ⌝ }
+{
+    let n = charref::utf8_length(c);
+    if n <= out.len() {
+        return charref::encode_utf8(c, out);
+    }
+    if out.len() == 0 {
+        return n;
+    }
+    put_clipped(c, out)
+}
+
+// A number's refusal, handed on.
+fn handed(a: Answer) -> Step
+    ensures { λ r. ⌜ r ≡ handedOn a ⌝ }
+{
+    match a {
+        Answer::Done { first, second } => Step::Stopped {
+            number: 0,
+            first,
+            second,
+        },
+        Answer::Refused {
+            number,
+            first,
+            second,
+        } => Step::Stopped {
+            number,
+            first,
+            second,
+        },
+    }
+}
+
+// A character reference with the text after `#`, at whose end is `next`.
+pub fn number_step(digits: &[u8], next: usize, openings: u64, out: &mut [u8]) -> Step
+    ensures { λ r. ⌜ Stepped next (numberOutcome anyCharacter (now (digits .entry)) openings) (now (out .entry)) (now (out .exit)) r ⌝ }
+{
+    let n = charref::parse_number(digits);
+    let CharNumber::Char(c) = n else {
+        return handed(charref::answer_of(n));
+    };
+    let len = put_char(c, out);
+    Step::Next {
+        at: next,
+        len,
+        openings,
+    }
+}
