@@ -1,0 +1,4 @@
+pub mod Stops
+pub mod Turns
+pub mod Unescaped
+mod Examples

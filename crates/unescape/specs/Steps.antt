@@ -1,0 +1,38 @@
+-- The terms in which unescaping is proved: its stop test, and what one step gives and how far it goes. Assumes nothing.
+use Prim.Native.Nat.{ℕ, _≤_, _<_}
+use mathlib.Core.Path.{_≡_}
+use mathlib.Core.Bool.{Bool}
+use mathlib.Core.List.{List}
+use lib.ListN.{length}
+use lib.Dec.{eqb}
+use Rattle.entity.specs.Binding.{Bound}
+use Rattle.tokens.specs.Tokens.{tokenOf}
+use Rattle.tokens.specs.Outcome.{Outcome, done, refused}
+use Rattle.tokens.specs.Walking.{headAt, nextAt, outcomeOf, Stepped}
+use Rattle.tokens.specs.declared.Step.{Step}
+use Rattle.tokens.specs.declared.Step.the-variants.{Next, Stopped}
+use Rattle.unescape.specs.Unescape.{textHead, copied, replaced}
+
+-- Unescaping: the one byte at which a run ends
+abbrev pub isAmp : ℕ → Bool
+isAmp b = eqb b 38
+
+-- Entity table: a text is at most 65,535 bytes; Unescaping: it is not opened
+abbrev pub Short : Outcome → Type 0
+Short (done value openings) = (length value ≤ 65535) × (openings ≡ 0)
+Short (refused before openings number first second) = Unit {0}
+
+-- a step goes on inside the text
+abbrev pub Near : List ℕ → ℕ → Step → Type 0
+Near text i (Next at len openings) = (i < at) × (at ≤ length text) × (len ≤ 65535) × (openings ≡ 0)
+Near text i (Stopped number first second) = Unit {0}
+
+-- the step at a name that is so bound, whose `&` is at `i`
+pub record Named (bound : Bound) (name : List ℕ) (i next : ℕ) (old new : List ℕ) (r : Step) : Type 0 where
+  pub step : Stepped next (copied i name bound 0) old new r
+  pub short : Short (copied i name bound 0)
+
+-- the step at the `&` at `i`
+pub record Referred (bind : List ℕ → Bound) (text : List ℕ) (i : ℕ) (old new : List ℕ) (r : Step) : Type 0 where
+  pub step : Stepped (nextAt textHead text i) (outcomeOf (replaced bind) (tokenOf (headAt textHead text i)) 0) old new r
+  pub near : Near text i r

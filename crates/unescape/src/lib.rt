@@ -1,0 +1,199 @@
+// Unescaping: references become the characters and the texts that they stand for.
+ghost use mathlib.Core.Path.{_≡_};
+ghost use mathlib.Core.Bool.{false};
+ghost use mathlib.Core.List.{[], _∷_};
+ghost use Prim.Native.Nat.{_+_, _≤_, _<_};
+ghost use lib.ListN.{length, getD};
+ghost use Rattle.text.specs.Call.{callOf};
+ghost use Rattle.entity.specs.Table.{ValidTable};
+ghost use Rattle.entity.specs.Binding.{binding};
+ghost use Rattle.tokens.specs.Outcome.{finished};
+ghost use Rattle.output.specs.Runs.{Plain};
+ghost use Rattle.tokens.specs.Walking.{RunEnd, Walked};
+ghost use Rattle.unescape.specs.Unescape.{unescape};
+ghost use Rattle.unescape.specs.Steps.{isAmp, Named, Referred};
+use entity::Binding;
+use text::Answer;
+use tokens::Step;
+
+// Is one of the `size` bytes from i on a `&`?
+fn any_amp(text: &[u8], i: usize, size: usize) -> bool
+    requires { ⌜ i + size ≤ length (now text) ⌝ }
+    ensures { λ r. ⌜ (r ≡ false → Plain isAmp (now (text .entry)) i (i + size)) ⌝ }
+{
+    let mut hit = false;
+    for k in 0..size {
+        hit = hit | (text[i + k] == b'&');
+    }
+    hit
+}
+
+// Passes blocks of `size` bytes that have no `&`.
+fn amp_blocks(text: &[u8], from: usize, size: usize) -> usize
+    requires { ⌜ (from ≤ length (now text)) × (1 ≤ size) ⌝ }
+    ensures { λ r. ⌜ Plain isAmp (now (text .entry)) from r ⌝ }
+{
+    let mut i = from;
+    while size <= text.len() - i {
+        if any_amp(text, i, size) {
+            return i;
+        }
+        i += size;
+    }
+    i
+}
+
+// Passes bytes that are no `&`, at once where the next one is near.
+fn amp_skip(text: &[u8], from: usize) -> usize
+    requires { ⌜ from ≤ length (now text) ⌝ }
+    ensures { λ r. ⌜ Plain isAmp (now (text .entry)) from r ⌝ }
+{
+    if text.len() - from < 8 {
+        return from;
+    }
+    if any_amp(text, from, 8) {
+        return from;
+    }
+    let block = amp_blocks(text, from, 32);
+    amp_blocks(text, block, 8)
+}
+
+// The next `&` from `from` on, or the text's end.
+fn amp_end(text: &[u8], from: usize) -> usize
+    requires { ⌜ from ≤ length (now text) ⌝ }
+    ensures { λ r. ⌜ RunEnd isAmp (now (text .entry)) from r ⌝ }
+{
+    let mut i = amp_skip(text, from);
+    while i < text.len() {
+        if text[i] == b'&' {
+            return i;
+        }
+        i += 1;
+    }
+    i
+}
+
+// The name whose `&` is at i is looked up; a text of the table is copied as a part of the pool.
+fn name_step(name: &[u8], i: usize, next: usize, list: &[u8], pool: &[u8], out: &mut [u8]) -> Step
+    requires { ⌜ i + 1 + length (now name) ≤ 16777216 ⌝ }
+    requires { ⌜ ValidTable (now list) (now pool) ⌝ }
+    ensures { λ r. ⌜ Named (binding (now (list .entry)) (now (pool .entry)) (now (name .entry))) (now (name .entry)) i next (now (out .entry)) (now (out .exit)) r ⌝ }
+{
+    match entity::resolve_entity(list, pool, name) {
+        Binding::Text { start, end } => {
+            output::put_over(&pool[start..end], out);
+            Step::Next {
+                at: next,
+                len: end - start,
+                openings: 0,
+            }
+        }
+        Binding::Predefined(b) => {
+            output::put_byte(b, 0, out);
+            Step::Next {
+                at: next,
+                len: 1,
+                openings: 0,
+            }
+        }
+        Binding::Unknown => Step::Stopped {
+            number: 11,
+            first: (i + 1) as u64,
+            second: (i + 1 + name.len()) as u64,
+        },
+    }
+}
+
+// The reference whose `&` is at i. `out` is the rest of the output.
+fn unescape_step(text: &[u8], i: usize, list: &[u8], pool: &[u8], out: &mut [u8]) -> Step
+    requires { ⌜ length (now text) ≤ 16777216 ⌝ }
+    requires { ⌜ (i < length (now text)) × (getD (now text) i 0 ≡ 38) ⌝ }
+    requires { ⌜ ValidTable (now list) (now pool) ⌝ }
+    ensures { λ r. ⌜ Referred (binding (now (list .entry)) (now (pool .entry))) (now (text .entry)) i (now (out .entry)) (now (out .exit)) r ⌝ }
+{
+    let start = i + 1;
+    let end = tokens::name_end(text, start, true);
+    if end == text.len() {
+        return Step::Stopped {
+            number: 10,
+            first: i as u64,
+            second: end as u64,
+        };
+    }
+    if text[start] == b'#' {
+        return tokens::number_step(&text[start + 1..end], end + 1, 0, out);
+    }
+    name_step(&text[start..end], i, end + 1, list, pool, out)
+}
+
+// Runs and references in turn; the first run ends at `plain`. Writes as much of the value as there is room for, so that it counts
+// where `out` has no bytes.
+fn unescape_runs(text: &[u8], plain: usize, list: &[u8], pool: &[u8], out: &mut [u8]) -> Answer
+    requires { ⌜ length (now text) ≤ 16777216 ⌝ }
+    requires { ⌜ RunEnd isAmp (now text) 0 plain ⌝ }
+    requires { ⌜ ValidTable (now list) (now pool) ⌝ }
+    ensures { λ r. ⌜ Walked (unescape (binding (now (list .entry)) (now (pool .entry))) (now (text .entry))) (now (out .entry)) (now (out .exit)) r ⌝ }
+{
+    let mut i: usize = 0;
+    let mut e = plain;
+    let mut len: usize = 0;
+    loop {
+        let at = output::least(len, out.len());
+        output::put_over(&text[i..e], &mut out[at..]);
+        len += e - i;
+        if e == text.len() {
+            return Answer::Done {
+                first: len as u64,
+                second: 0,
+            };
+        }
+        let rest = output::least(len, out.len());
+        match unescape_step(text, e, list, pool, &mut out[rest..]) {
+            Step::Next {
+                at: next,
+                len: more,
+                openings: _,
+            } => {
+                i = next;
+                len += more;
+                e = amp_end(text, next);
+            }
+            Step::Stopped {
+                number,
+                first,
+                second,
+            } => {
+                return Answer::Refused {
+                    number,
+                    first,
+                    second,
+                };
+            }
+        }
+    }
+}
+
+// Counts first, over no output: a refusal leaves the output, 19 too.
+pub fn unescape_with(text: &[u8], list: &[u8], pool: &[u8], out: &mut [u8]) -> Answer
+    requires { ⌜ length (now text) ≤ 16777216 ⌝ }
+    requires { ⌜ ValidTable (now list) (now pool) ⌝ }
+    ensures { λ r. ⌜ callOf r (now (out .exit) ∷ []) ≡ finished (unescape (binding (now (list .entry)) (now (pool .entry))) (now (text .entry))) (now (out .entry)) ⌝ }
+{
+    let plain = amp_end(text, 0);
+    let counted = unescape_runs(text, plain, list, pool, &mut out[..0]);
+    let Answer::Done {
+        first: len,
+        second: _,
+    } = counted
+    else {
+        return counted;
+    };
+    if (out.len() as u64) < len {
+        return Answer::Refused {
+            number: 19,
+            first: len,
+            second: 0,
+        };
+    }
+    unescape_runs(text, plain, list, pool, out)
+}
