@@ -1,0 +1,266 @@
+-- The canonical form run by run: a run without U+0085 and U+2028 is written as level 3, each of those by its reference. Assumes nothing.
+use mathlib.Core.Path.{_≡_, refl, sym, ap, ap₂, _∙_}
+use mathlib.Core.Bool.{Bool, true, false, _&&_, _||_, not, true≢false}
+use mathlib.Core.List.{List, [], _∷_, _++_, append-assoc}
+use Prim.Native.Nat.{ℕ, zero, suc, _+_, _-_, _*_, _≤_, _<_}
+use native.Mathlib.Omega.{arith}
+use native.Mathlib.Numerals.{add-one}
+use lib.Dec.{eqb, ltb}
+use lib.ListN.{length, take, drop, getD, length-drop, length-append, length-take, drop-of-length-le}
+use borrow.Author.Tests.{ltb-true, ltb-false}
+use lib.Seq.{drop-cons, drop-drop}
+use Rattle.text.specs.Bytes.{pick, begins}
+use borrow.Rule.Slice.PartMut.{midOf, putMid}
+use Rattle.text.specs.Call.{laid}
+use Rattle.text.specs.Version.{Rule, xml10, xml11}
+use Rattle.text.proofs.Bytes.{pick-by, or-left, or-right}
+use Rattle.output.proofs.Written.{Written, written-as, written-more, piece-room}
+use Rattle.eols.specs.Stops.{ruleFor}
+use Rattle.eols.proofs.LineEnds.{begins-fits}
+use Rattle.escape.specs.Escape.{Replacements, attribute, levelOf, levelSet, write, writeByte}
+use Rattle.escape.specs.Scan.{charsSet, levelChars}
+use Rattle.escape.specs.declared.EscapeChars.{EscapeChars}
+use Rattle.escape.proofs.Levels.{chars-level, escape-most}
+use Rattle.canonical.specs.Canonical.{canonicalByte, covered, canonicalFrom, canonical}
+use Rattle.canonical.specs.Runs.{special, specialReference, Common}
+
+-- to skip is to start later
+pub canonical-skip : (r : Rule) (k : ℕ) (value : List ℕ) → canonicalFrom r k value ≡ canonicalFrom r 0 (drop k value)
+unfolding canonicalFrom
+canonical-skip r zero value = refl
+canonical-skip r (suc k) [] = refl
+canonical-skip r (suc k) (b ∷ bs) = canonical-skip r k bs
+
+-- a byte that starts no character of the writer's own
+pub common-byte : (r : Rule) (b : ℕ) (bs : List ℕ) → special r (b ∷ bs) ≡ 0 → canonicalFrom r 0 (b ∷ bs) ≡ writeByte (levelSet attribute) b ++ canonicalFrom r 0 bs
+unfolding canonicalFrom canonicalByte covered
+common-byte xml10 b bs e = refl
+common-byte xml11 b bs e = go (begins (0xC2 ∷ 0x85 ∷ []) (b ∷ bs)) (begins (0xE2 ∷ 0x80 ∷ 0xA8 ∷ []) (b ∷ bs)) e
+  where
+    go : (s t : Bool) → _≡_ {A = ℕ} (pick s 2 (pick t 3 0)) 0
+        → pick s (38 ∷ 35 ∷ 49 ∷ 51 ∷ 51 ∷ 59 ∷ []) (pick t (38 ∷ 35 ∷ 56 ∷ 50 ∷ 51 ∷ 50 ∷ 59 ∷ []) (writeByte (levelSet attribute) b)) ++ canonicalFrom xml11 (pick s 1 (pick t 2 0)) bs
+        ≡ writeByte (levelSet attribute) b ++ canonicalFrom xml11 0 bs
+    go true t h = absurd (omega (arith, h))
+    go false true h = absurd (omega (arith, h))
+    go false false h = refl
+
+-- one that does
+pub special-byte : (r : Rule) (b : ℕ) (bs : List ℕ) (w : ℕ) → special r (b ∷ bs) ≡ w + 1
+    → canonicalFrom r 0 (b ∷ bs) ≡ specialReference (w + 1) ++ canonicalFrom r 0 (drop w bs)
+unfolding canonicalFrom canonicalByte covered
+special-byte xml10 b bs w e = absurd (omega (arith, e))
+special-byte xml11 b bs w e = go (begins (0xC2 ∷ 0x85 ∷ []) (b ∷ bs)) (begins (0xE2 ∷ 0x80 ∷ 0xA8 ∷ []) (b ∷ bs)) e
+  where
+    go : (s t : Bool) → _≡_ {A = ℕ} (pick s 2 (pick t 3 0)) (w + 1)
+        → pick s (38 ∷ 35 ∷ 49 ∷ 51 ∷ 51 ∷ 59 ∷ []) (pick t (38 ∷ 35 ∷ 56 ∷ 50 ∷ 51 ∷ 50 ∷ 59 ∷ []) (writeByte (levelSet attribute) b)) ++ canonicalFrom xml11 (pick s 1 (pick t 2 0)) bs
+        ≡ specialReference (w + 1) ++ canonicalFrom xml11 0 (drop w bs)
+    go true t h = let q : w ≡ 1 = omega (arith, h) in rw (q, canonical-skip xml11 1 bs)
+    go false true h = let q : w ≡ 2 = omega (arith, h) in rw (q, canonical-skip xml11 2 bs)
+    go false false h = absurd (omega (arith, h))
+
+-- a run of common bytes
+pub common-run : (r : Rule) (value : List ℕ) (n i : ℕ) → i + n ≤ length value → ((k : ℕ) → i ≤ k → k < i + n → special r (drop k value) ≡ 0)
+    → canonicalFrom r 0 (drop i value) ≡ write (levelSet attribute) (take n (drop i value)) ++ canonicalFrom r 0 (drop (i + n) value)
+unfolding write
+common-run r value zero i h none = let q : i + 0 ≡ i = omega arith in rw q refl
+common-run r value (suc n) i h none =
+    let q : suc i + n ≡ i + suc n = omega arith in
+    let here = drop-cons value i 0 (omega (arith, h)) in
+    let one : special r (getD value i 0 ∷ drop (suc i) value) ≡ 0 = rw here at (none i (omega arith) (omega arith)) in
+    let more = common-run r value n (suc i) (omega (arith, h)) (λ k a b. none k (omega (arith, a)) (omega (arith, b))) in
+    rw here (common-byte r (getD value i 0) (drop (suc i) value) one ∙ rw (more, q, append-assoc) refl)
+
+-- ---- where one of the two stands
+
+and-true : (t : Bool) → t && true ≡ t
+and-true true = refl
+and-true false = refl
+
+begins-head : (p : ℕ) (ps l : List ℕ) → begins (p ∷ ps) l ≡ begins (p ∷ []) l && begins ps (drop 1 l)
+begins-head p ps [] = refl
+begins-head p ps (b ∷ bs) = ap (λ (t : Bool). t && begins ps bs) (sym (and-true (eqb b p)))
+
+-- a pattern at an index by its first byte
+pub begins-cons : (p : ℕ) (ps t : List ℕ) (i : ℕ) → begins (p ∷ ps) (drop i t) ≡ begins (p ∷ []) (drop i t) && begins ps (drop (i + 1) t)
+begins-cons p ps t i =
+    begins-head p ps (drop i t) ∙ ap (λ (l : List ℕ). begins (p ∷ []) (drop i t) && begins ps l) (drop-drop 1 i t)
+
+module _ (l : List ℕ) where
+  pub special-nel : begins (0xC2 ∷ 0x85 ∷ []) l ≡ true → special xml11 l ≡ 2
+  special-nel e = rw e
+
+  pub special-ls : begins (0xC2 ∷ 0x85 ∷ []) l ≡ false → begins (0xE2 ∷ 0x80 ∷ 0xA8 ∷ []) l ≡ true → special xml11 l ≡ 3
+  special-ls e f = rw (e, f)
+
+  pub special-none : begins (0xC2 ∷ 0x85 ∷ []) l ≡ false → begins (0xE2 ∷ 0x80 ∷ 0xA8 ∷ []) l ≡ false → special xml11 l ≡ 0
+  special-none e f = rw (e, f)
+
+-- three bytes that are neither
+pub special-bytes : (t : List ℕ) (i : ℕ) → i + 3 ≤ length t
+    → (eqb (getD t i 0) 0xC2 && eqb (getD t (i + 1) 0) 0x85) || ((eqb (getD t i 0) 0xE2 && eqb (getD t (i + 1) 0) 0x80) && eqb (getD t (i + 2) 0) 0xA8) ≡ false
+    → special xml11 (drop i t) ≡ 0
+special-bytes t i h e =
+    let a = getD t i 0 in
+    let b = getD t (i + 1) 0 in
+    let c = getD t (i + 2) 0 in
+    let one : drop i t ≡ a ∷ drop (i + 1) t = rw (add-one i, drop-cons t i 0 (omega (arith, h))) in
+    let two : drop (i + 1) t ≡ b ∷ drop (i + 2) t = let q : suc (i + 1) ≡ i + 2 = omega arith in rw (drop-cons t (i + 1) 0 (omega (arith, h)), q) in
+    let three : drop (i + 2) t ≡ c ∷ drop (suc (i + 2)) t = drop-cons t (i + 2) 0 (omega (arith, h)) in
+    rw (one, two, three)
+    (special-none (a ∷ b ∷ c ∷ drop (suc (i + 2)) t)
+    (ap (λ (u : Bool). eqb a 0xC2 && u) (and-true (eqb b 0x85)) ∙ or-left (eqb a 0xC2 && eqb b 0x85) ((eqb a 0xE2 && eqb b 0x80) && eqb c 0xA8) e)
+    (shift (eqb a 0xE2) (eqb b 0x80) (eqb c 0xA8) ∙ or-right (eqb a 0xC2 && eqb b 0x85) ((eqb a 0xE2 && eqb b 0x80) && eqb c 0xA8) e))
+  where
+    shift : (x y z : Bool) → x && (y && (z && true)) ≡ (x && y) && z
+    shift true true true = refl
+    shift true true false = refl
+    shift true false z = refl
+    shift false y z = refl
+
+-- only the newer version has any
+pub special-newer : (newer : Bool) (l : List ℕ) → 0 < special (ruleFor newer) l → special (ruleFor newer) l ≡ special xml11 l
+special-newer false l h = absurd (omega (arith, h))
+special-newer true l h = refl
+
+pub special-fits : (t : List ℕ) (i : ℕ) → i < length t → i + special xml11 (drop i t) ≤ length t
+special-fits t i h =
+    pick-by (λ (w : ℕ). i + w ≤ length t) (begins (0xC2 ∷ 0x85 ∷ []) (drop i t)) {a = 2} {b = pick (begins (0xE2 ∷ 0x80 ∷ 0xA8 ∷ []) (drop i t)) 3 0}
+    (λ e. omega (arith, begins-fits (0xC2 ∷ 0x85 ∷ []) (drop i t) e, length-drop i t))
+    (λ e. pick-by (λ (w : ℕ). i + w ≤ length t) (begins (0xE2 ∷ 0x80 ∷ 0xA8 ∷ []) (drop i t)) {a = 3} {b = 0}
+    (λ f. omega (arith, begins-fits (0xE2 ∷ 0x80 ∷ 0xA8 ∷ []) (drop i t) f, length-drop i t))
+    (λ f. omega arith))
+
+-- ---- runs
+
+pub common-none : (r : Rule) (t : List ℕ) (i : ℕ) → i ≤ length t → Common r t i i
+common-none r t i h = record { from = omega arith; to = h; none = λ k a b. absurd (omega (arith, a, b)) }
+
+pub common-of : (r : Rule) (t : List ℕ) (i n : ℕ) → i + n ≤ length t → ((m : ℕ) → m < n → special r (drop (i + m) t) ≡ 0) → Common r t i (i + n)
+common-of r t i n h f =
+    record {
+      from = omega arith;
+      to = h;
+      none = λ k a b. let q : i + (k - i) ≡ k = omega (arith, a) in rw q at (f (k - i) (omega (arith, a, b)));
+    }
+
+pub common-join : (r : Rule) (t : List ℕ) (i j e : ℕ) → Common r t i j → Common r t j e → Common r t i e
+common-join r t i j e p q =
+    record {
+      from = omega (arith, p .from, q .from);
+      to = q .to;
+      none = λ k a b. go k a b (ltb k j) refl;
+    }
+  where
+    go : (k : ℕ) → i ≤ k → k < e → (b : Bool) → ltb k j ≡ b → special r (drop k t) ≡ 0
+    go k a b true h = p .none k a (ltb-true k j h)
+    go k a b false h = q .none k (ltb-false k j h) b
+
+-- the older version has none at all
+pub common-older : (newer : Bool) (t : List ℕ) (i : ℕ) → not newer ≡ true → i ≤ length t → Common (ruleFor newer) t i (length t)
+common-older false t i e h = record { from = h; to = omega arith; none = λ k a b. refl }
+common-older true t i e h = absurd (true≢false (sym e))
+
+pub common-newer : (newer : Bool) (t : List ℕ) (i e : ℕ) → not newer ≡ false → Common xml11 t i e → Common (ruleFor newer) t i e
+common-newer false t i e h p = absurd (true≢false h)
+common-newer true t i e h p = p
+
+pub newer-special : (newer : Bool) (l : List ℕ) → not newer ≡ false → 0 < special xml11 l → 0 < special (ruleFor newer) l
+newer-special false l h p = absurd (true≢false h)
+newer-special true l h p = p
+
+-- a run, and then the rest
+pub common-write : (r : Rule) (t : List ℕ) (i e : ℕ) → Common r t i e
+    → canonicalFrom r 0 (drop i t) ≡ write (levelSet attribute) (take (e - i) (drop i t)) ++ canonicalFrom r 0 (drop e t)
+common-write r t i e p =
+    let q : i + (e - i) ≡ e = omega (arith, p .from) in
+    rw q at (common-run r t (e - i) i (omega (arith, p .from, p .to)) (λ k a b. p .none k a (omega (arith, b, p .from))))
+
+-- one of the two, and then the rest
+pub special-write : (r : Rule) (t : List ℕ) (i w : ℕ) → i < length t → w ≡ special r (drop i t) → 0 < w
+    → canonicalFrom r 0 (drop i t) ≡ specialReference w ++ canonicalFrom r 0 (drop (i + w) t)
+special-write r t i w h e p =
+    let q : w ≡ w - 1 + 1 = omega (arith, p) in
+    let s : suc i + (w - 1) ≡ i + w = omega (arith, p) in
+    let here : drop i t ≡ getD t i 0 ∷ drop (suc i) t = drop-cons t i 0 h in
+    let f : special r (getD t i 0 ∷ drop (suc i) t) ≡ w - 1 + 1 = sym (ap (special r) here) ∙ sym e ∙ q in
+    ap (canonicalFrom r 0) here
+    ∙ special-byte r (getD t i 0) (drop (suc i) t) (w - 1) f
+    ∙ ap₂ (λ (n : ℕ) (l : List ℕ). specialReference n ++ canonicalFrom r 0 l) (sym q) (drop-drop (w - 1) (suc i) t ∙ ap (λ (n : ℕ). drop n t) s)
+
+pub common-one : (r : Rule) (t : List ℕ) (i : ℕ) → i < length t → special r (drop i t) ≡ 0 → Common r t i (i + 1)
+common-one r t i h e =
+    record {
+      from = omega arith;
+      to = omega (arith, h);
+      none = λ k a b. let q : k ≡ i = omega (arith, a, b) in rw q e;
+    }
+
+-- ---- counting and writing
+
+-- past the end nothing is left
+pub canonical-over : (r : Rule) (t : List ℕ) (i : ℕ) → length t ≤ i → canonicalFrom r 0 (drop i t) ≡ []
+unfolding canonicalFrom
+canonical-over r t i h = rw (drop-of-length-le t h)
+
+-- the flags of level 3
+set-three : {chars : EscapeChars} → chars ≡ levelChars (levelOf 3) → charsSet chars ≡ levelSet attribute
+unfolding levelOf
+set-three e = ap charsSet e ∙ chars-level attribute
+
+module _ (r : Rule) (t : List ℕ) (i e : ℕ) (p : Common r t i e) {chars : EscapeChars} (three : chars ≡ levelChars (levelOf 3)) where
+  by-chars : canonicalFrom r 0 (drop i t) ≡ write (charsSet chars) (take (e - i) (drop i t)) ++ canonicalFrom r 0 (drop e t)
+  by-chars = common-write r t i e p ∙ ap (λ (s : Replacements). write s (take (e - i) (drop i t)) ++ canonicalFrom r 0 (drop e t)) (sym (set-three three))
+
+  pub run-length : length (canonicalFrom r 0 (drop i t)) ≡ length (write (charsSet chars) (take (e - i) (drop i t))) + length (canonicalFrom r 0 (drop e t))
+  run-length = ap length by-chars ∙ length-append (write (charsSet chars) (take (e - i) (drop i t))) (canonicalFrom r 0 (drop e t))
+
+  pub run-most : length (write (charsSet chars) (take (e - i) (drop i t))) ≤ 6 * (e - i)
+  run-most =
+      let q = ap (λ (s : Replacements). length (write s (take (e - i) (drop i t)))) (set-three three) in
+      omega (arith, q, escape-most attribute (take (e - i) (drop i t)), length-take (e - i) (drop i t))
+
+  module _ {whole old out : List ℕ} {at : ℕ} (w : Written whole (canonicalFrom r 0 (drop i t)) old out at) where
+    run-next : Written whole (write (charsSet chars) (take (e - i) (drop i t)) ++ canonicalFrom r 0 (drop e t)) old out at
+    run-next = written-as by-chars w
+
+    pub run-room : length whole ≤ length old → length (write (charsSet chars) (take (e - i) (drop i t))) ≤ length (midOf at (length out - at) out)
+    run-room h = piece-room (write (charsSet chars) (take (e - i) (drop i t))) (canonicalFrom r 0 (drop e t)) run-next h
+
+    pub run-written : {n : ℕ} {part : List ℕ} → n ≡ length (write (charsSet chars) (take (e - i) (drop i t)))
+        → part ≡ laid (write (charsSet chars) (take (e - i) (drop i t))) (midOf at (length out - at) out)
+        → Written whole (canonicalFrom r 0 (drop e t)) old (putMid at (length out - at) out part) (at + n)
+    run-written m q = rw m (written-more (write (charsSet chars) (take (e - i) (drop i t))) run-next q)
+
+module _ (newer : Bool) (t : List ℕ) (i : ℕ) (h : i < length t) (some : 0 < special (ruleFor newer) (drop i t)) {w : ℕ} (e : w ≡ special xml11 (drop i t)) where
+  own-width : w ≡ special (ruleFor newer) (drop i t)
+  own-width = e ∙ sym (special-newer newer (drop i t) some)
+
+  by-reference : canonicalFrom (ruleFor newer) 0 (drop i t) ≡ specialReference w ++ canonicalFrom (ruleFor newer) 0 (drop (i + w) t)
+  by-reference = special-write (ruleFor newer) t i w h own-width (omega (arith, own-width, some))
+
+  pub own-least : 2 ≤ w
+  own-least =
+      let q : 0 < special xml11 (drop i t) = omega (arith, own-width, e, some) in
+      omega (arith, e, two-at-least (begins (0xC2 ∷ 0x85 ∷ []) (drop i t)) (begins (0xE2 ∷ 0x80 ∷ 0xA8 ∷ []) (drop i t)) q)
+    where
+      two-at-least : (a b : Bool) → 0 < pick a 2 (pick b 3 0) → 2 ≤ pick a 2 (pick b 3 0)
+      two-at-least true b k = omega arith
+      two-at-least false true k = omega arith
+      two-at-least false false k = absurd (omega (arith, k))
+
+  pub own-inside : i + w ≤ length t
+  own-inside = omega (arith, e, special-fits t i h)
+
+  pub own-length : length (canonicalFrom (ruleFor newer) 0 (drop i t)) ≡ length (specialReference w) + length (canonicalFrom (ruleFor newer) 0 (drop (i + w) t))
+  own-length = ap length by-reference ∙ length-append (specialReference w) (canonicalFrom (ruleFor newer) 0 (drop (i + w) t))
+
+  module _ {whole old out : List ℕ} {at : ℕ} (p : Written whole (canonicalFrom (ruleFor newer) 0 (drop i t)) old out at) where
+    own-next : Written whole (specialReference w ++ canonicalFrom (ruleFor newer) 0 (drop (i + w) t)) old out at
+    own-next = written-as by-reference p
+
+    pub own-room : length whole ≤ length old → length (specialReference w) ≤ length (midOf at (length out - at) out)
+    own-room g = piece-room (specialReference w) (canonicalFrom (ruleFor newer) 0 (drop (i + w) t)) own-next g
+
+    pub own-written : {n : ℕ} {part : List ℕ} → n ≡ length (specialReference w) → part ≡ laid (specialReference w) (midOf at (length out - at) out)
+        → Written whole (canonicalFrom (ruleFor newer) 0 (drop (i + w) t)) old (putMid at (length out - at) out part) (at + n)
+    own-written m q = rw m (written-more (specialReference w) own-next q)
