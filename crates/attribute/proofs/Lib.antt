@@ -1,0 +1,9 @@
+pub mod Walked
+pub mod Heads
+pub mod Values
+pub mod Stops
+pub mod Single
+pub mod Reread
+pub mod Deeper
+pub mod Checked
+pub mod Formed

@@ -1,0 +1,324 @@
+-- The single step, return by return: what a stop stands for at a depth, and how far the step goes. Assumes nothing.
+use mathlib.Core.Path.{_≡_, refl, sym, ap, subst, _∙_}
+use mathlib.Core.Logic.{_≢_}
+use mathlib.Core.Bool.{Bool, true, false, true≢false}
+use mathlib.Core.List.{List, [], _∷_}
+use Prim.Native.Nat.{ℕ, zero, suc, _+_, _-_, _*_, _≤_, _<_}
+use native.Mathlib.Omega.{arith}
+use native.Mathlib.Numerals.{add-one}
+use lib.Dec.{eqb}
+use lib.ListN.{length, getD, take, drop}
+use borrow.Author.Tests.{eq-eqb, ne-eqb, eqb-true, eqb-false}
+use Rattle.text.specs.Bytes.{pick, sameBytes}
+use Rattle.text.specs.Version.{Rule}
+use Rattle.text.specs.declared.Answer.{Answer}
+use Rattle.text.specs.declared.Answer.the-variants.{Done, Refused}
+use Rattle.text.proofs.Bytes.{pick-by}
+use Rattle.charref.specs.CharRef.{anyCharacter}
+use Rattle.eols.specs.Stops.{ruleFor}
+use Rattle.eols.specs.declared.Step.{Step as Blanked}
+use Rattle.entity.specs.Table.{Body, inside, Declaration, nameOf, part, declarations}
+use Rattle.entity.specs.Binding.{Bound, text, predefined, unknown, predefinedOf, bodyBound, bindingIn, binding, boundTo, Lies}
+use Rattle.entity.specs.declared.Binding.{Binding}
+use Rattle.entity.specs.declared.Binding.the-variants.{Text, Predefined, Unknown}
+use Rattle.output.proofs.Clip.{length-over}
+use Rattle.tokens.specs.Tokens.{Stop, kept, space, number, named, unterminated, Token, copy, stop, Head, head, tokenOf, skipOf, nameAt, referenceAt, tokens}
+use Rattle.tokens.specs.Outcome.{Outcome, done, refused, run, produced, answerOf, numberOutcome}
+use Rattle.tokens.specs.Walking.{NameEnd, headAt, nextAt, outcomeOf, stepOf, Stepped, Walked}
+use Rattle.tokens.specs.declared.Step.{Step}
+use Rattle.tokens.specs.declared.Step.the-variants.{Next, Stopped}
+use Rattle.tokens.proofs.Numbers.{Small, number-small}
+use Rattle.tokens.proofs.References.{reference-none, reference-number, reference-named, name-size, digits-from}
+use Rattle.attribute.specs.Heads.{attributeHead}
+use Rattle.attribute.specs.Walk.{Settings, opened, answer, exhausted, walk, reading, readingOf}
+use Rattle.attribute.specs.Steps.{stopByte, stopAnswer, outcomeAt, Blank, ampOr, stepFrom, Counted, CountedStep}
+use Rattle.attribute.proofs.Stops.{copies, IsStop, stop-head}
+
+-- ---- a step, said otherwise
+
+pub stepped-as : {next next′ : ℕ} {o o′ : Outcome} {old new : List ℕ} {r : Step} → next′ ≡ next → o′ ≡ o → Stepped next o old new r → Stepped next′ o′ old new r
+stepped-as e f s = record { answers = s .answers ∙ rw (e, f); writes = s .writes ∙ rw f }
+
+pub stepped-told : {next : ℕ} {o : Outcome} {old new : List ℕ} {r r′ : Step} → r ≡ r′ → Stepped next o old new r → Stepped next o old new r′
+stepped-told e s = record { answers = sym e ∙ s .answers; writes = s .writes }
+
+pub walked-as : {o o′ : Outcome} {old new : List ℕ} {r : Answer} → o′ ≡ o → Walked o old new r → Walked o′ old new r
+walked-as e w = record { answers = w .answers ∙ rw e; writes = w .writes ∙ rw e }
+
+-- the output keeps its length
+pub stepped-length : {next : ℕ} {o : Outcome} {old new : List ℕ} {r : Step} → Stepped next o old new r → length new ≡ length old
+stepped-length {next} {o} {old} s = ap length (s .writes) ∙ length-over (produced o) old
+
+pub walked-length : {o : Outcome} {old new : List ℕ} {r : Answer} → Walked o old new r → length new ≡ length old
+walked-length {o} {old} w = ap length (w .writes) ∙ length-over (produced o) old
+
+-- a refusal writes nothing
+pub stepped-refused : {next : ℕ} {o : Outcome} {openings number first second : ℕ} {old : List ℕ} {r : Step} → o ≡ refused [] openings number first second
+    → r ≡ Stopped number first second → Stepped next o old old r
+stepped-refused e q = record { answers = q ∙ rw e; writes = rw e }
+
+-- the walk over a replacement text as the step of its reference
+pub stepped-walked : {next : ℕ} {o : Outcome} {old new : List ℕ} {walked : Answer} {r : Step} → Walked o old new walked → r ≡ stepFrom next walked → Stepped next o old new r
+stepped-walked {next} {o} w e = record { answers = e ∙ ap (stepFrom next) (w .answers) ∙ told o; writes = w .writes }
+  where
+    told : (p : Outcome) → stepFrom next (answerOf p) ≡ stepOf next p
+    told (done value openings) = refl
+    told (refused before openings k first second) = refl
+
+-- ---- a stop at a depth
+
+module _ (s : Settings) where
+  pub walk-run : (r : Rule) (depth : ℕ) (t : List ℕ) (n : ℕ) → walk s (attributeHead r) depth t n ≡ run (stopAnswer s depth) (tokens (attributeHead r) 0 0 t) n
+  unfolding walk stopAnswer
+  walk-run r zero t n = refl
+  walk-run r (suc depth) t n = refl
+
+  stop-zero : (depth : ℕ) → depth ≡ 0 → (t : Token) → IsStop t → (n : ℕ) → outcomeOf (stopAnswer s depth) t n ≡ refused [] n 16 0 0
+  unfolding stopAnswer exhausted
+  stop-zero depth e (copy b) i n = absurd i
+  stop-zero depth e (stop x) i n = rw e
+
+  pub stop-deeper : (depth : ℕ) → depth ≢ 0 → (t : Token) (n : ℕ) → outcomeOf (stopAnswer s depth) t n ≡ outcomeOf (answer s (λ u m. walk s (s .inner) (depth - 1) u m)) t n
+  unfolding stopAnswer
+  stop-deeper zero e t n = absurd (e refl)
+  stop-deeper (suc depth) e t n = let q : suc depth - 1 ≡ depth = omega arith in rw q
+
+  -- refusal 16
+  pub at-zero : (newer : Bool) (t : List ℕ) (at n depth : ℕ) → depth ≡ 0 → stopByte newer (getD t at 0) ≡ true
+      → outcomeAt s (ruleFor newer) depth t at n ≡ refused [] n 16 0 0
+  at-zero newer t at n depth e b = stop-zero depth e (tokenOf (headAt (attributeHead (ruleFor newer)) t at)) (stop-head newer at (getD t at 0) (drop (at + 1) t) b) n
+
+-- ---- what a name is bound to, `amp` aside
+
+module _ (name : List ℕ) (bound : Bound) where
+  abbrev isAmp : Bool
+  isAmp = sameBytes name (97 ∷ 109 ∷ 112 ∷ [])
+
+  amp-text : (t : List ℕ) → ampOr name bound ≡ text t → (isAmp ≡ false) × (bound ≡ text t)
+  amp-text t e = go isAmp refl e
+    where
+      go : (x : Bool) → isAmp ≡ x → pick x (predefined (38 ∷ [])) bound ≡ text t → (isAmp ≡ false) × (bound ≡ text t)
+      go true q k = let z : _≡_ {A = ℕ} 0 1 = cc in absurd (omega arith)
+      go false q k = (q, k)
+
+  amp-unknown : ampOr name bound ≡ unknown → (isAmp ≡ false) × (bound ≡ unknown)
+  amp-unknown e = go isAmp refl e
+    where
+      go : (x : Bool) → isAmp ≡ x → pick x (predefined (38 ∷ [])) bound ≡ unknown → (isAmp ≡ false) × (bound ≡ unknown)
+      go true q k = let z : _≡_ {A = ℕ} 0 1 = cc in absurd (omega arith)
+      go false q k = (q, k)
+
+  amp-predefined : {X : Type 0} (c : ℕ) → ampOr name bound ≡ predefined (c ∷ []) → (isAmp ≡ true → c ≡ 38 → X) → (isAmp ≡ false → bound ≡ predefined (c ∷ []) → X) → X
+  amp-predefined {X} c e yes′ no′ = go isAmp refl e
+    where
+      go : (x : Bool) → isAmp ≡ x → pick x (predefined (38 ∷ [])) bound ≡ predefined (c ∷ []) → X
+      go true q k = let z : c ≡ 38 = cc in yes′ q z
+      go false q k = no′ q k
+
+-- ---- a reference, whose `&` is at `at` and whose name ends at `end`
+
+module _ (newer : Bool) (s : Settings) (legal : s .legal ≡ anyCharacter) (depth : ℕ) (deep : depth ≢ 0) (t : List ℕ) (at n end : ℕ)
+    (amp : getD t at 0 ≡ 38) (e : NameEnd false t (at + 1) end) where
+  -- the walk over a replacement text
+  abbrev below : List ℕ → ℕ → Outcome
+  below u m = walk s (s .inner) (depth - 1) u m
+
+  head-reference : headAt (attributeHead (ruleFor newer)) t at ≡ referenceAt at (drop (at + 1) t) (nameAt false (drop (at + 1) t))
+  unfolding attributeHead
+  head-reference = rw (eq-eqb (getD t at 0) 38 amp)
+
+  by-head : (d : Head) → headAt (attributeHead (ruleFor newer)) t at ≡ d → outcomeAt s (ruleFor newer) depth t at n ≡ outcomeOf (answer s below) (tokenOf d) n
+  by-head d q = stop-deeper s depth deep (tokenOf (headAt (attributeHead (ruleFor newer)) t at)) n ∙ ap (λ (h : Head). outcomeOf (answer s below) (tokenOf h) n) q
+
+  -- refusal 10
+  pub at-none : end ≡ length t → outcomeAt s (ruleFor newer) depth t at n ≡ refused [] n 10 at end
+  unfolding answer
+  at-none q = by-head _ (head-reference ∙ reference-none false t at end e q)
+
+  module _ (h : end < length t) where
+    pub next-offset : nextAt (attributeHead (ruleFor newer)) t at ≡ end + 1
+    next-offset = go (eqb (getD t (at + 1) 0) 35) refl
+      where
+        sized : (d : Head) → skipOf d ≡ end - at → headAt (attributeHead (ruleFor newer)) t at ≡ d → nextAt (attributeHead (ruleFor newer)) t at ≡ end + 1
+        sized d k q =
+            let m : at + 1 + (end - at) ≡ end + 1 = omega (arith, e .from) in
+            ap (λ (x : Head). at + 1 + skipOf x) q ∙ ap (λ (x : ℕ). at + 1 + x) k ∙ m
+
+        go : (x : Bool) → eqb (getD t (at + 1) 0) 35 ≡ x → nextAt (attributeHead (ruleFor newer)) t at ≡ end + 1
+        go true b = sized _ refl (head-reference ∙ reference-number false t at end e h (eqb-true (getD t (at + 1) 0) 35 b))
+        go false b = sized _ refl (head-reference ∙ reference-named false t at end e h (eqb-false (getD t (at + 1) 0) 35 b))
+
+    pub at-number : getD t (at + 1) 0 ≡ 35 → outcomeAt s (ruleFor newer) depth t at n ≡ numberOutcome anyCharacter (take (end - (at + 1 + 1)) (drop (at + 1 + 1) t)) n
+    unfolding answer
+    at-number b = by-head _ (head-reference ∙ reference-number false t at end e h b) ∙ rw legal
+
+    module _ (b : getD t (at + 1) 0 ≢ 35) (bound : Bound) (is : s .bind (take (end - (at + 1)) (drop (at + 1) t)) ≡ bound) (pool : List ℕ) where
+      abbrev name : List ℕ
+      name = take (end - (at + 1)) (drop (at + 1) t)
+
+      at-name : (x : Bool) → sameBytes name (97 ∷ 109 ∷ 112 ∷ []) ≡ x
+          → outcomeAt s (ruleFor newer) depth t at n ≡ pick x (done (38 ∷ []) n) (opened (s .limit) below at name bound n)
+      unfolding answer
+      at-name x q = by-head _ (head-reference ∙ reference-named false t at end e h b) ∙ rw (q, is)
+
+      module _ (a z : ℕ) (same : boundTo pool (Text a z) ≡ ampOr name bound) where
+        as-text : (sameBytes name (97 ∷ 109 ∷ 112 ∷ []) ≡ false) × (bound ≡ text (part pool a (z - a)))
+        unfolding boundTo
+        as-text = amp-text name bound (part pool a (z - a)) (sym same)
+
+        -- refusal 17
+        pub at-limit : n ≡ s .limit → outcomeAt s (ruleFor newer) depth t at n ≡ refused [] n 17 at 0
+        unfolding opened
+        at-limit q = at-name false (as-text .0) ∙ rw (as-text .1, eq-eqb n (s .limit) q)
+
+        pub at-text : n ≢ s .limit → outcomeAt s (ruleFor newer) depth t at n ≡ walk s (s .inner) (depth - 1) (take (z - a) (drop a pool)) (n + 1)
+        unfolding opened part
+        at-text q = at-name false (as-text .0) ∙ rw (as-text .1, ne-eqb n (s .limit) q, add-one n)
+
+      -- refusal 11
+      pub at-unknown : boundTo pool Unknown ≡ ampOr name bound → outcomeAt s (ruleFor newer) depth t at n ≡ refused [] n 11 (at + 1) end
+      unfolding boundTo opened
+      at-unknown same =
+          let k = amp-unknown name bound (sym same) in
+          let z : suc at + length name ≡ end = rw (name-size false t at end e h) (omega (arith, e .from)) in
+          at-name false (k .0) ∙ rw (k .1, z, add-one at)
+
+      pub at-predefined : (c : ℕ) → boundTo pool (Predefined c) ≡ ampOr name bound
+          → (sameBytes name (97 ∷ 109 ∷ 112 ∷ []) ≡ false → bound ≡ predefined (c ∷ []) → walk s (s .inner) (depth - 1) (c ∷ []) n ≡ done (c ∷ []) n)
+          → outcomeAt s (ruleFor newer) depth t at n ≡ done (c ∷ []) n
+      unfolding boundTo opened
+      at-predefined c same itself =
+          amp-predefined name bound c (sym same) (λ x y. at-name true x ∙ rw y) (λ x y. at-name false x ∙ rw y (itself x y))
+
+-- ---- predefined texts hold no stop
+
+no-body : (pool t : List ℕ) (x : Body) → bodyBound pool x ≡ predefined t → ⊥
+unfolding bodyBound
+no-body pool t (inside start size) q = let z : _≡_ {A = ℕ} 0 1 = cc in omega arith
+
+bound-predefined : (ds : List Declaration) (pool name t : List ℕ) → bindingIn ds pool name ≡ predefined t → predefinedOf name ≡ predefined t
+unfolding bindingIn
+bound-predefined [] pool name t e = e
+bound-predefined (d ∷ ds) pool name t e = go (sameBytes (nameOf pool d) name) e (bound-predefined ds pool name t)
+  where
+    go : (x : Bool) → pick x (bodyBound pool (d .body)) (bindingIn ds pool name) ≡ predefined t → (bindingIn ds pool name ≡ predefined t → predefinedOf name ≡ predefined t) → predefinedOf name ≡ predefined t
+    go true q ih = absurd (no-body pool t (d .body) q)
+    go false q ih = ih q
+
+-- `<`, `>`, `'` and `"`
+plain-four : (newer : Bool) → (stopByte newer 60 ≡ false) × (stopByte newer 62 ≡ false) × (stopByte newer 39 ≡ false) × (stopByte newer 34 ≡ false)
+plain-four true = (refl, refl, refl, refl)
+plain-four false = (refl, refl, refl, refl)
+
+plain-predefined : (newer : Bool) (name : List ℕ) (c : ℕ) → sameBytes name (97 ∷ 109 ∷ 112 ∷ []) ≡ false → predefinedOf name ≡ predefined (c ∷ []) → stopByte newer c ≡ false
+unfolding predefinedOf
+plain-predefined newer name c no-amp e =
+    go (sameBytes name (108 ∷ 116 ∷ [])) (sameBytes name (103 ∷ 116 ∷ [])) (sameBytes name (97 ∷ 109 ∷ 112 ∷ []))
+    (sameBytes name (97 ∷ 112 ∷ 111 ∷ 115 ∷ [])) (sameBytes name (113 ∷ 117 ∷ 111 ∷ 116 ∷ [])) no-amp e
+  where
+    go : (l g a p q : Bool) → a ≡ false
+        → pick l (predefined (60 ∷ [])) (pick g (predefined (62 ∷ [])) (pick a (predefined (38 ∷ [])) (pick p (predefined (39 ∷ [])) (pick q (predefined (34 ∷ [])) unknown)))) ≡ predefined (c ∷ [])
+        → stopByte newer c ≡ false
+    go true g a p q f k = let z : c ≡ 60 = cc in rw z (plain-four newer .0)
+    go false true a p q f k = let z : c ≡ 62 = cc in rw z (plain-four newer .1)
+    go false false true p q f k = absurd (true≢false f)
+    go false false false true q f k = let z : c ≡ 39 = cc in rw z (plain-four newer .2)
+    go false false false false true f k = let z : c ≡ 34 = cc in rw z (plain-four newer .3)
+    go false false false false false f k = let z : _≡_ {A = ℕ} 0 1 = cc in absurd (omega arith)
+
+walk-plain : (s : Settings) (newer : Bool) (depth c n : ℕ) → stopByte newer c ≡ false → walk s (attributeHead (ruleFor newer)) depth (c ∷ []) n ≡ done (c ∷ []) n
+unfolding tokens run
+walk-plain s newer depth c n e = walk-run s (ruleFor newer) depth (c ∷ []) n ∙ rw (copies newer 0 c [] e)
+
+-- such a text, walked, is itself
+pub walk-predefined : (s : Settings) (newer : Bool) (list pool name : List ℕ) (depth c n : ℕ) → sameBytes name (97 ∷ 109 ∷ 112 ∷ []) ≡ false
+    → binding list pool name ≡ predefined (c ∷ []) → walk s (attributeHead (ruleFor newer)) depth (c ∷ []) n ≡ done (c ∷ []) n
+unfolding binding
+walk-predefined s newer list pool name depth c n no-amp e =
+    walk-plain s newer depth c n (plain-predefined newer name c no-amp (bound-predefined (declarations list) pool name (c ∷ []) e))
+
+-- ---- how far a step goes
+
+pub counted-number : (size at openings limit end : ℕ) (digits old new : List ℕ) (r : Step) → at < end → end < size → openings ≤ limit
+    → Stepped (end + 1) (numberOutcome anyCharacter digits openings) old new r → CountedStep size at openings limit r
+counted-number size at openings limit end digits old new r h g l p =
+    rw (p .answers) (go (numberOutcome anyCharacter digits openings) (number-small anyCharacter digits openings))
+  where
+    go : (o : Outcome) → Small openings o → CountedStep size at openings limit (stepOf (end + 1) o)
+    go (done value made) k = (omega (arith, h), omega (arith, g), omega (arith, k .1), omega (arith, k .1, l), omega (arith, k .0, k .1, h))
+    go (refused before made k first second) x = tt
+
+pub counted-walked : (size at openings limit end a z : ℕ) (w : Answer) {r : Step} → at < end → end < size → a ≤ z → z ≤ a + 65535
+    → Counted (z - a) (openings + 1) limit w → r ≡ stepFrom (end + 1) w → CountedStep size at openings limit r
+counted-walked size at openings limit end a z (Done len made) h g l m k e =
+    rw e (omega (arith, h), omega (arith, g), omega (arith, k .0), k .1, omega (arith, k .2, k .0, l, m, h))
+counted-walked size at openings limit end a z (Refused k first second) h g l m x e = rw e tt
+
+-- ---- the returns of the code, in its reading
+
+module _ (newer : Bool) (list pool : List ℕ) (limit depth : ℕ) (t : List ℕ) (at n : ℕ) where
+  abbrev setting : Settings
+  setting = readingOf (ruleFor newer) list pool limit
+
+  abbrev Steps : List ℕ → List ℕ → Step → Type 0
+  Steps old new r = Stepped (nextAt (attributeHead (ruleFor newer)) t at) (outcomeAt setting (ruleFor newer) depth t at n) old new r
+
+  pub step-zero : depth ≡ 0 → stopByte newer (getD t at 0) ≡ true → {old : List ℕ} {r : Step} → r ≡ Stopped 16 0 0 → Steps old old r
+  step-zero e b q = stepped-refused (at-zero setting newer t at n depth e b) q
+
+  module _ (deep : depth ≢ 0) where
+    pub step-blank : {x : Blanked} → Blank (ruleFor newer) t at x → {old new : List ℕ} {r : Step} → Stepped (at + x .width) (done (x .byte ∷ []) n) old new r → Steps old new r
+    step-blank b s =
+        stepped-as (b .next)
+        (stop-deeper setting depth deep (tokenOf (headAt (attributeHead (ruleFor newer)) t at)) n ∙ b .stands-for setting (λ u m. walk setting (setting .inner) (depth - 1) u m) n)
+        s
+
+    module _ (end : ℕ) (amp : getD t at 0 ≡ 38) (e : NameEnd false t (at + 1) end) where
+      any : setting .legal ≡ anyCharacter
+      unfolding readingOf reading
+      any = refl
+
+      pub step-none : end ≡ length t → {old : List ℕ} {r : Step} → r ≡ Stopped 10 at end → Steps old old r
+      step-none q p = stepped-refused (at-none newer setting any depth deep t at n end amp e q) p
+
+      module _ (h : end < length t) where
+        goes-to : nextAt (attributeHead (ruleFor newer)) t at ≡ end + 1
+        goes-to = next-offset newer setting any depth deep t at n end amp e h
+
+        pub step-number : getD t (at + 1) 0 ≡ 35 → {old new : List ℕ} {r : Step}
+            → Stepped (end + 1) (numberOutcome anyCharacter (take (end - (at + 1 + 1)) (drop (at + 1 + 1) t)) n) old new r → Steps old new r
+        step-number b s = stepped-as goes-to (at-number newer setting any depth deep t at n end amp e h b) s
+
+        module _ (b : getD t (at + 1) 0 ≢ 35) (x : Binding)
+            (same : boundTo pool x ≡ ampOr (take (end - (at + 1)) (drop (at + 1) t)) (binding list pool (take (end - (at + 1)) (drop (at + 1) t)))) where
+          abbrev called : List ℕ
+          called = take (end - (at + 1)) (drop (at + 1) t)
+
+          bound-is : setting .bind called ≡ binding list pool called
+          unfolding readingOf reading
+          bound-is = refl
+
+          pub step-limit : (a z : ℕ) → x ≡ Text a z → n ≡ limit → {old : List ℕ} {r : Step} → r ≡ Stopped 17 at 0 → Steps old old r
+          unfolding readingOf reading
+          step-limit a z k q p =
+              stepped-refused (at-limit newer setting any depth deep t at n end amp e h b (binding list pool called) bound-is pool a z (sym (ap (boundTo pool) k) ∙ same) q) p
+
+          pub step-text : (a z : ℕ) → x ≡ Text a z → n ≢ limit → {old new : List ℕ} {w : Answer} {r : Step}
+              → Walked (walk setting (attributeHead (ruleFor newer)) (depth - 1) (take (z - a) (drop a pool)) (n + 1)) old new w → r ≡ stepFrom (end + 1) w → Steps old new r
+          unfolding readingOf reading
+          step-text a z k q w p =
+              stepped-as goes-to
+              (at-text newer setting any depth deep t at n end amp e h b (binding list pool called) bound-is pool a z (sym (ap (boundTo pool) k) ∙ same) q)
+              (stepped-walked w p)
+
+          pub step-unknown : x ≡ Unknown → {old : List ℕ} {r : Step} → r ≡ Stopped 11 (at + 1) end → Steps old old r
+          step-unknown k p =
+              stepped-refused (at-unknown newer setting any depth deep t at n end amp e h b (binding list pool called) bound-is pool (sym (ap (boundTo pool) k) ∙ same)) p
+
+          pub step-predefined : (c : ℕ) → x ≡ Predefined c → {old new : List ℕ} {r : Step} → Stepped (end + 1) (done (c ∷ []) n) old new r → Steps old new r
+          unfolding readingOf reading
+          step-predefined c k s =
+              stepped-as goes-to
+              (at-predefined newer setting any depth deep t at n end amp e h b (binding list pool called) bound-is pool c (sym (ap (boundTo pool) k) ∙ same)
+              (λ m q. walk-predefined setting newer list pool called (depth - 1) c n m q))
+              s

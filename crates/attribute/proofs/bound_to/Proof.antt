@@ -1,0 +1,30 @@
+use mathlib.Core.Path.{_≡_, refl, sym, ap, _∙_}
+use native.Mathlib.Omega.{arith}
+use Rattle.entity.specs.Binding.{boundTo}
+use borrow.Author.Needs.{needs}
+use Rattle.attribute.proofs.bound_to.Statement.{statement}
+use Rattle.attribute.proofs.bound_to.Tie as tie
+use Rattle.attribute.proofs.bound_to.Reads as reads
+use Rattle.attribute.proofs.bound_to.Lts as lts
+use Rattle.entity.proofs.is_three.Reads as is-three-reads
+use Rattle.entity.proofs.resolve_entity.Reads as resolve-entity-reads
+
+-- src/lib.rt:115:8
+is-three-requires : tie.Need-is-three-requires
+is-three-requires c κs = search needs
+
+-- src/lib.rt:116:9
+returns : tie.Need-returns
+unfolding boundTo
+returns c = (rw (sym (c .before .is-three .ensures) ∙ c .if1 .taken), omega arith)
+
+-- src/lib.rt:118:5
+resolve-entity-requires : tie.Need-resolve-entity-requires
+resolve-entity-requires c κs = search needs
+
+-- src/lib.rt:110:1
+returns-2 : tie.Need-returns-2
+returns-2 c = (c .resolve-entity .ensures .0 ∙ rw (sym (c .before .before .is-three .ensures) ∙ c .before .if1 .left), c .resolve-entity .ensures .1)
+
+pub bound-to-spec : {M : Type 1} → statement M
+bound-to-spec = tie.close (tie.spec is-three-requires returns resolve-entity-requires returns-2)

@@ -1,0 +1,22 @@
+-- The canonical form of an outcome (document 01, Canonical form and Refusals by place). Assumes nothing.
+use mathlib.Core.List.{List, [], _∷_}
+use Prim.Native.Nat.{ℕ}
+use lib.Dec.{ltb}
+use lib.ListN.{length}
+use Rattle.text.specs.Bytes.{pick}
+use Rattle.text.specs.Version.{Rule}
+use Rattle.text.specs.Call.{Called, called, laid, finish}
+use Rattle.canonical.specs.Canonical.{canonical}
+use Rattle.tokens.specs.Outcome.{Outcome, done, refused}
+
+-- a call's answer with one buffer more in front of its own
+abbrev pub besides : List ℕ → Called → Called
+besides scratch (called number words buffers) = called number words (scratch ∷ buffers)
+
+-- 18 where the scratch is shorter than the value; else it holds the value, its rest kept, and the form goes to the output, after 19 too
+unfoldable pub formed : Rule → Outcome → List ℕ → List ℕ → Called
+unfolding finish canonical
+formed r (done value openings) scratch out =
+    pick (ltb (length scratch) (length value)) (called 18 (length value ∷ 0 ∷ []) (scratch ∷ out ∷ []))
+    (besides (laid value scratch) (finish (canonical r value) openings out))
+formed r (refused before openings number first second) scratch out = called number (first ∷ second ∷ []) (scratch ∷ out ∷ [])

@@ -1,0 +1,5 @@
+pub mod Heads
+pub mod Walk
+pub mod Steps
+pub mod Form
+pub mod Checks

@@ -1,0 +1,61 @@
+-- The terms in which the attribute walk's code is proved: stop bytes, blanks, a stop at a depth. Assumes nothing.
+use Prim.Native.Nat.{ℕ, zero, suc, _+_, _*_, _≤_, _<_}
+use mathlib.Core.Path.{_≡_}
+use mathlib.Core.Bool.{Bool, _&&_, _||_}
+use mathlib.Core.List.{List, [], _∷_}
+use lib.Dec.{eqb}
+use lib.ListN.{length}
+use Rattle.text.specs.Bytes.{pick, sameBytes}
+use Rattle.text.specs.Version.{Rule}
+use Rattle.eols.specs.declared.Step.{Step}
+use Rattle.entity.specs.Binding.{Bound, predefined}
+use Rattle.text.specs.declared.Answer.{Answer}
+use Rattle.text.specs.declared.Answer.the-variants.{Done, Refused}
+use Rattle.tokens.specs.declared.Step.{Step as Onward}
+use Rattle.tokens.specs.declared.Step.the-variants.{Next, Stopped}
+use Rattle.tokens.specs.Tokens.{Stop, tokenOf}
+use Rattle.tokens.specs.Outcome.{Outcome, done}
+use Rattle.tokens.specs.Walking.{headAt, nextAt, outcomeOf}
+use Rattle.attribute.specs.Heads.{attributeHead}
+use Rattle.attribute.specs.Walk.{Settings, answer, exhausted, walk}
+
+-- Attribute walk: stop bytes TAB, LF, CR, `&`; for 1.1 also C2 and E2
+abbrev pub stopByte : Bool → ℕ → Bool
+stopByte newer b = eqb b 9 || eqb b 10 || eqb b 13 || eqb b 38 || (newer && (eqb b 0xC2 || eqb b 0xE2))
+
+-- Attribute walk: a stop at a depth
+unfoldable pub stopAnswer : Settings → ℕ → Stop → ℕ → Outcome
+unfolding answer exhausted walk
+stopAnswer s zero = exhausted
+stopAnswer s (suc depth) = answer s (λ u n. walk s (s .inner) depth u n)
+
+-- the stop at an offset of a text, at a depth
+abbrev pub outcomeAt : Settings → Rule → ℕ → List ℕ → ℕ → ℕ → Outcome
+outcomeAt s r depth text at openings = outcomeOf (stopAnswer s depth) (tokenOf (headAt (attributeHead r) text at)) openings
+
+-- a stop other than `&`: the byte that stands for it, and how many bytes it takes up
+pub record Blank (r : Rule) (text : List ℕ) (at : ℕ) (step : Step) : Type 0 where
+  pub some : 1 ≤ step .width
+  pub inside : at + step .width ≤ length text
+  pub next : nextAt (attributeHead r) text at ≡ at + step .width
+  pub stands-for : (s : Settings) (walked : List ℕ → ℕ → Outcome) (n : ℕ)
+      → outcomeOf (answer s walked) (tokenOf (headAt (attributeHead r) text at)) n ≡ done (step .byte ∷ []) n
+
+-- Attribute walk: `amp` gives `&` without asking the table
+abbrev pub ampOr : List ℕ → Bound → Bound
+ampOr name bound = pick (sameBytes name (97 ∷ 109 ∷ 112 ∷ [])) (predefined (38 ∷ [])) bound
+
+-- the answer of a walk over a replacement text as that of its reference
+abbrev pub stepFrom : ℕ → Answer → Onward
+stepFrom next (Done first second) = Next next first second
+stepFrom next (Refused number first second) = Stopped number first second
+
+-- So that no sum overflows: at most four bytes for each byte of the text, and as much for each of 65,535 bytes of an opening.
+abbrev pub Counted : ℕ → ℕ → ℕ → Answer → Type 0
+Counted size openings limit (Done len made) = (openings ≤ made) × (made ≤ limit) × (len + 262140 * openings ≤ 4 * size + 262140 * made)
+Counted size openings limit (Refused number first second) = Unit {0}
+
+abbrev pub CountedStep : ℕ → ℕ → ℕ → ℕ → Onward → Type 0
+CountedStep size at openings limit (Next next len made) =
+    (at < next) × (next ≤ size) × (openings ≤ made) × (made ≤ limit) × (len + 4 * at + 262140 * openings ≤ 4 * next + 262140 * made)
+CountedStep size at openings limit (Stopped number first second) = Unit {0}

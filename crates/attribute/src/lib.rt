@@ -1,0 +1,393 @@
+// Attribute values: normalization and the canonical form. One code path for both versions; `newer` says that it is 1.1.
+ghost use mathlib.Core.Path.{_≡_};
+ghost use mathlib.Core.Bool.{true, false};
+ghost use mathlib.Core.List.{[], _∷_};
+ghost use Prim.Native.Nat.{ℕ, _+_, _≤_, _<_};
+ghost use lib.ListN.{length, getD};
+ghost use Rattle.text.specs.Call.{callOf, finish};
+ghost use Rattle.text.specs.Version.{ruleOf};
+ghost use Rattle.eols.specs.Stops.{ruleFor};
+ghost use Rattle.canonical.specs.Canonical.{canonical};
+ghost use Rattle.entity.specs.Table.{ValidTable};
+ghost use Rattle.entity.specs.Binding.{binding, boundTo, Lies};
+ghost use Rattle.tokens.specs.Outcome.{done, finished};
+ghost use Rattle.output.specs.Runs.{Plain};
+ghost use Rattle.tokens.specs.Walking.{RunEnd, Stepped, Walked, Ended, nextAt};
+ghost use Rattle.attribute.specs.Heads.{attributeHead};
+ghost use Rattle.attribute.specs.Walk.{walk, normalize, readingOf};
+ghost use Rattle.attribute.specs.Form.{formed};
+ghost use Rattle.attribute.specs.Checks.{settingsCheck};
+ghost use Rattle.attribute.specs.Steps.{stopByte, outcomeAt, Blank, ampOr, stepFrom, Counted, CountedStep};
+use entity::Binding;
+use text::Answer;
+use tokens::Step;
+
+// Without branches, so that the block loop runs on vectors.
+fn is_stop(b: u8, newer: bool) -> bool
+    ensures { λ r. ⌜ r ≡ stopByte newer b ⌝ }
+{
+    (b == 9) | (b == 10) | (b == 13) | (b == 38) | (newer & ((b == 0xc2) | (b == 0xe2)))
+}
+
+// Is one of the 32 bytes from i on a stop?
+fn any_stop(text: &[u8], i: usize, newer: bool) -> bool
+    requires { ⌜ i + 32 ≤ length (now text) ⌝ }
+    ensures { λ r. ⌜ (r ≡ false → Plain (stopByte newer) (now (text .entry)) i (i + 32)) ⌝ }
+{
+    let mut hit = false;
+    for k in 0..32usize {
+        hit = hit | is_stop(text[i + k], newer);
+    }
+    hit
+}
+
+fn plain_blocks(text: &[u8], from: usize, newer: bool) -> usize
+    requires { ⌜ from ≤ length (now text) ⌝ }
+    ensures { λ r. ⌜ Plain (stopByte newer) (now (text .entry)) from r ⌝ }
+{
+    let mut i = from;
+    while 32 <= text.len() - i {
+        if any_stop(text, i, newer) {
+            return i;
+        }
+        i += 32;
+    }
+    i
+}
+
+// The next stop from `from` on, or the text's end.
+fn run_end(text: &[u8], from: usize, newer: bool) -> usize
+    requires { ⌜ from ≤ length (now text) ⌝ }
+    ensures { λ r. ⌜ RunEnd (stopByte newer) (now (text .entry)) from r ⌝ }
+{
+    let mut i = plain_blocks(text, from, newer);
+    while i < text.len() {
+        if is_stop(text[i], newer) {
+            return i;
+        }
+        i += 1;
+    }
+    i
+}
+
+// TAB, a line end, or a C2 or E2 that starts none.
+fn blank_at(text: &[u8], at: usize, newer: bool) -> eols::Step
+    requires { ⌜ at < length (now text) ⌝ }
+    requires { ⌜ stopByte newer (getD (now text) at 0) ≡ true ⌝ }
+    requires { ⌜ (getD (now text) at 0 ≡ 38 → ⊥) ⌝ }
+    ensures { λ r. ⌜ Blank (ruleFor newer) (now (text .entry)) at r ⌝ }
+{
+    if text[at] == b'\t' {
+        return eols::Step { byte: 32, width: 1 };
+    }
+    let width = eols::eol_width(text, at, newer);
+    if width == 0 {
+        return eols::Step {
+            byte: text[at],
+            width: 1,
+        };
+    }
+    eols::Step { byte: 32, width }
+}
+
+// One byte written for a stop, at whose end is `next`.
+fn byte_step(b: u8, next: usize, openings: u64, out: &mut [u8]) -> Step
+    ensures { λ r. ⌜ Stepped next (done (b ∷ []) openings) (now (out .entry)) (now (out .exit)) r ⌝ }
+{
+    output::put_byte(b, 0, out);
+    Step::Next {
+        at: next,
+        len: 1,
+        openings,
+    }
+}
+
+fn stopped(number: u32, first: usize, second: usize) -> Step
+    ensures { λ r. ⌜ r ≡ Step.Stopped number first second ⌝ }
+{
+    Step::Stopped {
+        number,
+        first: first as u64,
+        second: second as u64,
+    }
+}
+
+// What a reference's name is bound to; `amp` is not asked of the table.
+fn bound_to(name: &[u8], list: &[u8], pool: &[u8]) -> Binding
+    requires { ⌜ ValidTable (now list) (now pool) ⌝ }
+    ensures { λ r. ⌜ boundTo (now (pool .entry)) r ≡ ampOr (now (name .entry)) (binding (now (list .entry)) (now (pool .entry)) (now (name .entry))) ⌝ }
+    ensures { λ r. ⌜ Lies (now (pool .entry)) r ⌝ }
+{
+    if entity::is_three(name, b'a', b'm', b'p') {
+        return Binding::Predefined(b'&');
+    }
+    entity::resolve_entity(list, pool, name)
+}
+
+// The answer of the walk over a replacement text as that of the reference, at whose end is `next`.
+fn walked_step(walked: Answer, next: usize) -> Step
+    ensures { λ r. ⌜ r ≡ stepFrom next walked ⌝ }
+{
+    match walked {
+        Answer::Done { first, second } => Step::Next {
+            at: next,
+            len: first as usize,
+            openings: second,
+        },
+        Answer::Refused {
+            number,
+            first,
+            second,
+        } => Step::Stopped {
+            number,
+            first,
+            second,
+        },
+    }
+}
+
+// The stop at `at`: what it stands for is written at the start of `out`. A replacement text is walked with the depth one less.
+fn normalize_attr_step(
+    text: &[u8],
+    at: usize,
+    newer: bool,
+    depth: u64,
+    openings: u64,
+    limit: u64,
+    list: &[u8],
+    pool: &[u8],
+    out: &mut [u8],
+) -> Step
+    requires { ⌜ ValidTable (now list) (now pool) ⌝ }
+    requires { ⌜ (at < length (now text)) × (length (now text) ≤ 16777216) ⌝ }
+    requires { ⌜ stopByte newer (getD (now text) at 0) ≡ true ⌝ }
+    requires { ⌜ (openings ≤ limit) × (limit ≤ 1000000) ⌝ }
+    ensures { λ r. ⌜ Stepped (nextAt (attributeHead (ruleFor newer)) (now (text .entry)) at) (outcomeAt (readingOf (ruleFor newer) (now (list .entry)) (now (pool .entry)) limit) (ruleFor newer) depth (now (text .entry)) at openings) (now (out .entry)) (now (out .exit)) r ⌝ }
+    ensures { λ r. ⌜ CountedStep (length (now (text .entry))) at openings limit r ⌝ }
+{
+    if depth == 0 {
+        return stopped(16, 0, 0);
+    }
+    if text[at] != b'&' {
+        let blank = blank_at(text, at, newer);
+        return byte_step(blank.byte, at + blank.width, openings, out);
+    }
+    let from = at + 1;
+    let end = tokens::name_end(text, from, false);
+    if end == text.len() {
+        return stopped(10, at, end);
+    }
+    if text[from] == b'#' {
+        return tokens::number_step(&text[from + 1..end], end + 1, openings, out);
+    }
+    match bound_to(&text[from..end], list, pool) {
+        Binding::Text { start, end: last } => {
+            if openings == limit {
+                return stopped(17, at, 0);
+            }
+            let walked = normalize_attr_steps(
+                &pool[start..last],
+                newer,
+                depth - 1,
+                openings + 1,
+                limit,
+                list,
+                pool,
+                out,
+            );
+            walked_step(walked, end + 1)
+        }
+        Binding::Predefined(b) => byte_step(b, end + 1, openings, out),
+        Binding::Unknown => stopped(11, from, end),
+    }
+}
+
+// The walk over a text, outer or replacement: runs between stops are copied, each stop is handed to the single step.
+fn normalize_attr_steps(
+    text: &[u8],
+    newer: bool,
+    depth: u64,
+    openings: u64,
+    limit: u64,
+    list: &[u8],
+    pool: &[u8],
+    out: &mut [u8],
+) -> Answer
+    requires { ⌜ ValidTable (now list) (now pool) ⌝ }
+    requires { ⌜ length (now text) ≤ 16777216 ⌝ }
+    requires { ⌜ (openings ≤ limit) × (limit ≤ 1000000) ⌝ }
+    ensures { λ r. ⌜ Walked (walk (readingOf (ruleFor newer) (now (list .entry)) (now (pool .entry)) limit) (attributeHead (ruleFor newer)) depth (now (text .entry)) openings) (now (out .entry)) (now (out .exit)) r ⌝ }
+    ensures { λ r. ⌜ Counted (length (now (text .entry))) openings limit r ⌝ }
+{
+    let mut at: usize = 0;
+    let mut len: usize = 0;
+    let mut made = openings;
+    loop {
+        let end = run_end(text, at, newer);
+        let run_at = output::least(len, out.len());
+        output::put_over(&text[at..end], &mut out[run_at..]);
+        len += end - at;
+        if end == text.len() {
+            return Answer::Done {
+                first: len as u64,
+                second: made,
+            };
+        }
+        let rest_at = output::least(len, out.len());
+        match normalize_attr_step(
+            text,
+            end,
+            newer,
+            depth,
+            made,
+            limit,
+            list,
+            pool,
+            &mut out[rest_at..],
+        ) {
+            Step::Next {
+                at: next,
+                len: more,
+                openings: now_made,
+            } => {
+                at = next;
+                len += more;
+                made = now_made;
+            }
+            Step::Stopped {
+                number,
+                first,
+                second,
+            } => {
+                return Answer::Refused {
+                    number,
+                    first,
+                    second,
+                };
+            }
+        }
+    }
+}
+
+// The value goes to the start of `out`; a buffer that is too short is refused by the number given. Counts first, over no output, so
+// that a refusal leaves the buffer.
+fn normalize_into(
+    text: &[u8],
+    newer: bool,
+    depth: u64,
+    limit: u64,
+    list: &[u8],
+    pool: &[u8],
+    short: u32,
+    out: &mut [u8],
+) -> Answer
+    requires { ⌜ ValidTable (now list) (now pool) ⌝ }
+    requires { ⌜ length (now text) ≤ 16777216 ⌝ }
+    requires { ⌜ limit ≤ 1000000 ⌝ }
+    ensures { λ r. ⌜ Ended short (normalize (readingOf (ruleFor newer) (now (list .entry)) (now (pool .entry)) limit) depth (now (text .entry))) (now (out .entry)) (now (out .exit)) r ⌝ }
+    ensures { λ r. ⌜ Counted (length (now (text .entry))) 0 limit r ⌝ }
+{
+    let counted = normalize_attr_steps(text, newer, depth, 0, limit, list, pool, &mut out[..0]);
+    let Answer::Done {
+        first: len,
+        second: _,
+    } = counted
+    else {
+        return counted;
+    };
+    if (out.len() as u64) < len {
+        return Answer::Refused {
+            number: short,
+            first: len,
+            second: 0,
+        };
+    }
+    normalize_attr_steps(text, newer, depth, 0, limit, list, pool, out)
+}
+
+// Refusals 2, 3 and 4.
+pub fn check_settings(version: u8, depth: u64, limit: u64) -> Answer
+    ensures { λ r. ⌜ r ≡ settingsCheck version depth limit ⌝ }
+{
+    if 128 < depth {
+        return Answer::Refused {
+            number: 2,
+            first: 0,
+            second: 0,
+        };
+    }
+    if 1000000 < limit {
+        return Answer::Refused {
+            number: 3,
+            first: 0,
+            second: 0,
+        };
+    }
+    text::check_version(version)
+}
+
+// The attribute value normalized. Success: the length written, the openings.
+pub fn normalize_attribute_value(
+    text: &[u8],
+    version: u8,
+    depth: u64,
+    limit: u64,
+    list: &[u8],
+    pool: &[u8],
+    out: &mut [u8],
+) -> Answer
+    requires { ⌜ ValidTable (now list) (now pool) ⌝ }
+    requires { ⌜ length (now text) ≤ 16777216 ⌝ }
+    requires { ⌜ limit ≤ 1000000 ⌝ }
+    ensures { λ r. ⌜ callOf r (now (out .exit) ∷ []) ≡ finished (normalize (readingOf (ruleOf version) (now (list .entry)) (now (pool .entry)) limit) depth (now (text .entry))) (now (out .entry)) ⌝ }
+{
+    normalize_into(text, 1 < version, depth, limit, list, pool, 19, out)
+}
+
+// The canonical form of a value that a scratch holds.
+fn canonical_into(value: &[u8], newer: bool, openings: u64, out: &mut [u8]) -> Answer
+    requires { ⌜ length (now value) ≤ 0x1000000000000 ⌝ }
+    ensures { λ r. ⌜ callOf r (now (out .exit) ∷ []) ≡ finish (canonical (ruleFor newer) (now (value .entry))) openings (now (out .entry)) ⌝ }
+{
+    let length = canonical::canonical_length(value, newer);
+    if out.len() < length {
+        return Answer::Refused {
+            number: 19,
+            first: length as u64,
+            second: 0,
+        };
+    }
+    let written = canonical::write_canonical(value, newer, out);
+    Answer::Done {
+        first: written as u64,
+        second: openings,
+    }
+}
+
+// The value goes to the scratch, its canonical form to the output. Success: the length written, the openings.
+pub fn canonical_form(
+    text: &[u8],
+    version: u8,
+    depth: u64,
+    limit: u64,
+    list: &[u8],
+    pool: &[u8],
+    scratch: &mut [u8],
+    out: &mut [u8],
+) -> Answer
+    requires { ⌜ ValidTable (now list) (now pool) ⌝ }
+    requires { ⌜ length (now text) ≤ 16777216 ⌝ }
+    requires { ⌜ limit ≤ 1000000 ⌝ }
+    ensures { λ r. ⌜ callOf r (now (scratch .exit) ∷ now (out .exit) ∷ []) ≡ formed (ruleOf version) (normalize (readingOf (ruleOf version) (now (list .entry)) (now (pool .entry)) limit) depth (now (text .entry))) (now (scratch .entry)) (now (out .entry)) ⌝ }
+{
+    let newer = 1 < version;
+    let filled = normalize_into(text, newer, depth, limit, list, pool, 18, scratch);
+    let Answer::Done {
+        first: len,
+        second: openings,
+    } = filled
+    else {
+        return filled;
+    };
+    canonical_into(&scratch[..len as usize], newer, openings, out)
+}
