@@ -1,1 +1,3 @@
 mod Lent
+pub mod Passing
+mod Checks

@@ -2,7 +2,7 @@
 use mathlib.Core.List.{List, [], _∷_}
 use Prim.Native.Nat.{ℕ}
 use lib.ListN.{length}
-use Rattle.text.specs.Call.{Called, called, callOf, guarded, textCheck, argumentCheck, versionCheck, finish}
+use Rattle.text.specs.Call.{Called, called, callOf, andThen, guarded, textCheck, argumentCheck, versionCheck, finish}
 use Rattle.text.specs.Version.{ruleOf}
 use Rattle.escape.specs.Escape.{levelCheck, levelOf, levelSet, write}
 use Rattle.eols.specs.LineEnds.{eols}
@@ -13,6 +13,13 @@ use Rattle.utils.specs.declared.Cursor.{Cursor}
 use Rattle.utils.specs.declared.Stepped.{Stepped}
 use Rattle.utils.specs.CData.{cdataStep, pieceAnswer}
 use Rattle.govlezna.specs.declared.CDataNext.{CDataNext}
+use Rattle.entity.specs.Table.{tableCheck}
+use Rattle.entity.specs.Binding.{binding}
+use Rattle.tokens.specs.Outcome.{Outcome, finished}
+use Rattle.unescape.specs.Unescape.{unescape}
+use Rattle.attribute.specs.Checks.{settingsCheck}
+use Rattle.attribute.specs.Walk.{normalize, readingOf}
+use Rattle.attribute.specs.Form.{formed}
 use Rattle.charref.specs.CharRef.{charNumber, anyCharacter, numberAnswer}
 
 -- document 01, UTF-8: 1 and 5, else the text's length
@@ -55,3 +62,30 @@ cursorGuarded (Refused number first second) cursor step = cursorLeft (Refused nu
 -- document 01, CDATA: 1 and 5, then 20; the piece, or "no more"; the cursor changes with a piece only
 unfoldable pub cdataNextCall : List ℕ → Cursor → CDataNext
 cdataNextCall text cursor = cursorGuarded (textCheck text) cursor (cdataStep text cursor)
+
+-- document 01, entity table: 6 to 9, else the number of declarations
+unfoldable pub checkTableCall : List ℕ → List ℕ → Called
+checkTableCall list pool = callOf (tableCheck list pool) []
+
+-- document 01, unescaping: 1 and 5, 6 to 9, then 10 to 15 and 19, else the text unescaped
+unfoldable pub unescapeCall : List ℕ → List ℕ → List ℕ → List ℕ → Called
+unescapeCall text list pool out =
+    guarded (andThen (textCheck text) (tableCheck list pool)) (out ∷ []) (finished (unescape (binding list pool) text) out)
+
+-- document 01, attribute walk: the checks of its arguments, 1 to 9
+abbrev pub walkCheck : List ℕ → ℕ → ℕ → ℕ → List ℕ → List ℕ → Answer
+walkCheck text version depth limit list pool = andThen (argumentCheck text (settingsCheck version depth limit)) (tableCheck list pool)
+
+-- document 01, attribute walk: what the walk makes of a text, with the settings of a call
+abbrev pub walked : List ℕ → ℕ → ℕ → ℕ → List ℕ → List ℕ → Outcome
+walked text version depth limit list pool = normalize (readingOf (ruleOf version) list pool limit) depth text
+
+-- document 01, attribute walk: 1 to 9, then 10 to 17 and 19, else the value and its openings
+unfoldable pub normalizeAttributeValueCall : List ℕ → ℕ → ℕ → ℕ → List ℕ → List ℕ → List ℕ → Called
+normalizeAttributeValueCall text version depth limit list pool out =
+    guarded (walkCheck text version depth limit list pool) (out ∷ []) (finished (walked text version depth limit list pool) out)
+
+-- document 01, canonical form: 1 to 9, then 10 to 17, 18 and 19, else the form, and the value in the scratch
+unfoldable pub canonicalFormCall : List ℕ → ℕ → ℕ → ℕ → List ℕ → List ℕ → List ℕ → List ℕ → Called
+canonicalFormCall text version depth limit list pool scratch out =
+    guarded (walkCheck text version depth limit list pool) (scratch ∷ out ∷ []) (formed (ruleOf version) (walked text version depth limit list pool) scratch out)

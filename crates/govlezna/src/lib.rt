@@ -5,8 +5,10 @@ use utils::Part;
 ghost use mathlib.Core.Path.{_≡_};
 ghost use mathlib.Core.List.{List, [], _∷_};
 ghost use Prim.Native.Nat.{ℕ};
-ghost use Rattle.text.specs.Call.{called, callOf};
-ghost use Rattle.govlezna.specs.Calls.{checkUtf8Call, parseNumberCall, escapeCall, normalizeEolsCall, partCall, trimCall, cursorLeft, cdataNextCall};
+ghost use Rattle.text.specs.Call.{called, callOf, andThen, textCheck};
+ghost use Rattle.charref.specs.CharRef.{numberAnswer, charNumber, anyCharacter};
+ghost use Rattle.entity.specs.Table.{tableCheck};
+ghost use Rattle.govlezna.specs.Calls.{checkUtf8Call, parseNumberCall, escapeCall, normalizeEolsCall, partCall, trimCall, cursorLeft, cdataNextCall, checkTableCall, unescapeCall, walkCheck, normalizeAttributeValueCall, canonicalFormCall};
 ghost use Rattle.govlezna.specs.declared.CDataNext.{CDataNext};
 ghost use Rattle.utils.specs.Trim.{trimStart, trimEnd, trimSpaces};
 
@@ -61,20 +63,44 @@ pub extern "C" fn govlezna_check_utf8(text: &[u8], answer: &mut [u64; 2]) -> u32
     )
 }
 
-// The text after `#` of a character reference. Success: the character's number.
-#[no_mangle]
-pub extern "C" fn govlezna_parse_number(text: &[u8], answer: &mut [u64; 2]) -> u32
-    ensures { λ r. ⌜ called r (now (answer .exit)) [] ≡ parseNumberCall (now (text .entry)) ⌝ }
+// The checks of the text, and the number. Digits are ASCII: only where there is no number may the text be no UTF-8.
+fn checked_number(text: &[u8]) -> Answer
+    ensures { λ r. ⌜ r ≡ andThen (textCheck (now (text .entry))) (numberAnswer (charNumber anyCharacter (now (text .entry)))) ⌝ }
 {
-    let valid = text::check_text(text);
+    let length = text::check_length(text);
+    let Answer::Done {
+        first: _,
+        second: _,
+    } = length
+    else {
+        return length;
+    };
+    let number = charref::answer_of(charref::parse_number(text));
+    let Answer::Refused {
+        number: _,
+        first: _,
+        second: _,
+    } = number
+    else {
+        return number;
+    };
+    let valid = text::check_utf8(text);
     let Answer::Done {
         first: _,
         second: _,
     } = valid
     else {
-        return put(valid, answer);
+        return valid;
     };
-    put(charref::answer_of(charref::parse_number(text)), answer)
+    number
+}
+
+// The text after `#` of a character reference. Success: the character's number.
+#[no_mangle]
+pub extern "C" fn govlezna_parse_number(text: &[u8], answer: &mut [u64; 2]) -> u32
+    ensures { λ r. ⌜ called r (now (answer .exit)) [] ≡ parseNumberCall (now (text .entry)) ⌝ }
+{
+    put(checked_number(text), answer)
 }
 
 // The text at one of the four levels. Success: the length written.
@@ -117,6 +143,115 @@ pub extern "C" fn govlezna_normalize_eols(
         return put(version_checked, answer);
     };
     put(eols::normalize_eols(text, version, out), answer)
+}
+
+// Is the table valid? Success: the number of its declarations.
+#[no_mangle]
+pub extern "C" fn govlezna_check_table(list: &[u8], pool: &[u8], answer: &mut [u64; 2]) -> u32
+    ensures { λ r. ⌜ called r (now (answer .exit)) [] ≡ checkTableCall (now (list .entry)) (now (pool .entry)) ⌝ }
+{
+    put(entity::check_table(list, pool), answer)
+}
+
+// The checks of a text and a table, in document 01's order: 1 to 5 were made before, 6 to 9 come after them.
+fn check_with_table(checked: Answer, list: &[u8], pool: &[u8]) -> Answer
+    ensures { λ r. ⌜ r ≡ andThen checked (tableCheck (now (list .entry)) (now (pool .entry))) ⌝ }
+{
+    let Answer::Done {
+        first: _,
+        second: _,
+    } = checked
+    else {
+        return checked;
+    };
+    entity::check_table(list, pool)
+}
+
+// References become what they stand for; a replacement text is copied and not opened. Success: the length written.
+#[no_mangle]
+pub extern "C" fn govlezna_unescape(
+    text: &[u8],
+    list: &[u8],
+    pool: &[u8],
+    out: &mut [u8],
+    answer: &mut [u64; 2],
+) -> u32
+    ensures { λ r. ⌜ called r (now (answer .exit)) (now (out .exit) ∷ []) ≡ unescapeCall (now (text .entry)) (now (list .entry)) (now (pool .entry)) (now (out .entry)) ⌝ }
+{
+    let table_checked = check_with_table(text::check_text(text), list, pool);
+    let Answer::Done {
+        first: _,
+        second: _,
+    } = table_checked
+    else {
+        return put(table_checked, answer);
+    };
+    put(unescape::unescape_with(text, list, pool, out), answer)
+}
+
+// The checks of a call that walks an attribute value.
+fn check_walk(text: &[u8], version: u8, depth: u64, limit: u64, list: &[u8], pool: &[u8]) -> Answer
+    ensures { λ r. ⌜ r ≡ walkCheck (now (text .entry)) version depth limit (now (list .entry)) (now (pool .entry)) ⌝ }
+{
+    let settings = attribute::check_settings(version, depth, limit);
+    check_with_table(text::check_arguments(text, settings), list, pool)
+}
+
+// The attribute value normalized. Success: the length written, the openings.
+#[no_mangle]
+pub extern "C" fn govlezna_normalize_attribute_value(
+    text: &[u8],
+    version: u8,
+    depth: u64,
+    limit: u64,
+    list: &[u8],
+    pool: &[u8],
+    out: &mut [u8],
+    answer: &mut [u64; 2],
+) -> u32
+    ensures { λ r. ⌜ called r (now (answer .exit)) (now (out .exit) ∷ []) ≡ normalizeAttributeValueCall (now (text .entry)) version depth limit (now (list .entry)) (now (pool .entry)) (now (out .entry)) ⌝ }
+{
+    let walk_checked = check_walk(text, version, depth, limit, list, pool);
+    let Answer::Done {
+        first: _,
+        second: _,
+    } = walk_checked
+    else {
+        return put(walk_checked, answer);
+    };
+    put(
+        attribute::normalize_attribute_value(text, version, depth, limit, list, pool, out),
+        answer,
+    )
+}
+
+// The canonical form of the normalized value, which the scratch takes. Success: the length written, the openings.
+#[no_mangle]
+pub extern "C" fn govlezna_canonical_form(
+    text: &[u8],
+    version: u8,
+    depth: u64,
+    limit: u64,
+    list: &[u8],
+    pool: &[u8],
+    scratch: &mut [u8],
+    out: &mut [u8],
+    answer: &mut [u64; 2],
+) -> u32
+    ensures { λ r. ⌜ called r (now (answer .exit)) (now (scratch .exit) ∷ now (out .exit) ∷ []) ≡ canonicalFormCall (now (text .entry)) version depth limit (now (list .entry)) (now (pool .entry)) (now (scratch .entry)) (now (out .entry)) ⌝ }
+{
+    let form_checked = check_walk(text, version, depth, limit, list, pool);
+    let Answer::Done {
+        first: _,
+        second: _,
+    } = form_checked
+    else {
+        return put(form_checked, answer);
+    };
+    put(
+        attribute::canonical_form(text, version, depth, limit, list, pool, scratch, out),
+        answer,
+    )
 }
 
 // A part of the text, which a trim finds in any bytes, once the text is checked.

@@ -1,0 +1,45 @@
+-- What the checks of a call let pass. Assumes nothing.
+use mathlib.Core.Path.{_≡_, refl}
+use mathlib.Core.List.{List}
+use Prim.Native.Nat.{ℕ, _≤_}
+use native.Mathlib.Omega.{arith}
+use lib.ListN.{length}
+use Rattle.text.specs.Call.{andThen, lengthCheck, utf8Check, textCheck, argumentCheck}
+use Rattle.text.specs.declared.Answer.{Answer}
+use Rattle.text.specs.declared.Answer.the-variants.{Done, Refused}
+use Rattle.text.proofs.Call.{checked-length}
+use Rattle.entity.specs.Table.{tableCheck, ValidTable}
+use Rattle.entity.proofs.Tables.{checked-table}
+use Rattle.attribute.specs.Checks.{settingsCheck}
+use Rattle.attribute.proofs.Checked.{checked-settings}
+use Rattle.govlezna.specs.Calls.{walkCheck}
+
+record Passes (a : Answer) : Type 0 where
+  first : ℕ
+  second : ℕ
+  is : a ≡ Done first second
+
+-- two checks, one after the other
+both : (a b : Answer) {first second : ℕ} → andThen a b ≡ Done first second → Passes a × (b ≡ Done first second)
+both (Done x y) b e = (record { first = x; second = y; is = refl }, e)
+both (Refused number x y) b e = let z : _≡_ {A = ℕ} 0 1 = cc in absurd (omega arith)
+
+module _ (text list pool : List ℕ) (others : Answer) {r : Answer} {first second : ℕ} (e : r ≡ andThen (andThen (lengthCheck text) others) (tableCheck list pool)) (d : r ≡ Done first second) where
+  pub passed-table : ValidTable list pool
+  passed-table = checked-table list pool refl (both (andThen (lengthCheck text) others) (tableCheck list pool) (let q : andThen (andThen (lengthCheck text) others) (tableCheck list pool) ≡ Done first second = cc in q) .1)
+
+  front : Passes (andThen (lengthCheck text) others)
+  front = both (andThen (lengthCheck text) others) (tableCheck list pool) (let q : andThen (andThen (lengthCheck text) others) (tableCheck list pool) ≡ Done first second = cc in q) .0
+
+  pub passed-length : length text ≤ 16777216
+  passed-length = checked-length text others (front .is)
+
+  passed-others : Passes others
+  passed-others = let k = both (lengthCheck text) others (front .is) .1 in record { first = front .first; second = front .second; is = k }
+
+module _ (text : List ℕ) (version depth limit : ℕ) (list pool : List ℕ) {r : Answer} {first second : ℕ} (e : r ≡ walkCheck text version depth limit list pool) (d : r ≡ Done first second) where
+  pub passed-limit : limit ≤ 1000000
+  passed-limit =
+      let k = passed-others text list pool (andThen (settingsCheck version depth limit) (utf8Check text)) e d in
+      let s = both (settingsCheck version depth limit) (utf8Check text) (k .is) .0 in
+      checked-settings version depth limit (s .is) .1
