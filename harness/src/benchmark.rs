@@ -1,5 +1,7 @@
 //! Measures each call against the Rust that does the same work, on the same bytes.
 
+mod entities;
+
 use crate::calls::Call;
 use crate::inputs::number::{written_to_length, Form};
 use crate::inputs::text::{text, Mix};
@@ -30,6 +32,10 @@ pub fn run(calls: &[&Call]) {
             "escape" => escape(),
             "trim_xml_start" | "trim_xml_end" | "trim_xml_spaces" => trim(call.name),
             "cdata_next" => cdata_next(),
+            "check_table" => entities::check_table(call.run),
+            "unescape" => entities::unescape(call.run),
+            "normalize_attribute_value" => entities::normalize_attribute_value(call.run),
+            "canonical_form" => entities::canonical_form(call.run),
             name => panic!("no rows for {name}"),
         });
     }
@@ -38,10 +44,12 @@ pub fn run(calls: &[&Call]) {
         rows.iter_mut().for_each(Row::measure);
     }
     println!(
-        "| call | input | bytes | ours, ns | Rust, ns | ours / Rust | ours / Rust on `&str` |"
+        "| call | input | bytes | ours, ns | Rust, ns | ours / Rust | ours / Rust on `&str` \
+         | ours / Rust into a buffer |"
     );
-    println!("|---|---|--:|--:|--:|--:|--:|");
+    println!("|---|---|--:|--:|--:|--:|--:|--:|");
     rows.iter().for_each(Row::print);
+    entities::print_lookup(&rows);
 }
 
 /// A call on one input, ours and the Rust's.
@@ -54,6 +62,8 @@ struct Row {
     rust: Side,
     /// On a text that is known to be UTF-8.
     unchecked: Option<Side>,
+    /// With the check, and the result copied to where the caller wants it, as our calls write it.
+    into_buffer: Option<Side>,
 }
 
 impl Row {
@@ -61,23 +71,24 @@ impl Row {
     fn measure(&mut self) {
         self.ours.measure();
         self.rust.measure();
-        if let Some(unchecked) = &mut self.unchecked {
-            unchecked.measure();
-        }
+        let others = [&mut self.unchecked, &mut self.into_buffer];
+        others.into_iter().flatten().for_each(Side::measure);
     }
 
     fn print(&self) {
         let (ours, rust) = (self.ours.best, self.rust.best);
-        let unchecked = match &self.unchecked {
+        let ratio = |side: &Option<Side>| match side {
             Some(side) => format!("{:.2}", ours / side.best),
             None => String::new(),
         };
         println!(
-            "| {} | {} | {} | {ours:.1} | {rust:.1} | {:.2} | {unchecked} |",
+            "| {} | {} | {} | {ours:.1} | {rust:.1} | {:.2} | {} | {} |",
             self.call,
             self.input,
             self.bytes,
-            ours / rust
+            ours / rust,
+            ratio(&self.unchecked),
+            ratio(&self.into_buffer)
         );
     }
 }
@@ -216,7 +227,6 @@ fn output_rows(
     rows
 }
 
-/// Our output is allocated once; the Rust's side makes a `Cow` each time, as it has to.
 fn output_row(
     call: &str,
     input: &'static str,
@@ -233,15 +243,40 @@ fn output_row(
         // SAFETY: text, output and words are of the lengths stated.
         unsafe { ours(text.as_ptr(), length, choice, out, out_length, words) }
     };
-    let rust = move |words: &mut [u64; 2]| made(from_utf8(black_box(text)).unwrap(), rule, words);
-    let valid = from_utf8(text).unwrap();
-    let unchecked = move |words: &mut [u64; 2]| made(valid, rule, words);
-    row(call, input, text.len(), ours, rust, Some(unchecked))
+    writing_row(call, input, text, ours, move |text| (rule(text), 0))
 }
 
-fn made(text: &str, rule: Rule, words: &mut [u64; 2]) -> u32 {
-    let result = black_box(rule(text));
-    *words = [result.len() as u64, 0];
+/// A result, and the second answer word.
+type Made = (Cow<'static, str>, u64);
+
+/// Our output is allocated once; the Rust's side makes a `Cow` each time, as it has to.
+fn writing_row(
+    call: &str,
+    input: &'static str,
+    text: &'static [u8],
+    ours: impl Once,
+    make: impl Fn(&'static str) -> Made + Copy + 'static,
+) -> Row {
+    let valid = from_utf8(text).unwrap();
+    let checked = move || from_utf8(black_box(text)).unwrap();
+    let out = vec![0; make(valid).0.len()].leak();
+    let rust = move |words: &mut [u64; 2]| told(&make(checked()), words);
+    let unchecked = move |words: &mut [u64; 2]| told(&make(valid), words);
+    let into_buffer = move |words: &mut [u64; 2]| {
+        let made = make(checked());
+        out.copy_from_slice(made.0.as_bytes());
+        black_box(&out);
+        told(&made, words)
+    };
+    Row {
+        into_buffer: Some(Side::new(repeated(into_buffer))),
+        ..row(call, input, text.len(), ours, rust, Some(unchecked))
+    }
+}
+
+fn told(made: &Made, words: &mut [u64; 2]) -> u32 {
+    let (result, second) = black_box(made);
+    *words = [result.len() as u64, *second];
     0
 }
 
@@ -466,6 +501,7 @@ fn row(
         ours: Side::new(repeated(ours)),
         rust: Side::new(repeated(rust)),
         unchecked: unchecked.map(|once| Side::new(repeated(once))),
+        into_buffer: None,
     }
 }
 

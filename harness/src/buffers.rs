@@ -5,6 +5,7 @@ use crate::calls::{Arguments, Place, Room};
 use crate::inputs::MOST_SPARE;
 use crate::library::{Cursor, Lent};
 use crate::oracle::{Answer, LONGEST_TEXT};
+use crate::table::{Table, LONGEST_LIST, LONGEST_POOL};
 
 const GUARD: usize = 64;
 /// Buffers start at every address modulo this.
@@ -15,7 +16,8 @@ const CURSOR: usize = std::mem::size_of::<Cursor>();
 /// The offset and the flag; what follows is padding, which may change.
 const CURSOR_FIELDS: usize = WORD + 1;
 /// The longest text at 6 bytes for each of its own, and what is spare.
-const LONGEST_OUTPUT: usize = 6 * LONGEST_TEXT + MOST_SPARE;
+pub const LONGEST_OUTPUT: usize = 6 * LONGEST_TEXT + MOST_SPARE;
+pub const LONGEST_SCRATCH: usize = LONGEST_TEXT + MOST_SPARE;
 
 /// Buffers and guards take these in turn: a byte that happens to be written as it was is seen at
 /// another turn. A text read past its end goes on with a digit, a lead byte or a continuation byte.
@@ -65,6 +67,26 @@ impl Guarded {
         &mut self.memory[self.start..self.end]
     }
 
+    /// Takes a copy of what a call is to read, unless it lies elsewhere, and says where it lies.
+    fn hold(&mut self, bytes: &[u8], place: Place, alignment: usize, fill: u8) -> *const u8 {
+        let copied = match place {
+            Place::Any | Place::At(_) => bytes,
+            Place::Null | Place::Itself => &[],
+        };
+        self.prefill(copied.len(), alignment, fill)
+            .copy_from_slice(copied);
+        match place {
+            Place::Any | Place::At(_) => self.pointer(),
+            Place::Null => std::ptr::null(),
+            Place::Itself => bytes.as_ptr(),
+        }
+    }
+
+    /// The same check for bytes that a call only reads.
+    fn damage_of_held(&self, bytes: &[u8]) -> Option<Damage> {
+        self.damage(&bytes[..self.content().len()])
+    }
+
     fn pointer(&mut self) -> *mut u8 {
         self.memory[self.start..].as_mut_ptr()
     }
@@ -110,6 +132,9 @@ fn is_filled(bytes: &[u8], fill: u8) -> bool {
 /// All that a call can be lent.
 pub struct Buffers {
     text: Guarded,
+    list: Guarded,
+    pool: Guarded,
+    scratch: Guarded,
     out: Guarded,
     cursor: Guarded,
     answer: Guarded,
@@ -119,6 +144,9 @@ impl Buffers {
     pub fn new() -> Self {
         Buffers {
             text: Guarded::new("the text", LONGEST_TEXT + 1),
+            list: Guarded::new("the list", LONGEST_LIST + 1),
+            pool: Guarded::new("the pool", LONGEST_POOL + 1),
+            scratch: Guarded::new("the scratch", LONGEST_SCRATCH),
             out: Guarded::new("the output", LONGEST_OUTPUT),
             cursor: Guarded::new("the cursor", CURSOR),
             answer: Guarded::new("the answer words", WORDS * WORD),
@@ -126,37 +154,42 @@ impl Buffers {
     }
 
     /// Fills the buffers for one call. `turn` picks the fill, and addresses that are left open.
-    pub fn lend(&mut self, arguments: &Arguments, room: usize, turn: usize) -> Lent {
+    pub fn lend(&mut self, arguments: &Arguments, expected: &Answer, turn: usize) -> Lent {
         let fill = FILLS[turn % FILLS.len()];
-        let copied = copied(arguments);
         let alignment = match arguments.place {
             Place::At(alignment) => alignment,
             _ => turn % ALIGNMENTS,
         };
-        self.text
-            .prefill(copied.len(), alignment, fill)
-            .copy_from_slice(copied);
         // Every address of the output meets every address of the text.
-        self.out.prefill(room, turn / ALIGNMENTS % ALIGNMENTS, fill);
+        let other_alignment = turn / ALIGNMENTS % ALIGNMENTS;
+        self.out.prefill(expected.room, other_alignment, fill);
+        self.scratch
+            .prefill(expected.scratch_room, other_alignment ^ alignment, fill);
         // A cursor and an array of words are owed no more than a word's alignment.
         self.cursor
             .prefill(CURSOR, (turn + 3) * WORD % ALIGNMENTS, fill)[..CURSOR_FIELDS]
             .copy_from_slice(&fields(arguments.cursor));
         self.answer
             .prefill(WORDS * WORD, turn * WORD % ALIGNMENTS, fill);
+        let Table { list, pool } = arguments.table;
+        let list_place = place_in_table(list, LONGEST_LIST, turn);
+        let pool_place = place_in_table(pool, LONGEST_POOL, turn);
         Lent {
-            text: match arguments.place {
-                Place::Null => std::ptr::null(),
-                Place::Itself => arguments.text.as_ptr(),
-                Place::Any | Place::At(_) => self.text.pointer(),
-            },
+            text: self
+                .text
+                .hold(arguments.text, arguments.place, alignment, fill),
             text_length: arguments.text.len(),
             choice: arguments.choice,
-            out: match arguments.room {
-                Room::Null => std::ptr::null_mut(),
-                _ => self.out.pointer(),
-            },
-            out_length: room,
+            depth: arguments.depth,
+            limit: arguments.limit,
+            list: self.list.hold(list, list_place, other_alignment, fill),
+            list_length: list.len(),
+            pool: self.pool.hold(pool, pool_place, alignment, fill),
+            pool_length: pool.len(),
+            scratch: lent_pointer(&mut self.scratch, arguments.scratch),
+            scratch_length: expected.scratch_room,
+            out: lent_pointer(&mut self.out, arguments.room),
+            out_length: expected.room,
             cursor: self.cursor.pointer().cast(),
             answer: self.answer.pointer().cast(),
         }
@@ -170,8 +203,11 @@ impl Buffers {
         self.answer
             .damage(&words)
             .or_else(|| self.out.damage(&expected.written))
+            .or_else(|| self.scratch.damage(&expected.scratch))
             .or_else(|| self.cursor.damage(&self.cursor_bytes(expected.cursor)))
-            .or_else(|| self.text.damage(copied(arguments)))
+            .or_else(|| self.text.damage_of_held(arguments.text))
+            .or_else(|| self.list.damage_of_held(arguments.table.list))
+            .or_else(|| self.pool.damage_of_held(arguments.table.pool))
     }
 
     /// What the cursor's buffer has to hold, with the padding as it is found.
@@ -196,10 +232,18 @@ fn fields(cursor: Cursor) -> [u8; CURSOR_FIELDS] {
     bytes
 }
 
-/// What of the text lies in the guarded buffer.
-fn copied<'a>(arguments: &Arguments<'a>) -> &'a [u8] {
-    match arguments.place {
-        Place::Any | Place::At(_) => arguments.text,
-        Place::Null | Place::Itself => &[],
+/// Too long to be copied: where the input has it. Of no bytes: NULL at every other turn.
+fn place_in_table(bytes: &[u8], longest: usize, turn: usize) -> Place {
+    match bytes.len() {
+        0 if turn % 2 == 0 => Place::Null,
+        length if length > longest + 1 => Place::Itself,
+        _ => Place::Any,
+    }
+}
+
+fn lent_pointer(buffer: &mut Guarded, room: Room) -> *mut u8 {
+    match room {
+        Room::Null => std::ptr::null_mut(),
+        _ => buffer.pointer(),
     }
 }

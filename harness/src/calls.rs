@@ -1,13 +1,16 @@
 //! The calls that are compared. A new one is declared in library.rs, answered in oracle.rs, given
 //! inputs in inputs/ and listed here.
 
+use crate::inputs::attribute::{self, Attribute};
 use crate::inputs::cdata::{self, Cdata};
 use crate::inputs::eols::Eols;
 use crate::inputs::escape::{self, Escape};
 use crate::inputs::trim::{self, Trim};
-use crate::inputs::{self, number, utf8, woven, Family};
+use crate::inputs::unescape::{self, Unescape};
+use crate::inputs::{self, canonical, entities, number, table, utf8, woven, Family};
 use crate::library::{self, Cursor, Run};
 use crate::oracle::{self, Answer};
+use crate::table::{Table, EMPTY};
 
 /// What a caller hands over. A call reads the parts that it has.
 #[derive(Clone, Copy)]
@@ -16,7 +19,11 @@ pub struct Arguments<'a> {
     pub place: Place,
     /// The level or the version.
     pub choice: u8,
+    pub depth: u64,
+    pub limit: u64,
+    pub table: Table<'a>,
     pub room: Room,
+    pub scratch: Room,
     pub cursor: Cursor,
 }
 
@@ -33,7 +40,7 @@ pub enum Place {
     Itself,
 }
 
-/// How long the output is, beside the result.
+/// How long the output is, beside the result, or the scratch, beside the value.
 #[derive(Clone, Copy, PartialEq, Eq)]
 pub enum Room {
     Exact,
@@ -69,21 +76,50 @@ impl<'a> Arguments<'a> {
             text,
             place,
             choice: 0,
+            depth: oracle::entities::DEEPEST,
+            limit: oracle::entities::MOST_OPENINGS,
+            table: EMPTY,
             room: Room::Exact,
+            scratch: Room::Exact,
             cursor: Cursor::default(),
+        }
+    }
+
+    pub fn of_table(table: Table<'a>) -> Self {
+        Arguments {
+            table,
+            ..Arguments::text(&[])
         }
     }
 }
 
-/// What a call has beside a text and the answer words.
+/// What a call has beside the answer words.
 #[derive(Clone, Copy, PartialEq, Eq)]
 pub enum Form {
     Text,
-    /// A level or a version, and an output.
+    /// A text, a level or a version, and an output.
     Output,
-    /// Nothing; the answer is a part of the text.
+    /// A text; the answer is a part of it.
     Part,
+    /// A text and a cursor.
     Cursor,
+    /// A table alone.
+    Table,
+    /// A text, a table and an output.
+    Unescape,
+    /// A text, a version, a depth, a limit, a table and an output.
+    Attribute,
+    /// The same, with a scratch before the output.
+    Canonical,
+}
+
+impl Form {
+    pub fn has_table(self) -> bool {
+        matches!(
+            self,
+            Form::Table | Form::Unescape | Form::Attribute | Form::Canonical
+        )
+    }
 }
 
 pub struct Call {
@@ -206,6 +242,120 @@ pub const CALLS: &[Call] = &[
         random: woven::random::<Cdata>,
     },
 ];
+
+/// Not in the library yet. A call that moves from here to the list above is compared.
+#[allow(dead_code)]
+const NOT_YET: &[Call] = &[
+    CHECK_TABLE,
+    UNESCAPE,
+    NORMALIZE_ATTRIBUTE_VALUE,
+    CANONICAL_FORM,
+];
+
+const CHECK_TABLE: Call = Call {
+    name: "check_table",
+    form: Form::Table,
+    run: library::check_table,
+    expected: |arguments| oracle::entities::check_table(arguments.table),
+    seams: table::seams,
+    families: &[
+        table::limits,
+        table::long,
+        table::every_small_list,
+        table::every_part,
+        table::every_edge,
+        table::damaged,
+    ],
+    random: table::random,
+};
+
+const UNESCAPE: Call = Call {
+    name: "unescape",
+    form: Form::Unescape,
+    run: library::unescape,
+    expected: oracle::entities::unescape,
+    seams: woven::seams::<Unescape>,
+    families: &[
+        inputs::limits,
+        table::limits,
+        entities::text_before_table,
+        entities::lookups,
+        entities::similar_names,
+        entities::first_binds,
+        unescape::longest_results,
+        unescape::escaped_texts,
+        entities::damaged_tables,
+        entities::every_number,
+        woven::long::<Unescape>,
+        woven::every_short_text::<Unescape>,
+        woven::every_sequence_in_context::<Unescape>,
+        woven::every_length_and_address::<Unescape>,
+        woven::damaged::<Unescape>,
+    ],
+    random: woven::random::<Unescape>,
+};
+
+const NORMALIZE_ATTRIBUTE_VALUE: Call = Call {
+    name: "normalize_attribute_value",
+    form: Form::Attribute,
+    run: library::normalize_attribute_value,
+    expected: oracle::entities::normalize_attribute_value,
+    seams: woven::seams::<Attribute>,
+    families: &[
+        inputs::limits,
+        inputs::unknown_choices,
+        attribute::every_setting,
+        table::limits,
+        entities::text_before_table,
+        entities::lookups,
+        entities::similar_names,
+        entities::first_binds,
+        attribute::nested,
+        attribute::wide,
+        attribute::most_openings,
+        attribute::every_replacement,
+        entities::damaged_tables,
+        entities::every_number,
+        woven::long::<Attribute>,
+        woven::every_short_text::<Attribute>,
+        woven::every_sequence_in_context::<Attribute>,
+        woven::every_length_and_address::<Attribute>,
+        woven::damaged::<Attribute>,
+        canonical::reread,
+    ],
+    random: woven::random::<Attribute>,
+};
+
+const CANONICAL_FORM: Call = Call {
+    name: "canonical_form",
+    form: Form::Canonical,
+    run: library::canonical_form,
+    expected: oracle::entities::canonical_form,
+    seams: canonical::seams,
+    families: &[
+        inputs::limits,
+        inputs::unknown_choices,
+        attribute::every_setting,
+        table::limits,
+        entities::text_before_table,
+        entities::lookups,
+        entities::similar_names,
+        entities::first_binds,
+        attribute::nested,
+        attribute::wide,
+        attribute::most_openings,
+        canonical::long_values,
+        entities::damaged_tables,
+        canonical::reread,
+        canonical::spellings,
+        woven::long::<Attribute>,
+        woven::every_character::<Attribute>,
+        woven::every_short_text::<Attribute>,
+        woven::every_length_and_address::<Attribute>,
+        woven::damaged::<Attribute>,
+    ],
+    random: woven::random::<Attribute>,
+};
 
 /// What the trims share; the rest of it is never looked at.
 const TRIM: Call = Call {

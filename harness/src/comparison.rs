@@ -7,6 +7,7 @@ use crate::inputs::Family;
 use crate::library::Lent;
 use crate::oracle::Answer;
 use crate::random::Random;
+use std::collections::BTreeMap;
 
 /// So many differences are described, the others counted.
 const DESCRIBED: usize = 5;
@@ -16,6 +17,8 @@ pub struct Comparison<'a> {
     library: &'a dyn Fn(&Lent) -> u32,
     buffers: Buffers,
     pub compared: usize,
+    /// How many of them have which number for an answer.
+    pub numbers: BTreeMap<u32, usize>,
     pub differences: usize,
     pub descriptions: Vec<String>,
 }
@@ -28,6 +31,7 @@ impl<'a> Comparison<'a> {
             library,
             buffers: Buffers::new(),
             compared: 0,
+            numbers: BTreeMap::new(),
             differences: 0,
             descriptions: vec![],
         }
@@ -39,10 +43,11 @@ impl<'a> Comparison<'a> {
 
     fn compare(&mut self, arguments: &Arguments) {
         let expected = (self.call.expected)(arguments);
-        let lent = self.buffers.lend(arguments, expected.room, self.compared);
+        let lent = self.buffers.lend(arguments, &expected, self.compared);
         let number = (self.library)(&lent);
         let damage = self.buffers.damage(arguments, &expected);
         self.compared += 1;
+        *self.numbers.entry(expected.number).or_default() += 1;
         if number != expected.number || damage.is_some() {
             self.differ(arguments, &lent, &expected, number, damage);
         }
@@ -78,6 +83,9 @@ impl<'a> Comparison<'a> {
             expected.first,
             expected.second,
         );
+        if self.call.form.has_table() {
+            description += &table_description(arguments, lent);
+        }
         if let Some(damage) = damage {
             description += &format!(
                 "\n  byte {} of {} is {:02x} and has to be {:02x}",
@@ -86,4 +94,15 @@ impl<'a> Comparison<'a> {
         }
         self.descriptions.push(description);
     }
+}
+
+fn table_description(arguments: &Arguments, lent: &Lent) -> String {
+    format!(
+        "\n  depth {}, limit {}, scratch of {} bytes\n  list {}\n  pool {}",
+        lent.depth,
+        lent.limit,
+        lent.scratch_length,
+        shortened(arguments.table.list),
+        shortened(arguments.table.pool),
+    )
 }

@@ -46,11 +46,22 @@ fn report(call: &Call, comparison: &Comparison) -> bool {
         println!("{description}");
     }
     println!(
-        "{}: {} inputs compared, {} differences",
-        call.name, comparison.compared, comparison.differences
+        "{}: {} inputs compared, {} differences; answers by number: {}",
+        call.name,
+        comparison.compared,
+        comparison.differences,
+        by_number(comparison)
     );
     if comparison.compared < FEWEST {
         println!("{}: fewer than {FEWEST} inputs", call.name);
     }
     comparison.differences == 0 && comparison.compared >= FEWEST
+}
+
+fn by_number(comparison: &Comparison) -> String {
+    let numbers = comparison.numbers.iter();
+    let counts: Vec<String> = numbers
+        .map(|(number, count)| format!("{number} ({count})"))
+        .collect();
+    counts.join(", ")
 }

@@ -36,6 +36,54 @@ extern "C" {
         cursor: *mut Cursor,
         answer: *mut u64,
     ) -> u32;
+    pub fn govlezna_check_table(
+        list: *const u8,
+        list_length: usize,
+        pool: *const u8,
+        pool_length: usize,
+        answer: *mut u64,
+    ) -> u32;
+    pub fn govlezna_unescape(
+        text: *const u8,
+        text_length: usize,
+        list: *const u8,
+        list_length: usize,
+        pool: *const u8,
+        pool_length: usize,
+        out: *mut u8,
+        out_length: usize,
+        answer: *mut u64,
+    ) -> u32;
+    pub fn govlezna_normalize_attribute_value(
+        text: *const u8,
+        text_length: usize,
+        version: u8,
+        depth: u64,
+        limit: u64,
+        list: *const u8,
+        list_length: usize,
+        pool: *const u8,
+        pool_length: usize,
+        out: *mut u8,
+        out_length: usize,
+        answer: *mut u64,
+    ) -> u32;
+    pub fn govlezna_canonical_form(
+        text: *const u8,
+        text_length: usize,
+        version: u8,
+        depth: u64,
+        limit: u64,
+        list: *const u8,
+        list_length: usize,
+        pool: *const u8,
+        pool_length: usize,
+        scratch: *mut u8,
+        scratch_length: usize,
+        out: *mut u8,
+        out_length: usize,
+        answer: *mut u64,
+    ) -> u32;
 }
 
 /// What a call is lent, as C sees it. A call takes the parts that it has.
@@ -43,6 +91,14 @@ pub struct Lent {
     pub text: *const u8,
     pub text_length: usize,
     pub choice: u8,
+    pub depth: u64,
+    pub limit: u64,
+    pub list: *const u8,
+    pub list_length: usize,
+    pub pool: *const u8,
+    pub pool_length: usize,
+    pub scratch: *mut u8,
+    pub scratch_length: usize,
     pub out: *mut u8,
     pub out_length: usize,
     pub cursor: *mut Cursor,
@@ -97,4 +153,64 @@ pub unsafe fn trim_xml_spaces(lent: &Lent) -> u32 {
 
 pub unsafe fn cdata_next(lent: &Lent) -> u32 {
     govlezna_cdata_next(lent.text, lent.text_length, lent.cursor, lent.answer)
+}
+
+pub unsafe fn check_table(lent: &Lent) -> u32 {
+    govlezna_check_table(
+        lent.list,
+        lent.list_length,
+        lent.pool,
+        lent.pool_length,
+        lent.answer,
+    )
+}
+
+pub unsafe fn unescape(lent: &Lent) -> u32 {
+    govlezna_unescape(
+        lent.text,
+        lent.text_length,
+        lent.list,
+        lent.list_length,
+        lent.pool,
+        lent.pool_length,
+        lent.out,
+        lent.out_length,
+        lent.answer,
+    )
+}
+
+pub unsafe fn normalize_attribute_value(lent: &Lent) -> u32 {
+    govlezna_normalize_attribute_value(
+        lent.text,
+        lent.text_length,
+        lent.choice,
+        lent.depth,
+        lent.limit,
+        lent.list,
+        lent.list_length,
+        lent.pool,
+        lent.pool_length,
+        lent.out,
+        lent.out_length,
+        lent.answer,
+    )
+}
+
+pub unsafe fn canonical_form(lent: &Lent) -> u32 {
+    govlezna_canonical_form(
+        lent.text,
+        lent.text_length,
+        lent.choice,
+        lent.depth,
+        lent.limit,
+        lent.list,
+        lent.list_length,
+        lent.pool,
+        lent.pool_length,
+        lent.scratch,
+        lent.scratch_length,
+        lent.out,
+        lent.out_length,
+        lent.answer,
+    )
 }

@@ -12,6 +12,7 @@ mod oracle;
 mod random;
 mod self_test;
 mod stored;
+mod table;
 
 use calls::Call;
 use std::process::ExitCode;

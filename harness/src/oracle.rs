@@ -1,5 +1,8 @@
 //! What each call has to answer: the answer of the unchanged Rust, by document 01's numbers.
 
+pub mod entities;
+
+use crate::buffers::LONGEST_OUTPUT;
 use crate::calls::Arguments;
 use crate::library::Cursor;
 use source::escape::{self, ParseCharRefError};
@@ -24,6 +27,9 @@ pub struct Answer {
     pub room: usize,
     /// The first bytes of the output; the rest is kept.
     pub written: Vec<u8>,
+    /// How long the scratch is for which this is the answer, and its first bytes.
+    pub scratch_room: usize,
+    pub scratch: Vec<u8>,
     /// The cursor after the call.
     pub cursor: Cursor,
 }
@@ -39,6 +45,8 @@ fn refusal(number: u32, first: u64) -> Answer {
         second: 0,
         room: 0,
         written: vec![],
+        scratch_room: 0,
+        scratch: vec![],
         cursor: Cursor::default(),
     }
 }
@@ -106,18 +114,37 @@ pub fn normalize_eols(arguments: &Arguments) -> Answer {
 /// What the Rust makes of a text at a level or under a version.
 type Rule = fn(&str) -> Cow<str>;
 
-/// The Rust takes no byte for a level or version, and no output: 4 and 19 are document 01's.
+/// The Rust takes no byte for a level or version: 4 is document 01's.
 fn written(arguments: &Arguments, rule: Option<Rule>) -> Answer {
     let text = match rule {
         None => length_checked(arguments.text).and(Err(refusal(4, 0))),
         Some(rule) => checked(arguments.text).map(rule),
     };
-    let result = match text {
-        Ok(text) => text.into_owned().into_bytes(),
+    let made = text.map(|text| Made {
+        bytes: text.into_owned().into_bytes(),
+        left_out: 0,
+        second: 0,
+    });
+    finished(arguments, made)
+}
+
+/// A result.
+struct Made {
+    bytes: Vec<u8>,
+    /// How many bytes it has beyond these, of a result that is longer than any output.
+    left_out: usize,
+    /// The second answer word of a success.
+    second: u64,
+}
+
+/// The Rust has no output: 19 is document 01's.
+fn finished(arguments: &Arguments, made: Result<Made, Answer>) -> Answer {
+    let made = match made {
+        Ok(made) => made,
         Err(refusal) => return in_some_room(arguments, refusal),
     };
-    let needed = result.len();
-    let room = arguments.room.length(needed);
+    let needed = made.bytes.len() + made.left_out;
+    let room = arguments.room.length(needed).min(LONGEST_OUTPUT);
     match room < needed {
         true => Answer {
             room,
@@ -125,7 +152,8 @@ fn written(arguments: &Arguments, rule: Option<Rule>) -> Answer {
         },
         false => Answer {
             room,
-            written: result,
+            second: made.second,
+            written: made.bytes,
             ..success(needed as u64)
         },
     }
@@ -134,8 +162,10 @@ fn written(arguments: &Arguments, rule: Option<Rule>) -> Answer {
 /// There is no result whose length could be asked for: the text's, but not of gigabytes.
 fn in_some_room(arguments: &Arguments, refusal: Answer) -> Answer {
     const MOST: usize = 4096;
+    let length = arguments.text.len().min(MOST);
     Answer {
-        room: arguments.room.length(arguments.text.len().min(MOST)),
+        room: arguments.room.length(length),
+        scratch_room: arguments.scratch.length(length),
         ..refusal
     }
 }

@@ -1,5 +1,8 @@
 //! Puts wrong libraries in the place of the real one: the comparison has to catch each.
 
+mod entities;
+mod seams;
+
 use crate::calls::{Call, Form};
 use crate::comparison::Comparison;
 use crate::inputs::{Family, MEBIBYTE, PAGE};
@@ -11,7 +14,8 @@ use crate::DEFAULT_SEED;
 /// A wrong library, made of the real call.
 type Fault = unsafe fn(&Lent, Run) -> u32;
 
-const FAULTS: &[(&str, Fault)] = &[
+/// Of every call.
+const ANSWER_FAULTS: &[(&str, Fault)] = &[
     ("the number changed", changed_number),
     ("the first answer word changed", changed_answer::<0>),
     ("the second answer word changed", changed_answer::<8>),
@@ -24,6 +28,10 @@ const FAULTS: &[(&str, Fault)] = &[
         "the byte before the answer words changed",
         changed_answer::<-1>,
     ),
+];
+
+/// Of calls with a text.
+const TEXT_FAULTS: &[(&str, Fault)] = &[
     ("the text's last byte changed", changed_last_byte),
     ("the byte after the text changed", changed_after_text),
     ("the byte before the text changed", changed_before_text),
@@ -50,6 +58,10 @@ const OUTPUT_FAULTS: &[(&str, Fault)] = &[
     ("the byte before the output changed", changed_before_output),
     ("one byte more written than there is room", overwritten),
     ("an output of just the length refused", refused_exact),
+];
+
+/// Of calls with a level or a version.
+const CHOICE_FAULTS: &[(&str, Fault)] = &[
     ("level or version 255 taken for 0", accepted_choice),
     ("level or version checked after the bytes", late_choice),
 ];
@@ -76,21 +88,19 @@ const CURSOR_FAULTS: &[(&str, Fault)] = &[
     ("the cut sought before the offset", looked_back),
 ];
 
-/// True: every wrong library is caught, and the real one is not.
+/// True: document 01's rows are what is expected, every wrong library is caught, and the real one
+/// is not.
 pub fn run(calls: &[&Call]) -> bool {
-    let (mut tried, mut missed) = (0, 0);
+    let (mut tried, mut missed, mut rows) = (0, 0, 0);
     for call in calls {
+        let (checked, differing) = seams::check(call);
+        rows += checked;
+        missed += differing;
         if is_caught(call, |lent, real| unsafe { real(lent) }, &[]) {
             println!("{}: the library itself differs", call.name);
             missed += 1;
         }
-        let more: &[(&str, Fault)] = match call.form {
-            Form::Text => &[],
-            Form::Output => OUTPUT_FAULTS,
-            Form::Part => PART_FAULTS,
-            Form::Cursor => CURSOR_FAULTS,
-        };
-        for &(name, fault) in FAULTS.iter().chain(more) {
+        for &(name, fault) in faults(call.form).into_iter().flatten() {
             let caught = is_caught(call, fault, call.families);
             let verdict = if caught { "caught" } else { "NOT CAUGHT" };
             println!("{}: {name}: {verdict}", call.name);
@@ -98,8 +108,35 @@ pub fn run(calls: &[&Call]) -> bool {
             missed += usize::from(!caught);
         }
     }
-    println!("self-test: {tried} wrong libraries, {missed} failures");
+    println!("self-test: {rows} rows of document 01, {tried} wrong libraries, {missed} failures");
     missed == 0
+}
+
+fn faults(form: Form) -> Vec<&'static [(&'static str, Fault)]> {
+    use entities::*;
+    let mut faults = vec![ANSWER_FAULTS];
+    if form != Form::Table {
+        faults.push(TEXT_FAULTS);
+    }
+    if form.has_table() {
+        faults.push(TABLE_FAULTS);
+    }
+    match form {
+        Form::Text | Form::Table => {}
+        Form::Part => faults.push(PART_FAULTS),
+        Form::Cursor => faults.push(CURSOR_FAULTS),
+        Form::Output => faults.extend([OUTPUT_FAULTS, CHOICE_FAULTS]),
+        Form::Unescape => faults.extend([OUTPUT_FAULTS, LOOKUP_FAULTS]),
+        Form::Attribute | Form::Canonical => {
+            faults.extend([OUTPUT_FAULTS, CHOICE_FAULTS, LOOKUP_FAULTS, WALK_FAULTS]);
+        }
+    }
+    match form {
+        Form::Attribute => faults.push(VALUE_FAULTS),
+        Form::Canonical => faults.push(SCRATCH_FAULTS),
+        _ => {}
+    }
+    faults
 }
 
 /// Whether some answer of the seams or of the families differs.

@@ -1,11 +1,16 @@
 //! What the calls are tried on.
 
+pub mod attribute;
+pub mod canonical;
 pub mod cdata;
+pub mod entities;
 pub mod eols;
 pub mod escape;
 pub mod number;
+pub mod table;
 pub mod text;
 pub mod trim;
+pub mod unescape;
 pub mod utf8;
 pub mod woven;
 
@@ -132,7 +137,7 @@ pub fn limits(_: &mut Random, sink: &mut Sink) {
     }
     text[0] = 0xFF; // the length is refused before the bytes
     sink(Arguments::text(&text));
-    lengths_of_33_bits(sink);
+    lengths_of_33_bits(&mut |text| sink(Arguments::at(Place::Itself, text)));
 }
 
 /// The text with each of the levels or versions in each room.
@@ -148,19 +153,24 @@ pub fn each_room(choices: &[u8], arguments: Arguments, sink: &mut Sink) {
     }
 }
 
-/// The text with one of the levels or versions, mostly in room enough.
+/// The text with one of the levels or versions, in some room.
 pub fn some_room(random: &mut Random, choices: &[u8], arguments: Arguments, sink: &mut Sink) {
-    let room = match random.below(8) {
-        0 => Room::Short,
-        1 => Room::Null,
-        2 => Room::Exact,
-        _ => Room::Spare(random.below(MOST_SPARE)),
-    };
+    let room = random_room(random);
     sink(Arguments {
         choice: random.pick(choices),
         room,
         ..arguments
     });
+}
+
+/// Mostly room enough.
+pub fn random_room(random: &mut Random) -> Room {
+    match random.below(8) {
+        0 => Room::Short,
+        1 => Room::Null,
+        2 => Room::Exact,
+        _ => Room::Spare(random.below(MOST_SPARE)),
+    }
 }
 
 /// Every level or version: those that are none come after the text's length, before its bytes.
@@ -182,20 +192,19 @@ pub fn unknown_choices(_: &mut Random, sink: &mut Sink) {
     });
 }
 
-/// Lengths whose low 32 bits are few. Such a text is not to be read: it has addresses, no memory.
-fn lengths_of_33_bits(sink: &mut Sink) {
+/// Lengths whose low 32 bits are few. Such bytes are not to be read: they have addresses, no memory.
+fn lengths_of_33_bits(each: &mut dyn FnMut(&[u8])) {
     let longest = (1 << 32) + 5;
     let layout = Layout::array::<u8>(longest).unwrap();
     // SAFETY: the layout's size is not 0.
     let start = unsafe { alloc_zeroed(layout) };
     if start.is_null() {
-        eprintln!("no room for texts of 2^32 bytes: their lengths are not tried");
+        eprintln!("no room for 2^32 bytes: such lengths are not tried");
         return;
     }
     for length in [1 << 32, longest] {
         // SAFETY: `length` bytes of the allocation, which nothing writes to.
-        let text = unsafe { std::slice::from_raw_parts(start, length) };
-        sink(Arguments::at(Place::Itself, text));
+        each(unsafe { std::slice::from_raw_parts(start, length) });
     }
     // SAFETY: allocated above with this layout, and no slice of it is left.
     unsafe { dealloc(start, layout) };

@@ -23,6 +23,11 @@ pub trait Subject {
     fn each(arguments: Arguments, sink: &mut Sink);
     /// The text with one of these.
     fn one(random: &mut Random, arguments: Arguments, sink: &mut Sink);
+
+    /// A well-formed text of so many bytes, with a piece in the place of one character out of `gap`.
+    fn text(random: &mut Random, mix: Mix, gap: usize, length: usize) -> Vec<u8> {
+        woven(random, mix, Self::PIECES, gap, length)
+    }
 }
 
 /// One piece out of so many characters.
@@ -76,7 +81,7 @@ pub fn every_length_and_address<S: Subject>(random: &mut Random, sink: &mut Sink
             let place = Place::At(address);
             for mix in [Mix::Ascii, Mix::Dense, Mix::Mixed] {
                 for gap in GAPS {
-                    let mut text = woven(random, mix, S::PIECES, gap, length);
+                    let mut text = S::text(random, mix, gap, length);
                     S::one(random, Arguments::at(place, &text), sink);
                     S::one(random, Arguments::at(place, &text), sink);
                     spoil_at_random(random, &mut text, S::BYTES);
@@ -91,7 +96,7 @@ pub fn damaged<S: Subject>(random: &mut Random, sink: &mut Sink) {
     for mix in MIXES {
         for gap in GAPS {
             for length in [40, 65, 130] {
-                let text = woven(random, mix, S::PIECES, gap, length);
+                let text = S::text(random, mix, gap, length);
                 every_spoiled(&text, S::BYTES, &mut |arguments| {
                     S::one(random, arguments, sink);
                 });
@@ -116,12 +121,12 @@ pub fn long<S: Subject>(random: &mut Random, sink: &mut Sink) {
 /// A text, the same with each piece at its end, and spoiled at a random place.
 fn some_spoiled<S: Subject>(random: &mut Random, gap: usize, length: usize, sink: &mut Sink) {
     let mix = random.pick(&MIXES);
-    let mut text = woven(random, mix, S::PIECES, gap, length);
+    let mut text = S::text(random, mix, gap, length);
     S::one(random, Arguments::text(&text), sink);
     spoil_at_random(random, &mut text, S::BYTES);
     S::one(random, Arguments::text(&text), sink);
     let piece = random.pick(S::PIECES);
-    let mut text = woven(random, Mix::Ascii, S::PIECES, gap, length - piece.len());
+    let mut text = S::text(random, Mix::Ascii, gap, length - piece.len());
     text.extend_from_slice(piece);
     S::one(random, Arguments::text(&text), sink);
 }
@@ -130,7 +135,7 @@ pub fn random<S: Subject>(random: &mut Random, sink: &mut Sink) {
     for _ in 0..4096 {
         let length = random_length(random);
         let (mix, gap) = (random.pick(&MIXES), random.pick(&GAPS));
-        let mut text = woven(random, mix, S::PIECES, gap, length);
+        let mut text = S::text(random, mix, gap, length);
         for _ in 0..random.below(6).saturating_sub(3) {
             spoil_at_random(random, &mut text, S::BYTES);
         }

@@ -1,0 +1,254 @@
+//! The calls with a table. The Rust's side has its definitions read already, and looks names up in
+//! them one after the other; ours checks its table each time.
+
+use super::{aligned, letters_with, row, writing_row, Made, Once, Row};
+use crate::inputs::entities::{long_names, long_reference};
+use crate::inputs::table::Draft;
+use crate::inputs::MEBIBYTE;
+use crate::library::{Cursor, Lent, Run};
+use crate::oracle::entities::{DEEPEST, MOST_OPENINGS};
+use crate::oracle::source::{escape, XmlVersion};
+use crate::table::{look_up, Definition, Meaning, Table};
+use std::hint::black_box;
+
+/// The longest result is so many times its text.
+const GROWTH: usize = 16;
+
+/// A table for both sides.
+#[derive(Clone, Copy)]
+struct Tables {
+    lent: Table<'static>,
+    read: &'static [Definition<'static>],
+}
+
+impl Tables {
+    fn new(draft: Draft) -> Self {
+        let lent = Box::leak(Box::new(draft)).table();
+        let read = lent.definitions().expect("a sound table").leak();
+        Tables { lent, read }
+    }
+}
+
+/// Ours, by way of the form that all calls share.
+fn ours(run: Run, text: &'static [u8], version: u8, table: Table<'static>) -> impl Once {
+    let run = black_box(run);
+    let room = GROWTH * text.len();
+    let (scratch, out) = (vec![0; room].leak(), vec![0; room].leak());
+    move |words: &mut [u64; 2]| {
+        let lent = Lent {
+            text: text.as_ptr(),
+            text_length: text.len(),
+            choice: version,
+            depth: DEEPEST,
+            limit: MOST_OPENINGS,
+            list: table.list.as_ptr(),
+            list_length: table.list.len(),
+            pool: table.pool.as_ptr(),
+            pool_length: table.pool.len(),
+            scratch: scratch.as_mut_ptr(),
+            scratch_length: scratch.len(),
+            out: out.as_mut_ptr(),
+            out_length: out.len(),
+            cursor: &mut Cursor::default(),
+            answer: words.as_mut_ptr(),
+        };
+        // SAFETY: everything lent is of the length stated.
+        unsafe { run(&lent) }
+    }
+}
+
+/// What the Rust makes of a text under a version with a table.
+type TableRule = fn(&'static str, u8, &'static [Definition<'static>]) -> Made;
+
+fn table_row(
+    call: &str,
+    input: &'static str,
+    text: &[u8],
+    version: u8,
+    tables: Tables,
+    (run, rule): (Run, TableRule),
+) -> Row {
+    let (text, rule) = (aligned(text), black_box(rule));
+    let ours = ours(run, text, version, tables.lent);
+    let make = move |text| rule(text, version, tables.read);
+    writing_row(call, input, text, ours, make)
+}
+
+/// The Rust has no such check; it reads the same UTF-8, and each command.
+pub fn check_table(run: Run) -> Vec<Row> {
+    let small = Draft::of(&[
+        ("a", "first"),
+        ("e", "½"),
+        ("office", "Split"),
+        ("n", "&a;"),
+    ]);
+    let inputs = [
+        ("4 names", small),
+        ("4,000 names of 255 bytes", long_names(NAMES)),
+    ];
+    let rows = inputs.into_iter().map(|(input, draft)| {
+        let table = Tables::new(draft).lent;
+        let rust = move |words: &mut [u64; 2]| {
+            let definitions = black_box(table).definitions().unwrap();
+            *words = [black_box(definitions).len() as u64, 0];
+            0
+        };
+        let bytes = table.list.len() + table.pool.len();
+        let ours = ours(run, &[], 0, table);
+        row(
+            "check_table",
+            input,
+            bytes,
+            ours,
+            rust,
+            None::<fn(&mut [u64; 2]) -> u32>,
+        )
+    });
+    rows.collect()
+}
+
+/// Names and distances of references, of which a text of this size has a few or many.
+type References = (&'static str, &'static [&'static str], usize);
+
+pub fn unescape(run: Run) -> Vec<Row> {
+    let inputs: [References; 5] = [
+        ("no references", &[], 0),
+        ("few references", &["&lt;", "&#65;", "&a;"], 100),
+        ("dense, predefined", &["&lt;", "&amp;"], 8),
+        ("dense, numbers", &["&#65;", "&#x20AC;"], 12),
+        ("dense, of the table", &["&a;", "&office;"], 12),
+    ];
+    let tables = Tables::new(Draft::of(&[("a", "first"), ("office", "Split")]));
+    let mut rows = vec![];
+    for size in [64, MEBIBYTE] {
+        for (input, pieces, distance) in inputs {
+            let text = letters_with(pieces, distance, size);
+            rows.push(table_row(
+                "unescape",
+                input,
+                &text,
+                0,
+                tables,
+                (run, rust_unescape),
+            ));
+        }
+    }
+    rows.extend(lookups(run));
+    rows
+}
+
+fn rust_unescape(text: &'static str, _: u8, definitions: &'static [Definition<'static>]) -> Made {
+    let resolve = |name: &str| match look_up(definitions, name) {
+        Meaning::Defined(text) => Some(text),
+        Meaning::Predefined(text) => Some(text),
+        Meaning::Nothing => None,
+    };
+    (escape::unescape_with(text, resolve).unwrap(), 0)
+}
+
+const NAMES: usize = 4000;
+const REFERENCES: usize = 100;
+const FIRST: &str = "100 references to the first of 4,000 names";
+const LAST: &str = "100 references to the last of 4,000 names";
+
+/// Names of 255 bytes that differ in their last four. Our side checks the table too, of a megabyte.
+fn lookups(run: Run) -> Vec<Row> {
+    let tables = Tables::new(long_names(NAMES));
+    let inputs = [
+        ("one reference to the last of 4,000 names", NAMES - 1, 1),
+        (FIRST, 0, REFERENCES),
+        (LAST, NAMES - 1, REFERENCES),
+    ];
+    let rows = inputs.into_iter().map(|(input, index, count)| {
+        let text = long_reference(index).repeat(count);
+        table_row("unescape", input, &text, 0, tables, (run, rust_unescape))
+    });
+    rows.collect()
+}
+
+/// One lookup alone: both texts are as long, so their difference is what it takes to pass 3,999
+/// names, a hundred times.
+pub fn print_lookup(rows: &[Row]) {
+    let find = |input: &str| rows.iter().find(|row| row.input == input);
+    let (Some(first), Some(last)) = (find(FIRST), find(LAST)) else {
+        return;
+    };
+    let each = |last: f64, first: f64| (last - first) / REFERENCES as f64;
+    let ours = each(last.ours.best, first.ours.best);
+    let rust = each(last.rust.best, first.rust.best);
+    println!();
+    println!(
+        "One lookup that passes 3,999 names of 255 bytes, from the difference of the last two rows \
+         of unescape: {ours:.0} ns, the Rust's loop {rust:.0} ns, ours / Rust {:.2}.",
+        ours / rust
+    );
+}
+
+pub fn normalize_attribute_value(run: Run) -> Vec<Row> {
+    let calls = [
+        "normalize_attribute_value, 1.0",
+        "normalize_attribute_value, 1.1",
+    ];
+    attribute_rows(calls, (run, rust_normalize))
+}
+
+pub fn canonical_form(run: Run) -> Vec<Row> {
+    let calls = ["canonical_form, 1.0", "canonical_form, 1.1"];
+    attribute_rows(calls, (run, rust_canonical))
+}
+
+fn attribute_rows(calls: [&str; 2], sides: (Run, TableRule)) -> Vec<Row> {
+    let inputs: [References; 5] = [
+        ("plain", &[], 0),
+        ("sparse", &["\t", "&lt;", "\r\n", "&a;"], 100),
+        ("dense", &["\t", "&lt;", "&#65;", "&a;"], 8),
+        ("multi-byte", &["é", "½", "€", "語", "😀"], 1),
+        ("nested entities", &["&n;"], 16),
+    ];
+    let definitions = [("a", "first"), ("n", "x&m;y&m;"), ("m", "&o;"), ("o", "z")];
+    let tables = Tables::new(Draft::of(&definitions));
+    let mut rows = vec![];
+    for (call, version) in calls.into_iter().zip([0, 2]) {
+        for size in [64, MEBIBYTE] {
+            for (input, pieces, distance) in inputs {
+                let text = letters_with(pieces, distance, size);
+                rows.push(table_row(call, input, &text, version, tables, sides));
+            }
+        }
+    }
+    rows
+}
+
+/// Counts the openings too.
+fn rust_normalize(
+    text: &'static str,
+    version: u8,
+    definitions: &'static [Definition<'static>],
+) -> Made {
+    let version = match version {
+        2 => XmlVersion::Explicit1_1,
+        _ => XmlVersion::Explicit1_0,
+    };
+    let mut openings = 0;
+    let resolve = |name: &str| match look_up(definitions, name) {
+        Meaning::Defined(text) => {
+            openings += 1;
+            Some(text)
+        }
+        Meaning::Predefined(text) => Some(text),
+        Meaning::Nothing => None,
+    };
+    let depth = DEEPEST as usize;
+    let value = version.normalize_attribute_value(text, depth, resolve);
+    (value.unwrap(), openings)
+}
+
+/// No value here holds what only our writer escapes under 1.1.
+fn rust_canonical(
+    text: &'static str,
+    version: u8,
+    definitions: &'static [Definition<'static>],
+) -> Made {
+    let (value, openings) = rust_normalize(text, version, definitions);
+    (escape::escape_attribute(value), openings)
+}
