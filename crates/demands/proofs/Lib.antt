@@ -1,5 +1,9 @@
+pub mod Numbers
 pub mod RoundTrip
 pub mod Demands
+pub mod CallDemands
+pub mod Refusals
+pub mod Runs
 mod Seams
 pub mod Lines
 pub mod Decoding

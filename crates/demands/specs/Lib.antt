@@ -1,3 +1,5 @@
 pub mod Demands
+pub mod CallDemands
 pub mod Characters
 pub mod Standard
+pub mod Runs

@@ -1,0 +1,221 @@
+-- The numbers by which checks and walks refuse (document 01, Refusals by place), and what that says of a call. Assumes nothing.
+use mathlib.Core.Path.{_≡_, refl}
+use Prim.Native.Nat.{ℕ, zero, suc}
+use mathlib.Core.Bool.{Bool, true, false, _||_}
+use mathlib.Core.List.{List, [], _∷_}
+use lib.ListN.{length}
+use lib.Dec.{eqb, ltb}
+use Rattle.text.specs.Bytes.{pick, sameBytes}
+use Rattle.text.proofs.Bytes.{pick-both}
+use Rattle.text.specs.Version.{knownVersion}
+use Rattle.text.specs.Call.{called, callOf, passed, andThen, laid, finish, lengthCheck, versionCheck, utf8Check}
+use Rattle.text.specs.Utf8.{utf8End}
+use Rattle.text.specs.declared.Answer.{Answer}
+use Rattle.text.specs.declared.Answer.the-variants.{Done, Refused}
+use Rattle.charref.specs.CharRef.{charNumber, numberAnswer}
+use Rattle.charref.specs.declared.CharNumber.{CharNumber}
+use Rattle.charref.specs.declared.CharNumber.the-variants.{Char, UnexpectedSign, InvalidNumber, InvalidCodepoint, IllegalCharacter}
+use Rattle.escape.specs.Escape.{knownLevel, levelCheck}
+use Rattle.entity.specs.Table.{Declaration, declaration, declarations, runsPast, illFormed, declarationCheck, endCheck, commandsCheck, sizeCheck, tableCheck, operands}
+use Rattle.entity.specs.Binding.{Bound, text, predefined, unknown}
+use Rattle.tokens.specs.Tokens.{Stop, kept, space, number, named, unterminated, Token, copy, stop, Heads, tokens}
+use Rattle.tokens.specs.Outcome.{Outcome, done, refused, prepend, followed, run, numbered, numberOutcome, finished}
+use Rattle.unescape.specs.Unescape.{textHead, copied, replaced, unescape}
+use Rattle.attribute.specs.Checks.{settingsCheck}
+use Rattle.attribute.specs.Walk.{Settings, opened, answer, exhausted, walk, normalize}
+
+-- what is said of the number of a refusal
+abbrev pub By : (ℕ → Type 0) → Answer → Type 0
+By P (Done first second) = Unit {0}
+By P (Refused why first second) = P why
+
+abbrev pub Fails : (ℕ → Type 0) → Outcome → Type 0
+Fails P (done value openings) = Unit {0}
+Fails P (refused before openings why first second) = P why
+
+-- the numbers of a table's check, of a text with references, and of the walk besides
+pub record TableNumbers (P : ℕ → Type 0) : Type 0 where
+  pub six : P 6
+  pub seven : P 7
+  pub eight : P 8
+  pub nine : P 9
+
+pub record NumberNumbers (P : ℕ → Type 0) : Type 0 where
+  pub twelve : P 12
+  pub thirteen : P 13
+  pub fourteen : P 14
+  pub fifteen : P 15
+
+pub record TextNumbers (P : ℕ → Type 0) : Type 0 where
+  pub ten : P 10
+  pub eleven : P 11
+  pub numbers : NumberNumbers P
+
+pub record WalkNumbers (P : ℕ → Type 0) : Type 0 where
+  pub texts : TextNumbers P
+  pub sixteen : P 16
+  pub seventeen : P 17
+
+module _ (P : ℕ → Type 0) where
+  -- ---- checks
+
+  pub by-then : (x y : Answer) → By P x → By P y → By P (andThen x y)
+  by-then (Done first second) y h k = k
+  by-then (Refused why first second) y h k = h
+
+  by-pick : (t : Bool) (x y : Answer) → By P x → By P y → By P (pick t x y)
+  by-pick t x y h k = pick-both (By P) t {a = x} {b = y} h k
+
+  pub by-length : P 1 → (t : List ℕ) → By P (lengthCheck t)
+  unfolding lengthCheck
+  by-length h t = by-pick (ltb 16777216 (length t)) (Refused 1 (length t) 0) passed h tt
+
+  pub by-utf8 : P 5 → (t : List ℕ) → By P (utf8Check t)
+  unfolding utf8Check
+  by-utf8 h t = by-pick (eqb (utf8End t) (length t)) passed (Refused 5 (utf8End t) 0) tt h
+
+  pub by-version : P 4 → (version : ℕ) → By P (versionCheck version)
+  unfolding versionCheck
+  by-version h version = by-pick (knownVersion version) passed (Refused 4 0 0) tt h
+
+  pub by-level : P 4 → (level : ℕ) → By P (levelCheck level)
+  unfolding levelCheck
+  by-level h level = by-pick (knownLevel level) passed (Refused 4 0 0) tt h
+
+  pub by-settings : P 2 → P 3 → P 4 → (version depth limit : ℕ) → By P (settingsCheck version depth limit)
+  unfolding settingsCheck
+  by-settings h k l version depth limit =
+      by-pick (ltb 128 depth) (Refused 2 0 0) (pick (ltb 1000000 limit) (Refused 3 0 0) (versionCheck version)) h
+      (by-pick (ltb 1000000 limit) (Refused 3 0 0) (versionCheck version) k (by-version l version))
+
+  by-end : P 7 → (bs : List ℕ) (offset : ℕ) → By P (endCheck bs offset)
+  unfolding endCheck
+  by-end h [] offset = tt
+  by-end h (b ∷ bs) offset = h
+
+  by-declaration : TableNumbers P → (pool : List ℕ) (offset : ℕ) (d : Declaration) (rest : Answer) → By P rest → By P (declarationCheck pool offset d rest)
+  unfolding declarationCheck
+  by-declaration h pool offset d rest k =
+      by-pick (runsPast pool d) (Refused 8 offset 0) (pick (illFormed pool d) (Refused 9 offset 0) rest) (h .eight)
+      (by-pick (illFormed pool d) (Refused 9 offset 0) rest (h .nine) k)
+
+  by-commands : TableNumbers P → (pool : List ℕ) (offset skip : ℕ) (bs : List ℕ) → By P (commandsCheck pool offset skip bs)
+  unfolding commandsCheck
+  by-commands h pool offset skip [] = h .seven
+  by-commands h pool offset (suc skip) (b ∷ bs) = by-commands h pool (suc offset) skip bs
+  by-commands h pool offset zero (b ∷ bs) =
+      let rest = commandsCheck pool (suc offset) operands bs in
+      let declared = declarationCheck pool offset (declaration bs) rest in
+      let cut = pick (ltb (length bs) operands) (Refused 7 offset 0) declared in
+      by-pick (eqb b 0) (endCheck bs (suc offset)) (pick (eqb b 1) cut (Refused 7 offset 0)) (by-end (h .seven) bs (suc offset))
+      (by-pick (eqb b 1) cut (Refused 7 offset 0)
+      (by-pick (ltb (length bs) operands) (Refused 7 offset 0) declared (h .seven)
+      (by-declaration h pool offset (declaration bs) rest (by-commands h pool (suc offset) operands bs))) (h .seven))
+
+  by-size : P 6 → (list pool : List ℕ) → By P (sizeCheck list pool)
+  unfolding sizeCheck
+  by-size h list pool = by-pick (ltb 49153 (length list) || ltb 1048576 (length pool)) (Refused 6 0 0) passed h tt
+
+  pub by-table : TableNumbers P → (list pool : List ℕ) → By P (tableCheck list pool)
+  unfolding tableCheck
+  by-table h list pool =
+      by-then (sizeCheck list pool) (andThen (commandsCheck pool 0 0 list) (Done (length (declarations list)) 0)) (by-size (h .six) list pool)
+      (by-then (commandsCheck pool 0 0 list) (Done (length (declarations list)) 0) (by-commands h pool 0 0 list) tt)
+
+  -- ---- walks
+
+  fails-prepend : (front : List ℕ) (o : Outcome) → Fails P o → Fails P (prepend front o)
+  fails-prepend front (done value n) h = tt
+  fails-prepend front (refused before n why first second) h = h
+
+  fails-followed : (o : Outcome) (rest : ℕ → Outcome) → Fails P o → ((n : ℕ) → Fails P (rest n)) → Fails P (followed o rest)
+  fails-followed (done value n) rest h k = fails-prepend value (rest n) (k n)
+  fails-followed (refused before n why first second) rest h k = h
+
+  abbrev Failing : (Stop → ℕ → Outcome) → Type 0
+  Failing f = (s : Stop) (n : ℕ) → Fails P (f s n)
+
+  fails-run : (f : Stop → ℕ → Outcome) → Failing f → (ts : List Token) (n : ℕ) → Fails P (run f ts n)
+  unfolding run
+  fails-run f h [] n = tt
+  fails-run f h (copy b ∷ ts) n = fails-prepend (b ∷ []) (run f ts n) (fails-run f h ts n)
+  fails-run f h (stop s ∷ ts) n = fails-followed (f s n) (λ m. run f ts m) (h s n) (fails-run f h ts)
+
+  by-char : NumberNumbers P → (c : CharNumber) → By P (numberAnswer c)
+  unfolding numberAnswer
+  by-char h (Char n) = tt
+  by-char h UnexpectedSign = h .twelve
+  by-char h InvalidNumber = h .thirteen
+  by-char h (InvalidCodepoint n) = h .fourteen
+  by-char h IllegalCharacter = h .fifteen
+
+  pub by-number : NumberNumbers P → (legal : ℕ → CharNumber) (digits : List ℕ) → By P (numberAnswer (charNumber legal digits))
+  by-number h legal digits = by-char h (charNumber legal digits)
+
+  fails-numbered : (a : Answer) (n : ℕ) → By P a → Fails P (numbered a n)
+  unfolding numbered
+  fails-numbered (Done c second) n h = tt
+  fails-numbered (Refused why first second) n h = h
+
+  fails-number : NumberNumbers P → (legal : ℕ → CharNumber) (digits : List ℕ) (n : ℕ) → Fails P (numberOutcome legal digits n)
+  unfolding numberOutcome
+  fails-number h legal digits n = fails-numbered (numberAnswer (charNumber legal digits)) n (by-number h legal digits)
+
+  fails-copied : P 11 → (offset : ℕ) (name : List ℕ) (b : Bound) (n : ℕ) → Fails P (copied offset name b n)
+  unfolding copied
+  fails-copied h offset name (text t) n = tt
+  fails-copied h offset name (predefined t) n = tt
+  fails-copied h offset name unknown n = h
+
+  fails-replaced : TextNumbers P → (bind : List ℕ → Bound) → Failing (replaced bind)
+  unfolding replaced
+  fails-replaced h bind (kept b) n = tt
+  fails-replaced h bind space n = tt
+  fails-replaced h bind (number digits) n = fails-number (h .numbers) _ digits n
+  fails-replaced h bind (named offset name) n = fails-copied (h .eleven) offset name (bind name) n
+  fails-replaced h bind (unterminated offset end) n = h .ten
+
+  pub fails-unescape : TextNumbers P → (bind : List ℕ → Bound) (t : List ℕ) → Fails P (unescape bind t)
+  unfolding unescape
+  fails-unescape h bind t = fails-run (replaced bind) (fails-replaced h bind) (tokens textHead 0 0 t) 0
+
+  module _ (h : WalkNumbers P) (st : Settings) where
+    fails-opened : (walked : List ℕ → ℕ → Outcome) → ((t : List ℕ) (n : ℕ) → Fails P (walked t n)) → (offset : ℕ) (name : List ℕ) (b : Bound) (n : ℕ)
+        → Fails P (opened (st .limit) walked offset name b n)
+    unfolding opened
+    fails-opened walked k offset name (text t) n =
+        pick-both (Fails P) (eqb n (st .limit)) {a = refused [] n 17 offset 0} {b = walked t (suc n)} (h .seventeen) (k t (suc n))
+    fails-opened walked k offset name (predefined t) n = k t n
+    fails-opened walked k offset name unknown n = h .texts .eleven
+
+    fails-answer : (walked : List ℕ → ℕ → Outcome) → ((t : List ℕ) (n : ℕ) → Fails P (walked t n)) → Failing (answer st walked)
+    unfolding answer
+    fails-answer walked k (kept b) n = tt
+    fails-answer walked k space n = tt
+    fails-answer walked k (number digits) n = fails-number (h .texts .numbers) (st .legal) digits n
+    fails-answer walked k (named offset name) n =
+        pick-both (Fails P) (sameBytes name (97 ∷ 109 ∷ 112 ∷ [])) {a = done (38 ∷ []) n} {b = opened (st .limit) walked offset name (st .bind name) n} tt
+        (fails-opened walked k offset name (st .bind name) n)
+    fails-answer walked k (unterminated offset end) n = h .texts .ten
+
+    fails-walk : (at : Heads) (depth : ℕ) (t : List ℕ) (n : ℕ) → Fails P (walk st at depth t n)
+    unfolding walk exhausted
+    fails-walk at zero t n = fails-run exhausted (λ s m. unfold exhausted in h .sixteen) (tokens at 0 0 t) n
+    fails-walk at (suc depth) t n =
+        fails-run (answer st (λ u m. walk st (st .inner) depth u m))
+        (fails-answer (λ u m. walk st (st .inner) depth u m) (fails-walk (st .inner) depth)) (tokens at 0 0 t) n
+
+    pub fails-normalize : (depth : ℕ) (t : List ℕ) → Fails P (normalize st depth t)
+    unfolding normalize
+    fails-normalize depth t = fails-walk (st .outer) depth t 0
+
+-- ---- how a call that walks ends
+
+pub finished-done : (value : List ℕ) (openings : ℕ) (out : List ℕ) → finished (done value openings) out ≡ finish value openings out
+unfolding finished finish
+finished-done value openings out = go (ltb (length out) (length value))
+  where
+    go : (t : Bool) → callOf (pick t (Refused 19 (length value) 0) (Done (length value) openings)) (pick t out (laid value out) ∷ [])
+        ≡ pick t (called 19 (length value ∷ 0 ∷ []) (out ∷ [])) (called 0 (length value ∷ openings ∷ []) (laid value out ∷ []))
+    go true = refl
+    go false = refl
