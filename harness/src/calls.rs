@@ -241,11 +241,6 @@ pub const CALLS: &[Call] = &[
         ],
         random: woven::random::<Cdata>,
     },
-];
-
-/// Not in the library yet. A call that moves from here to the list above is compared.
-#[allow(dead_code)]
-const NOT_YET: &[Call] = &[
     CHECK_TABLE,
     UNESCAPE,
     NORMALIZE_ATTRIBUTE_VALUE,

@@ -9,8 +9,8 @@ use crate::values::decode_hex;
 // unwritten differs.
 pub const UNWRITTEN: u64 = 0xa5a5_a5a5_a5a5_a5a5;
 
-// Stands in all bytes of the output before a call. No UTF-8 has it, so a byte that a call leaves
-// unwritten differs.
+// Stands in all bytes of an output and a scratch before a call. No UTF-8 has it, so a byte that a
+// call leaves unwritten differs.
 pub const UNTOUCHED: u8 = 0xff;
 
 pub struct Answer {
@@ -58,37 +58,57 @@ pub fn compare(line: &[u8], at: usize, number: u32, answer: [u64; 2]) -> Outcome
     differs(number, answer)
 }
 
-// Compares with `= NUMBER FIRST SECOND OUTPUT` from field 4 on. The stored output is put into bytes
-// that are untouched as those of out were, so that one comparison sees the rest of out too.
-pub fn compare_output(line: &[u8], number: u32, answer: [u64; 2], out: &[u8; 2048]) -> Outcome {
-    let mut stored = [UNTOUCHED; 2048];
-    let decoded = decode_hex(field(line, 8), &mut stored);
-    if !decoded.ok {
-        return Outcome::Malformed;
-    }
-    let outcome = compare(line, 4, number, answer);
+// Compares with `= NUMBER FIRST SECOND OUTPUT` from field `at` on.
+pub fn compare_output(
+    line: &[u8],
+    at: usize,
+    number: u32,
+    answer: [u64; 2],
+    out: &[u8; 2048],
+) -> Outcome
+    requires { ⌜ at < 100 ⌝ }
+{
+    let outcome = compare(line, at, number, answer);
     let Outcome::Same = outcome else {
         return outcome;
     };
-    // Else a stored output with untouched bytes at its end would pass.
-    if decoded.length as u64 != written(number, answer) {
+    compare_lent(line, at + 4, number, answer, out)
+}
+
+// Compares what a lent buffer holds with field k, which writes the bytes at its start. They are put
+// into bytes that are untouched as the lent ones were, so that one comparison sees the rest too.
+pub fn compare_lent(
+    line: &[u8],
+    k: usize,
+    number: u32,
+    answer: [u64; 2],
+    lent: &[u8; 2048],
+) -> Outcome {
+    let mut stored = [UNTOUCHED; 2048];
+    let decoded = decode_hex(field(line, k), &mut stored);
+    if !decoded.ok {
+        return Outcome::Malformed;
+    }
+    let n = decoded.length;
+    // Else a field that writes untouched bytes after the right ones would pass.
+    if ends_untouched(&stored[..n]) {
+        return Outcome::Malformed;
+    }
+    if !same_bytes(lent, &stored) {
         return differs(number, answer);
     }
-    if !same_output(out, &stored) {
-        return differs(number, answer);
-    }
-    outcome
+    Outcome::Same
 }
 
 // Lent as arrays, since the length of an array that a call has changed is known by its type alone.
-fn same_output(out: &[u8; 2048], stored: &[u8; 2048]) -> bool {
-    check::same(out, stored)
+fn same_bytes(lent: &[u8; 2048], stored: &[u8; 2048]) -> bool {
+    check::same(lent, stored)
 }
 
-// How many bytes of output the answer promises.
-fn written(number: u32, answer: [u64; 2]) -> u64 {
-    if number == 0 {
-        return answer[0];
+fn ends_untouched(bytes: &[u8]) -> bool {
+    let n = bytes.len();
+    if n == 0 {
+        return false;
     }
-    0
+    bytes[n - 1] == UNTOUCHED
 }

@@ -7,6 +7,7 @@ use crate::answers::compare_output;
 use crate::cdata;
 use crate::fields::field;
 use crate::fields::field_count;
+use crate::tables;
 use crate::values::Parsed;
 use crate::values::decimal;
 use crate::values::decode_hex;
@@ -46,6 +47,7 @@ pub fn replay_line(line: &[u8]) -> Outcome {
     replay_text_line(line)
 }
 
+// A call of a text alone, or else one with a table.
 fn replay_text_line(line: &[u8]) -> Outcome {
     let call = field(line, 0);
     if check::same(call, b"check_utf8") {
@@ -63,7 +65,7 @@ fn replay_text_line(line: &[u8]) -> Outcome {
     if check::same(call, b"trim_xml_spaces") {
         return replay_text(line, TextCall::TrimSpaces);
     }
-    Outcome::Malformed
+    tables::replay_table_line(line)
 }
 
 // CALL TEXT = NUMBER FIRST SECOND
@@ -120,7 +122,7 @@ fn replay_output(line: &[u8], call: OutputCall) -> Outcome {
     let mut answer = [UNWRITTEN; 2];
     let r = room as usize;
     let number = call_output(call, &text[..n], choice as u8, &mut out[0..r], &mut answer);
-    compare_output(line, number, answer, &out)
+    compare_output(line, 4, number, answer, &out)
 }
 
 fn call_output(

@@ -7,10 +7,11 @@ mod calls;
 mod cdata;
 mod fields;
 mod lines;
+mod tables;
 mod values;
 
 fn main() {
-    // A text and an output of 2,048 bytes each take 8,192 digits.
+    // A text, a list, a pool, a value and an output of 2,048 bytes each take 20,480 digits.
     let mut line = io::large_buffer();
     let p = lines::replay_all(&mut line);
     lines::report_counts(p);

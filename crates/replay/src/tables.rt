@@ -1,0 +1,258 @@
+// The calls with an entity table. Text, list and pool are read first, then what each call has beside them.
+ghost use Prim.Native.Nat.{_<_};
+use crate::answers::Outcome;
+use crate::answers::UNTOUCHED;
+use crate::answers::UNWRITTEN;
+use crate::answers::compare;
+use crate::answers::compare_lent;
+use crate::answers::compare_output;
+use crate::fields::field;
+use crate::fields::field_count;
+use crate::values::Parsed;
+use crate::values::decimal;
+use crate::values::decode_hex;
+
+enum TableCall {
+    CheckTable,
+    Unescape,
+    NormalizeAttributeValue,
+    CanonicalForm,
+}
+
+// VERSION DEPTH LIMIT
+struct Settings {
+    version: u8,
+    depth: u64,
+    limit: u64,
+}
+
+enum ParsedSettings {
+    Known(Settings),
+    Malformed,
+}
+
+pub fn replay_table_line(line: &[u8]) -> Outcome {
+    let call = field(line, 0);
+    if check::same(call, b"check_table") {
+        return replay_table(line, TableCall::CheckTable, b"", 1);
+    }
+    if check::same(call, b"unescape") {
+        return replay_text_and_table(line, TableCall::Unescape, 2);
+    }
+    if check::same(call, b"normalize_attribute_value") {
+        return replay_text_and_table(line, TableCall::NormalizeAttributeValue, 5);
+    }
+    if check::same(call, b"canonical_form") {
+        return replay_text_and_table(line, TableCall::CanonicalForm, 5);
+    }
+    Outcome::Malformed
+}
+
+// Reads TEXT; LIST is field `at`.
+fn replay_text_and_table(line: &[u8], call: TableCall, at: usize) -> Outcome
+    requires { ⌜ at < 100 ⌝ }
+{
+    let mut text = [0u8; 2048];
+    let decoded = decode_hex(field(line, 1), &mut text);
+    if !decoded.ok {
+        return Outcome::Malformed;
+    }
+    let n = decoded.length;
+    replay_table(line, call, &text[..n], at)
+}
+
+// Reads LIST, which is field `at`, and POOL, the next.
+fn replay_table(line: &[u8], call: TableCall, text: &[u8], at: usize) -> Outcome
+    requires { ⌜ at < 100 ⌝ }
+{
+    let mut list = [0u8; 2048];
+    let list_decoded = decode_hex(field(line, at), &mut list);
+    if !list_decoded.ok {
+        return Outcome::Malformed;
+    }
+    let mut pool = [0u8; 2048];
+    let pool_decoded = decode_hex(field(line, at + 1), &mut pool);
+    if !pool_decoded.ok {
+        return Outcome::Malformed;
+    }
+    let n = list_decoded.length;
+    let m = pool_decoded.length;
+    replay_call(line, call, text, &list[..n], &pool[..m])
+}
+
+fn replay_call(line: &[u8], call: TableCall, text: &[u8], list: &[u8], pool: &[u8]) -> Outcome {
+    match call {
+        TableCall::CheckTable => replay_check_table(line, list, pool),
+        TableCall::Unescape => replay_unescape(line, text, list, pool),
+        TableCall::NormalizeAttributeValue => replay_normalize(line, text, list, pool),
+        TableCall::CanonicalForm => replay_canonical(line, text, list, pool),
+    }
+}
+
+// check_table LIST POOL = NUMBER FIRST SECOND
+fn replay_check_table(line: &[u8], list: &[u8], pool: &[u8]) -> Outcome {
+    if field_count(line) != 7 {
+        return Outcome::Malformed;
+    }
+    let mut answer = [UNWRITTEN; 2];
+    let number = govlezna::govlezna_check_table(list, pool, &mut answer);
+    compare(line, 3, number, answer)
+}
+
+// unescape TEXT LIST POOL ROOM = NUMBER FIRST SECOND OUTPUT
+fn replay_unescape(line: &[u8], text: &[u8], list: &[u8], pool: &[u8]) -> Outcome {
+    if field_count(line) != 10 {
+        return Outcome::Malformed;
+    }
+    let Parsed::Number(room) = decimal(field(line, 4)) else {
+        return Outcome::Malformed;
+    };
+    if 2048 < room {
+        return Outcome::Malformed;
+    }
+    let mut out = [UNTOUCHED; 2048];
+    let mut answer = [UNWRITTEN; 2];
+    let r = room as usize;
+    let number = govlezna::govlezna_unescape(text, list, pool, &mut out[0..r], &mut answer);
+    compare_output(line, 5, number, answer, &out)
+}
+
+// Fields 2 to 4 of a call that walks an attribute value.
+fn parse_settings(line: &[u8]) -> ParsedSettings {
+    let Parsed::Number(version) = decimal(field(line, 2)) else {
+        return ParsedSettings::Malformed;
+    };
+    let Parsed::Number(depth) = decimal(field(line, 3)) else {
+        return ParsedSettings::Malformed;
+    };
+    let Parsed::Number(limit) = decimal(field(line, 4)) else {
+        return ParsedSettings::Malformed;
+    };
+    if 255 < version {
+        return ParsedSettings::Malformed;
+    }
+    ParsedSettings::Known(Settings {
+        version: version as u8,
+        depth,
+        limit,
+    })
+}
+
+// normalize_attribute_value TEXT VERSION DEPTH LIMIT LIST POOL ROOM = NUMBER FIRST SECOND OUTPUT
+fn replay_normalize(line: &[u8], text: &[u8], list: &[u8], pool: &[u8]) -> Outcome {
+    if field_count(line) != 13 {
+        return Outcome::Malformed;
+    }
+    let ParsedSettings::Known(settings) = parse_settings(line) else {
+        return Outcome::Malformed;
+    };
+    let Parsed::Number(room) = decimal(field(line, 7)) else {
+        return Outcome::Malformed;
+    };
+    if 2048 < room {
+        return Outcome::Malformed;
+    }
+    let mut out = [UNTOUCHED; 2048];
+    let mut answer = [UNWRITTEN; 2];
+    let r = room as usize;
+    let number = call_normalize(settings, text, list, pool, &mut out[0..r], &mut answer);
+    compare_output(line, 8, number, answer, &out)
+}
+
+fn call_normalize(
+    settings: Settings,
+    text: &[u8],
+    list: &[u8],
+    pool: &[u8],
+    out: &mut [u8],
+    answer: &mut [u64; 2],
+) -> u32 {
+    govlezna::govlezna_normalize_attribute_value(
+        text,
+        settings.version,
+        settings.depth,
+        settings.limit,
+        list,
+        pool,
+        out,
+        answer,
+    )
+}
+
+// canonical_form TEXT VERSION DEPTH LIMIT LIST POOL SCRATCH ROOM = NUMBER FIRST SECOND VALUE OUTPUT
+fn replay_canonical(line: &[u8], text: &[u8], list: &[u8], pool: &[u8]) -> Outcome {
+    if field_count(line) != 15 {
+        return Outcome::Malformed;
+    }
+    let ParsedSettings::Known(settings) = parse_settings(line) else {
+        return Outcome::Malformed;
+    };
+    let Parsed::Number(scratch_room) = decimal(field(line, 7)) else {
+        return Outcome::Malformed;
+    };
+    let Parsed::Number(room) = decimal(field(line, 8)) else {
+        return Outcome::Malformed;
+    };
+    if 2048 < scratch_room {
+        return Outcome::Malformed;
+    }
+    if 2048 < room {
+        return Outcome::Malformed;
+    }
+    let mut scratch = [UNTOUCHED; 2048];
+    let mut out = [UNTOUCHED; 2048];
+    let mut answer = [UNWRITTEN; 2];
+    let k = scratch_room as usize;
+    let r = room as usize;
+    let number = call_canonical(
+        settings,
+        text,
+        list,
+        pool,
+        &mut scratch[0..k],
+        &mut out[0..r],
+        &mut answer,
+    );
+    compare_form(line, number, answer, &scratch, &out)
+}
+
+fn call_canonical(
+    settings: Settings,
+    text: &[u8],
+    list: &[u8],
+    pool: &[u8],
+    scratch: &mut [u8],
+    out: &mut [u8],
+    answer: &mut [u64; 2],
+) -> u32 {
+    govlezna::govlezna_canonical_form(
+        text,
+        settings.version,
+        settings.depth,
+        settings.limit,
+        list,
+        pool,
+        scratch,
+        out,
+        answer,
+    )
+}
+
+// Compares with `= NUMBER FIRST SECOND VALUE OUTPUT`. VALUE is what the scratch holds at its start.
+fn compare_form(
+    line: &[u8],
+    number: u32,
+    answer: [u64; 2],
+    scratch: &[u8; 2048],
+    out: &[u8; 2048],
+) -> Outcome {
+    let outcome = compare(line, 9, number, answer);
+    let Outcome::Same = outcome else {
+        return outcome;
+    };
+    let value = compare_lent(line, 13, number, answer, scratch);
+    let Outcome::Same = value else {
+        return value;
+    };
+    compare_lent(line, 14, number, answer, out)
+}
