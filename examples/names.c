@@ -1,4 +1,7 @@
-/* The calls from C: a panel's name is checked, references are read, text is written as an attribute and as CDATA. */
+/*
+ * The calls from C: a panel's name is checked, references are read, text is written as an attribute and as CDATA; with an
+ * entity table a name is unescaped, normalized and given its canonical form.
+ */
 #include "govlezna.h"
 
 #include <inttypes.h>
@@ -8,6 +11,20 @@
 static const uint8_t *bytes(const char *s)
 {
     return (const uint8_t *)s;
+}
+
+static void show_refusal(uint32_t number, const uint64_t answer[2])
+{
+    printf("refused by %" PRIu32 " (%" PRIu64 ", %" PRIu64 ")\n", number, answer[0], answer[1]);
+}
+
+static void show_text(const char *what, uint32_t number, const uint64_t answer[2], const uint8_t *out)
+{
+    printf("%s: ", what);
+    if (number == 0)
+        printf("%.*s\n", (int)answer[0], (const char *)out);
+    else
+        show_refusal(number, answer);
 }
 
 static void check(const char *name)
@@ -24,10 +41,11 @@ static void read_number(const char *text)
 {
     uint64_t answer[2];
     uint32_t number = govlezna_parse_number(bytes(text), strlen(text), answer);
+    printf("&#%s; ", text);
     if (number == 0)
-        printf("&#%s; is U+%04" PRIX64 "\n", text, answer[0]);
+        printf("is U+%04" PRIX64 "\n", answer[0]);
     else
-        printf("&#%s; refused by %" PRIu32 " (%" PRIu64 ", %" PRIu64 ")\n", text, number, answer[0], answer[1]);
+        show_refusal(number, answer);
 }
 
 static void write_attribute(const char *text)
@@ -35,10 +53,7 @@ static void write_attribute(const char *text)
     uint64_t answer[2];
     uint8_t out[64];
     uint32_t number = govlezna_escape(bytes(text), strlen(text), 3, out, sizeof out, answer);
-    if (number == 0)
-        printf("attribute: %.*s\n", (int)answer[0], (const char *)out);
-    else
-        printf("attribute refused by %" PRIu32 " (%" PRIu64 ", %" PRIu64 ")\n", number, answer[0], answer[1]);
+    show_text("attribute", number, answer, out);
 }
 
 static void write_cdata(const char *text)
@@ -48,6 +63,100 @@ static void write_cdata(const char *text)
     while (govlezna_cdata_next(bytes(text), strlen(text), &cursor, answer) == 0)
         printf("<![CDATA[%.*s]]>", (int)answer[1], text + answer[0]);
     printf("\n");
+}
+
+/* An entity table. The list ends with command 0: start with { { 0 }, 1, { 0 }, 0 }, the empty table. */
+struct table {
+    uint8_t list[12 * 8 + 1];
+    size_t list_length;
+    uint8_t pool[256];
+    size_t pool_length;
+};
+
+static void put_number(uint8_t *to, size_t width, size_t value)
+{
+    for (size_t i = 0; i < width; i++)
+        to[i] = (uint8_t)(value >> 8 * i & 0xFF);
+}
+
+/* Appends bytes to the pool; their start. */
+static size_t put_pool(struct table *table, const char *s)
+{
+    size_t start = table->pool_length;
+    memcpy(table->pool + start, s, strlen(s));
+    table->pool_length += strlen(s);
+    return start;
+}
+
+/* Appends a definition, in the place of the list's end, and the end after it. 0 where there is no room for it. */
+static int define(struct table *table, const char *name, const char *text)
+{
+    size_t name_length = strlen(name), text_length = strlen(text);
+    uint8_t *command = table->list + table->list_length - 1;
+    if (name_length > 0xFF || text_length > 0xFFFF || table->list_length + 12 > sizeof table->list ||
+        name_length + text_length > sizeof table->pool - table->pool_length)
+        return 0;
+    command[0] = 1;
+    put_number(command + 1, 4, put_pool(table, name));
+    put_number(command + 5, 1, name_length);
+    put_number(command + 6, 4, put_pool(table, text));
+    put_number(command + 10, 2, text_length);
+    command[12] = 0;
+    table->list_length += 12;
+    return 1;
+}
+
+static void check_table(const struct table *t)
+{
+    uint64_t answer[2];
+    uint32_t number = govlezna_check_table(t->list, t->list_length, t->pool, t->pool_length, answer);
+    printf("table: ");
+    if (number == 0)
+        printf("%" PRIu64 " definitions\n", answer[0]);
+    else
+        show_refusal(number, answer);
+}
+
+static void unescape(const char *text, const struct table *t)
+{
+    uint64_t answer[2];
+    uint8_t out[64];
+    uint32_t number = govlezna_unescape(bytes(text), strlen(text), t->list, t->list_length, t->pool, t->pool_length, out,
+                                        sizeof out, answer);
+    show_text("unescape", number, answer, out);
+}
+
+/* The value and its form, read as XML 1.0. */
+static void read_value(const char *text, uint64_t depth, uint64_t limit, const struct table *t)
+{
+    uint64_t answer[2];
+    uint8_t scratch[64], out[64];
+    uint32_t number = govlezna_normalize_attribute_value(bytes(text), strlen(text), 0, depth, limit, t->list,
+                                                         t->list_length, t->pool, t->pool_length, out, sizeof out, answer);
+    show_text("normalize", number, answer, out);
+    if (number != 0)
+        return;
+    printf("openings: %" PRIu64 "\n", answer[1]);
+    number = govlezna_canonical_form(bytes(text), strlen(text), 0, depth, limit, t->list, t->list_length, t->pool,
+                                     t->pool_length, scratch, sizeof scratch, out, sizeof out, answer);
+    show_text("canonical form", number, answer, out);
+}
+
+static void use_table(void)
+{
+    struct table table = { { 0 }, 1, { 0 }, 0 };
+    const char *name = "&panel;\t&lt;top&gt;&#9;";
+    if (!define(&table, "sail", "Gro&#xDF;segel") || !define(&table, "panel", "&sail;\r\n3"))
+        return;
+    check_table(&table);
+    unescape("&#xBD; &sail;", &table);
+    unescape("a &boom;", &table);
+    read_value(name, 8, 100, &table);
+    read_value(name, 1, 100, &table);
+    read_value(name, 8, 1, &table);
+    read_value("a &boom;", 8, 100, &table);
+    table.list_length -= 1;
+    check_table(&table);
 }
 
 int main(void)
@@ -62,5 +171,6 @@ int main(void)
     read_number("0");
     write_attribute("a<b\t");
     write_cdata("]]>]]>");
+    use_table();
     return 0;
 }

@@ -4,11 +4,15 @@
  * Every call takes its arguments as they come and checks them itself. The result is 0 for success, or the number of
  * the refusal. Both words of `answer` are written by every call: on success what the call says below, on a refusal its
  * first and second; a word that nothing is said of is 0. On success the first bytes of an output are the result and the
- * rest keep their bytes. A refusal writes nothing but the answer words.
+ * rest keep their bytes. A refusal writes nothing but the answer words; the one exception is 19 of
+ * govlezna_canonical_form, whose scratch then holds the value.
+ *
+ * To learn how long a result is, call with an output of length 0: refusal 19 gives the length needed, and success means
+ * that the result is empty.
  *
  * What a caller owes:
- * - `text` points to `text_length` readable bytes, of any value; `out` to `out_length` writable bytes. NULL is allowed
- *   where the length is 0.
+ * - `text`, `list` and `pool` point to as many readable bytes as their length says, of any value; `out` and `scratch` to
+ *   as many writable bytes. NULL is allowed where the length is 0.
  * - `answer` points to two writable words, `cursor` to a cursor.
  * - What a call may write overlaps nothing else that it is lent.
  * Nothing is kept after a call, and no call allocates: calls on different buffers may run at the same time.
@@ -26,15 +30,27 @@ extern "C" {
 #endif
 
 /* Refusals. The checks of a call run in the order in which its comment lists them; the first that applies answers. */
-#define GOVLEZNA_TOO_LONG 1            /* text over 16,777,216 bytes: first is its length */
-#define GOVLEZNA_UNKNOWN_BYTE 4        /* unknown level or version byte */
-#define GOVLEZNA_NOT_UTF8 5            /* text not UTF-8: first is the end of its longest well-formed prefix */
-#define GOVLEZNA_UNEXPECTED_SIGN 12    /* the number starts with + or - */
-#define GOVLEZNA_INVALID_NUMBER 13     /* no digits, a byte that is no digit, or a value over 4,294,967,295 */
-#define GOVLEZNA_INVALID_CODEPOINT 14  /* a surrogate, or a value over 1,114,111: first is the value */
-#define GOVLEZNA_ILLEGAL_CHARACTER 15  /* the value 0 */
-#define GOVLEZNA_NO_ROOM 19            /* output shorter than the result: first is the length needed */
-#define GOVLEZNA_CURSOR_OUTSIDE 20     /* cursor past the end or inside a character: first is its offset */
+#define GOVLEZNA_TOO_LONG 1             /* text over 16,777,216 bytes: first is its length */
+#define GOVLEZNA_DEPTH_TOO_LARGE 2      /* depth over 128 */
+#define GOVLEZNA_LIMIT_TOO_LARGE 3      /* opening limit over 1,000,000 */
+#define GOVLEZNA_UNKNOWN_BYTE 4         /* unknown level or version byte */
+#define GOVLEZNA_NOT_UTF8 5             /* text not UTF-8: first is the end of its longest well-formed prefix */
+#define GOVLEZNA_TABLE_TOO_LONG 6       /* list over 49,153 or pool over 1,048,576 bytes */
+#define GOVLEZNA_MALFORMED_LIST 7       /* unknown command or cut operands: first is the command's offset; no end: the
+                                           list's length; bytes after the end: the offset of the first of them */
+#define GOVLEZNA_OUTSIDE_POOL 8         /* a name or text runs past the pool: first is the command's offset */
+#define GOVLEZNA_INVALID_DEFINITION 9   /* name empty, name or text not UTF-8: first is the command's offset */
+#define GOVLEZNA_UNTERMINATED_ENTITY 10 /* no ; after & : first is the offset of &, second the text's length */
+#define GOVLEZNA_UNRECOGNIZED_ENTITY 11 /* unknown name: first and second are its start and end */
+#define GOVLEZNA_UNEXPECTED_SIGN 12     /* the number starts with + or - */
+#define GOVLEZNA_INVALID_NUMBER 13      /* no digits, a byte that is no digit, or a value over 4,294,967,295 */
+#define GOVLEZNA_INVALID_CODEPOINT 14   /* a surrogate, or a value over 1,114,111: first is the value */
+#define GOVLEZNA_ILLEGAL_CHARACTER 15   /* the value 0 */
+#define GOVLEZNA_TOO_DEEP 16            /* depth used up */
+#define GOVLEZNA_TOO_MANY_OPENINGS 17   /* opening limit used up: first is the offset of & */
+#define GOVLEZNA_NO_SCRATCH 18          /* scratch shorter than the value: first is the length needed */
+#define GOVLEZNA_NO_ROOM 19             /* output shorter than the result: first is the length needed */
+#define GOVLEZNA_CURSOR_OUTSIDE 20      /* cursor past the end or inside a character: first is its offset */
 
 /* No refusal: there is no further piece. */
 #define GOVLEZNA_NO_MORE 255
@@ -67,6 +83,72 @@ uint32_t govlezna_parse_number(const uint8_t *text, size_t text_length, uint64_t
  * Refusals: 1, 4, 5, 19. Success: answer[0] is the length written.
  */
 uint32_t govlezna_normalize_eols(const uint8_t *text, size_t text_length, uint8_t version, uint8_t *out,
+                                 size_t out_length, uint64_t answer[2]);
+
+/*
+ * Entity tables. A table is a list of commands and a pool of bytes, both lent. A command is one byte and operands of
+ * fixed width, little-endian:
+ *   1  name start (4 bytes), name length (1), text start (4), text length (2): a definition, 12 bytes in all; the starts
+ *      are offsets in the pool.
+ *   0  end: the last byte of the list. Alone it is the empty table.
+ * Where a name is defined twice, the first definition binds. A name that no definition has may be one of lt, gt, amp,
+ * apos and quot, which stand for < > & ' " . A table may define these five.
+ *
+ * Example: the list { 1, 0,0,0,0, 1, 1,0,0,0, 4,0, 0 } and the pool "esail" define e as `sail`.
+ */
+
+/*
+ * Is the table valid? The calls below check their table in the same way.
+ * Refusals: 6; then 7, 8, 9, command by command. Success: answer[0] is the number of definitions.
+ * Example: the table above gives 1. Without its last byte it is refused by 7, first 12.
+ */
+uint32_t govlezna_check_table(const uint8_t *list, size_t list_length, const uint8_t *pool, size_t pool_length,
+                              uint64_t answer[2]);
+
+/*
+ * The text with each reference as what it stands for: &#65; or &#x41; as the character, &name; as the name's text, which
+ * is copied as it stands. From & the next & or ; must be a ; .
+ * Refusals: 1, 5; 6 to 9; the first of 10 to 15 from left to right; 19. Success: answer[0] is the length written.
+ * Example: with the table above `&lt;&e; &#65;` gives `<sail A`; `a&b;` is refused by 11, first 2, second 3.
+ */
+uint32_t govlezna_unescape(const uint8_t *text, size_t text_length, const uint8_t *list, size_t list_length,
+                           const uint8_t *pool, size_t pool_length, uint8_t *out, size_t out_length,
+                           uint64_t answer[2]);
+
+/*
+ * The attribute value normalized: TAB, LF and each line end of the version (see govlezna_normalize_eols) become one
+ * space; a character reference becomes its character, which is never turned into a space; &amp; becomes &, whatever the
+ * table says; a reference to another name is replaced by the name's text, read by the same rules with the depth one less.
+ * A name runs from & to the next ; .
+ *
+ * `depth`, at most 128: a text read at depth 0 is refused by 16 where it has a TAB, LF, CR, & or, in version 2, a byte C2
+ * or E2. `limit`, at most 1,000,000: how many texts of the table may be opened; one of the five that the table does not
+ * define is not counted. The limit bounds the work and the length: each opening brings at most 65,535 bytes.
+ *
+ * Refusals: 1, 2, 3, 4, 5; 6 to 9; the first of 10 to 17 from left to right, with offsets in the text that is being read,
+ * which may be a text of the table; 19. Success: answer[0] is the length written, answer[1] the number of openings.
+ * Example: version 0, depth 2, limit 10, the table above: `&e;` TAB `&#9;` gives `sail`, a space and a TAB, openings 1.
+ * With limit 0 it is refused by 17, first 0; at depth 0 by 16.
+ */
+uint32_t govlezna_normalize_attribute_value(const uint8_t *text, size_t text_length, uint8_t version, uint64_t depth,
+                                            uint64_t limit, const uint8_t *list, size_t list_length,
+                                            const uint8_t *pool, size_t pool_length, uint8_t *out, size_t out_length,
+                                            uint64_t answer[2]);
+
+/*
+ * The canonical form of an attribute value: the normalized value, written as level 3 of govlezna_escape; in version 2
+ * also U+0085 as &#133; and U+2028 as &#8232; . Two values of one XML version have equal forms exactly when their
+ * normalized values are equal. A form of at most 16,777,216 bytes, normalized in the same version at depth 1 or more with
+ * a table that defines none of lt, gt, apos and quot, gives the normalized value back, and its form is itself.
+ *
+ * Refusals: those of govlezna_normalize_attribute_value up to 17; 18; 19. Success: answer[0] is the length of the form,
+ * answer[1] the number of openings. After success, and after 19, the first bytes of the scratch are the normalized value,
+ * and its rest keeps its bytes.
+ * Example: with the settings above `&e;` TAB `&#9;` gives `sail &#9;`, openings 1, and the scratch begins with the value.
+ */
+uint32_t govlezna_canonical_form(const uint8_t *text, size_t text_length, uint8_t version, uint64_t depth,
+                                 uint64_t limit, const uint8_t *list, size_t list_length, const uint8_t *pool,
+                                 size_t pool_length, uint8_t *scratch, size_t scratch_length, uint8_t *out,
                                  size_t out_length, uint64_t answer[2]);
 
 /*
