@@ -13,7 +13,7 @@ ghost use Rattle.govlezna.specs.declared.CDataNext.{CDataNext};
 ghost use Rattle.utils.specs.Trim.{trimStart, trimEnd, trimSpaces};
 
 // All that `govlezna_cdata_next` leaves behind: its number, the answer words and the cursor.
-struct CDataNext {
+pub struct CDataNext {
     number: u32,
     words: [u64; 2],
     next: Cursor,
