@@ -7,3 +7,4 @@ pub mod Reread
 pub mod Deeper
 pub mod Checked
 pub mod Formed
+mod Examples

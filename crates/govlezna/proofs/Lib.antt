@@ -1,3 +1,4 @@
 mod Lent
 pub mod Passing
 mod Checks
+mod Examples

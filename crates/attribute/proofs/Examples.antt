@@ -1,0 +1,53 @@
+-- Small attribute values and canonical forms, for both versions, by computation (document 01, Test seams and Refusals by place).
+-- Assumes nothing.
+use mathlib.Core.Path.{_≡_, refl}
+use mathlib.Core.List.{List, [], _∷_}
+use Prim.Native.Nat.{ℕ}
+use Rattle.text.specs.Version.{Rule, xml10, xml11}
+use Rattle.text.specs.Call.{called}
+use Rattle.tokens.specs.Outcome.{Outcome, done, refused}
+use Rattle.attribute.specs.Walk.{normalize, readingOf}
+use Rattle.attribute.specs.Form.{formed}
+
+-- e = `&lt;x`; amp = `X`
+abbrev list : List ℕ
+list =
+    1 ∷ 0 ∷ 0 ∷ 0 ∷ 0 ∷ 1 ∷ 1 ∷ 0 ∷ 0 ∷ 0 ∷ 5 ∷ 0
+    ∷ 1 ∷ 6 ∷ 0 ∷ 0 ∷ 0 ∷ 3 ∷ 9 ∷ 0 ∷ 0 ∷ 0 ∷ 1 ∷ 0
+    ∷ 0 ∷ []
+
+abbrev pool : List ℕ
+pool = 101 ∷ 38 ∷ 108 ∷ 116 ∷ 59 ∷ 120 ∷ 97 ∷ 109 ∷ 112 ∷ 88 ∷ []
+
+-- with that table, at a depth, with an opening limit
+value : Rule → ℕ → ℕ → List ℕ → Outcome
+value r depth limit t = normalize (readingOf r list pool limit) depth t
+
+Values : Rule → Type 0
+Values r =
+    (value r 1 0 (38 ∷ 35 ∷ 49 ∷ 48 ∷ 59 ∷ []) ≡ done (10 ∷ []) 0)  -- &#10;
+    × (value r 1 0 (38 ∷ 97 ∷ 38 ∷ 98 ∷ 59 ∷ []) ≡ refused [] 0 11 1 4)  -- &a&b;
+    × (value r 1 0 (38 ∷ 97 ∷ 109 ∷ 112 ∷ 59 ∷ []) ≡ done (38 ∷ []) 0)  -- &amp;
+    × (value r 0 0 (97 ∷ 32 ∷ 98 ∷ []) ≡ done (97 ∷ 32 ∷ 98 ∷ []) 0)  -- a b, depth 0
+    × (value r 0 0 (97 ∷ 9 ∷ []) ≡ refused (97 ∷ []) 0 16 0 0)  -- a TAB, depth 0
+    × (value r 1 0 (97 ∷ 9 ∷ []) ≡ done (97 ∷ 32 ∷ []) 0)  -- a TAB, limit 0
+    × (value r 2 1 (38 ∷ 101 ∷ 59 ∷ []) ≡ done (60 ∷ 120 ∷ []) 1)  -- &e;
+    × (value r 2 1 (38 ∷ 101 ∷ 59 ∷ 38 ∷ 101 ∷ 59 ∷ []) ≡ refused (60 ∷ 120 ∷ []) 1 17 3 0)  -- &e;&e;, limit 1
+
+values : (r : Rule) → Values r
+unfolding Values value normalize readingOf
+values xml10 = (refl, refl, refl, refl, refl, refl, refl, refl)
+values xml11 = (refl, refl, refl, refl, refl, refl, refl, refl)
+
+-- the value `<`, whose form is `&lt;`: with room, with a short output, with a short scratch, and a refusal of the walk
+Forms : Rule → Type 0
+Forms r =
+    (formed r (done (60 ∷ []) 7) (1 ∷ 2 ∷ []) (1 ∷ 2 ∷ 3 ∷ 4 ∷ 5 ∷ []) ≡ called 0 (4 ∷ 7 ∷ []) ((60 ∷ 2 ∷ []) ∷ (38 ∷ 108 ∷ 116 ∷ 59 ∷ 5 ∷ []) ∷ []))
+    × (formed r (done (60 ∷ []) 7) (1 ∷ 2 ∷ []) (1 ∷ 2 ∷ []) ≡ called 19 (4 ∷ 0 ∷ []) ((60 ∷ 2 ∷ []) ∷ (1 ∷ 2 ∷ []) ∷ []))
+    × (formed r (done (60 ∷ []) 7) [] (1 ∷ 2 ∷ []) ≡ called 18 (1 ∷ 0 ∷ []) ([] ∷ (1 ∷ 2 ∷ []) ∷ []))
+    × (formed r (refused (60 ∷ []) 7 11 1 4) (1 ∷ 2 ∷ []) (1 ∷ 2 ∷ []) ≡ called 11 (1 ∷ 4 ∷ []) ((1 ∷ 2 ∷ []) ∷ (1 ∷ 2 ∷ []) ∷ []))
+
+forms : (r : Rule) → Forms r
+unfolding Forms formed
+forms xml10 = (refl, refl, refl, refl)
+forms xml11 = (refl, refl, refl, refl)
