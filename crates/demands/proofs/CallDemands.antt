@@ -268,12 +268,12 @@ canonical-roomy a value openings p scratch out room space =
 
 -- ---- and a call that answered 0 accepted
 
-record Normalized (a : Asked) (out : List ℕ) (size openings : ℕ) (left : List ℕ) : Type 0 where
-  value : List ℕ
-  accepted : Accepted a value openings
-  value-is : take size left ≡ value
+pub record Normalized (a : Asked) (out : List ℕ) (size openings : ℕ) (left : List ℕ) : Type 0 where
+  pub value : List ℕ
+  pub accepted : Accepted a value openings
+  pub value-is : take size left ≡ value
 
-normalize-answered : (a : Asked) (out : List ℕ) {size openings : ℕ} {left : List ℕ} → normalizeOf a out ≡ called 0 (size ∷ openings ∷ []) (left ∷ [])
+pub normalize-answered : (a : Asked) (out : List ℕ) {size openings : ℕ} {left : List ℕ} → normalizeOf a out ≡ called 0 (size ∷ openings ∷ []) (left ∷ [])
     → Normalized a out size openings left
 unfolding normalizeAttributeValueCall finished
 normalize-answered a out {size} {openings} {left} e =
@@ -392,7 +392,7 @@ demand-3-calls-again a x b c =
     let again : AskedAgain a (valueOf a x) b =
     record {
       form = c .form ∙ p .form;
-      size = rw (c .form, p .form, sym (p .size)) (c .size);
+      size = rw (c .form, p .form, sym (p .size)) (omega (arith, c .size));
       version = c .version;
       known = c .known;
       shallow = c .shallow;

@@ -3,7 +3,7 @@ pub mod RoundTrip
 pub mod Demands
 pub mod CallDemands
 pub mod Refusals
-pub mod Runs
+pub mod Again
 mod Seams
 pub mod Lines
 pub mod Decoding

@@ -2,4 +2,4 @@ pub mod Demands
 pub mod CallDemands
 pub mod Characters
 pub mod Standard
-pub mod Runs
+pub mod Again

@@ -3,7 +3,7 @@
 ghost use mathlib.Core.Path.{_≡_};
 ghost use mathlib.Core.List.{[], _∷_};
 ghost use Rattle.text.specs.Call.{called};
-ghost use Rattle.demands.specs.Runs.{escapedBack, canonicalTwice};
+ghost use Rattle.demands.specs.Again.{escapedBack, canonicalTwice};
 
 // Escapes the text into `out`, and unescapes that form, with an empty table, into `back`: the text again.
 pub fn escape_unescape(

@@ -1,4 +1,4 @@
-use Rattle.demands.proofs.Runs.{asked, canonical-stops, canonical-fits, canonical-read, taken-size}
+use Rattle.demands.proofs.Again.{asked, canonical-stops, canonical-fits, canonical-read, taken-size}
 use borrow.Author.Needs.{needs}
 use Rattle.demands.proofs.canonical_twice.Statement.{statement}
 use Rattle.demands.proofs.canonical_twice.Tie as tie

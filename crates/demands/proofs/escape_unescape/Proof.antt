@@ -1,4 +1,4 @@
-use Rattle.demands.proofs.Runs.{escape-stops, escape-fits, escape-read, taken-size}
+use Rattle.demands.proofs.Again.{escape-stops, escape-fits, escape-read, taken-size}
 use borrow.Author.Needs.{needs}
 use Rattle.demands.proofs.escape_unescape.Statement.{statement}
 use Rattle.demands.proofs.escape_unescape.Tie as tie
