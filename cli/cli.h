@@ -1,0 +1,83 @@
+/* What the files of the command line program share. */
+#ifndef CLI_H
+#define CLI_H
+
+#include "govlezna.h"
+
+#include <stdio.h>
+
+#define TEXT_MOST ((size_t)16777216)
+#define LIST_MOST ((size_t)49153)
+#define POOL_MOST ((size_t)1048576)
+
+enum command { ESCAPE, UNESCAPE, NORMALIZE, CANONICAL, EOLS, TRIM, CDATA, CHECK };
+enum side { BOTH, START, END };
+
+/* Bytes that are lent. */
+struct span {
+    const uint8_t *bytes;
+    size_t length;
+};
+
+/* The arguments, taken apart. Pointers are into argv; the entities are as written, NAME=TEXT. */
+struct arguments {
+    enum command command;
+    const char *text, *file, *list, *pool;
+    char **entities;
+    size_t entity_count;
+    uint8_t level, version;
+    uint64_t depth, limit;
+    enum side side;
+    int json;
+};
+
+/* One call to make: the arguments with their text and table read. The buffers are owned. */
+struct request {
+    const struct arguments *arguments;
+    uint8_t *text, *list, *pool;
+    size_t text_length, list_length, pool_length;
+};
+
+/* The library's answer. The bytes are the result, owned; of check, trim and cdata there are none. */
+struct outcome {
+    uint32_t number;
+    uint64_t answer[2];
+    uint8_t *bytes;
+};
+
+/* Where a refusal lies. */
+struct place {
+    int known;
+    struct span text;      /* the text that was being read */
+    struct span entity;    /* the name that it is the text of; no bytes: the text given */
+    size_t start, end;
+    size_t opened;         /* where in the text given the reference stands that leads there */
+};
+
+/* options.c */
+const char *command_name(enum command command);
+void read_arguments(int argc, char **argv, struct arguments *arguments);
+
+/* input.c. Whatever goes wrong ends the program with status 2. */
+void fail(const char *what, const char *why);
+void *allocate(size_t length);
+void read_request(const struct arguments *arguments, struct request *request);
+void free_request(struct request *request);
+
+/* calls.c */
+uint32_t make_call(const struct request *request, struct outcome *outcome);
+uint32_t next_piece(const struct request *request, struct govlezna_cursor *cursor, uint64_t answer[2]);
+
+/* place.c */
+struct place find_place(const struct request *request, const struct outcome *outcome);
+
+/* report.c */
+const char *words_of(uint32_t number);
+void report_refusal(const struct request *request, const struct outcome *outcome);
+
+/* json.c */
+void json_success(const struct request *request, const struct outcome *outcome);
+void json_refusal(const struct request *request, const struct outcome *outcome);
+size_t line_of(struct span text, size_t offset);
+
+#endif

@@ -1,0 +1,73 @@
+/* govlezna: the library's calls from the command line. `govlezna --help` says how it is used. */
+#define _POSIX_C_SOURCE 200809L
+
+#include "cli.h"
+
+#include <errno.h>
+#include <inttypes.h>
+#include <stdlib.h>
+#include <string.h>
+#include <unistd.h>
+
+static void put(const void *bytes, size_t length)
+{
+    if (length > 0)
+        fwrite(bytes, 1, length, stdout);
+}
+
+static void put_sections(const struct request *q)
+{
+    struct govlezna_cursor cursor = { 0, 0 };
+    uint64_t answer[2];
+    while (next_piece(q, &cursor, answer) == 0) {
+        fputs("<![CDATA[", stdout);
+        put(q->text + answer[0], answer[1]);
+        fputs("]]>", stdout);
+    }
+}
+
+static void put_check(const struct request *q, const struct outcome *o)
+{
+    printf("UTF-8, %" PRIu64 " bytes\n", o->answer[0]);
+    if (q->arguments->list != NULL || q->arguments->entity_count > 0)
+        printf("table valid, %" PRIu64 " definitions\n", o->answer[1]);
+}
+
+static void put_success(const struct request *q, const struct outcome *o)
+{
+    switch (q->arguments->command) {
+    case CHECK: put_check(q, o); return;
+    case CDATA: put_sections(q); break;
+    case TRIM: put(q->text + o->answer[0], o->answer[1]); break;
+    default: put(o->bytes, o->answer[0]); break;
+    }
+    if (isatty(STDOUT_FILENO))
+        putchar('\n');
+}
+
+static void answer(const struct request *q, const struct outcome *o)
+{
+    if (q->arguments->json)
+        (o->number == 0 ? json_success : json_refusal)(q, o);
+    else if (o->number == 0)
+        put_success(q, o);
+    else
+        report_refusal(q, o);
+}
+
+int main(int argc, char **argv)
+{
+    struct arguments arguments;
+    struct request request;
+    struct outcome outcome;
+    read_arguments(argc, argv, &arguments);
+    read_request(&arguments, &request);
+    make_call(&request, &outcome);
+    answer(&request, &outcome);
+    if (fflush(stdout) != 0 || ferror(stdout))
+        fail("standard output", strerror(errno));
+    free(outcome.bytes);
+    free_request(&request);
+    free(arguments.entities);
+    return outcome.number == 0 ? 0 : 1;
+}

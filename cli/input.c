@@ -1,0 +1,117 @@
+/* The text and the entity table, read whole. */
+#include "cli.h"
+
+#include <errno.h>
+#include <stdlib.h>
+#include <string.h>
+
+void fail(const char *what, const char *why)
+{
+    fprintf(stderr, "govlezna: %s: %s\n", what, why);
+    exit(2);
+}
+
+/* Never NULL, for a length of 0 too. */
+void *allocate(size_t length)
+{
+    void *bytes = malloc(length > 0 ? length : 1);
+    if (bytes == NULL)
+        fail("out of memory", "the result does not fit");
+    return bytes;
+}
+
+/* Reads to the end of the stream, or one byte over the most: enough for the library to refuse the length. */
+static uint8_t *read_stream(FILE *stream, const char *path, size_t most, size_t *length)
+{
+    size_t room = 65536 < most + 1 ? 65536 : most + 1;
+    uint8_t *bytes = allocate(room);
+    *length = 0;
+    for (;;) {
+        *length += fread(bytes + *length, 1, room - *length, stream);
+        if (ferror(stream)) {
+            const char *why = strerror(errno);
+            free(bytes);
+            fail(path, why);
+        }
+        if (*length < room || *length > most)
+            return bytes;
+        room = room < most / 2 ? room * 2 : most + 1;
+        bytes = realloc(bytes, room);
+        if (bytes == NULL)
+            fail(path, strerror(ENOMEM));
+    }
+}
+
+static uint8_t *read_file(const char *path, size_t most, size_t *length)
+{
+    FILE *stream = fopen(path, "rb");
+    uint8_t *bytes;
+    if (stream == NULL)
+        fail(path, strerror(errno));
+    bytes = read_stream(stream, path, most, length);
+    fclose(stream);
+    return bytes;
+}
+
+static void read_text(const struct arguments *a, struct request *request)
+{
+    if (a->text != NULL) {
+        request->text_length = strlen(a->text);
+        request->text = allocate(request->text_length);
+        memcpy(request->text, a->text, request->text_length);
+    } else if (a->file != NULL && strcmp(a->file, "-") != 0) {
+        request->text = read_file(a->file, TEXT_MOST, &request->text_length);
+    } else {
+        request->text = read_stream(stdin, "standard input", TEXT_MOST, &request->text_length);
+    }
+}
+
+static void put_number(uint8_t *to, size_t width, size_t value)
+{
+    for (size_t i = 0; i < width; i++)
+        to[i] = (uint8_t)(value >> 8 * i & 0xFF);
+}
+
+/* The table of the --entity options: a command each, names and texts one after the other in the pool. */
+static void build_table(const struct arguments *a, struct request *request)
+{
+    uint8_t *command;
+    size_t pool_room = 0;
+    for (size_t i = 0; i < a->entity_count; i++)
+        pool_room += strlen(a->entities[i]) - 1;
+    request->list_length = 12 * a->entity_count + 1;
+    request->list = command = allocate(request->list_length);
+    request->pool = allocate(pool_room);
+    for (size_t i = 0; i < a->entity_count; i++, command += 12) {
+        const char *name = a->entities[i], *text = strchr(name, '=') + 1;
+        size_t name_length = (size_t)(text - name) - 1, start = request->pool_length;
+        memcpy(request->pool + start, name, name_length);
+        memcpy(request->pool + start + name_length, text, strlen(text));
+        request->pool_length += name_length + strlen(text);
+        command[0] = 1;
+        put_number(command + 1, 4, start);
+        put_number(command + 5, 1, name_length);
+        put_number(command + 6, 4, start + name_length);
+        put_number(command + 10, 2, strlen(text));
+    }
+    command[0] = 0;
+}
+
+void read_request(const struct arguments *a, struct request *request)
+{
+    *request = (struct request){ .arguments = a };
+    if (a->list != NULL) {
+        request->list = read_file(a->list, LIST_MOST, &request->list_length);
+        request->pool = read_file(a->pool, POOL_MOST, &request->pool_length);
+    } else {
+        build_table(a, request);
+    }
+    read_text(a, request);
+}
+
+void free_request(struct request *request)
+{
+    free(request->text);
+    free(request->list);
+    free(request->pool);
+}

@@ -1,0 +1,92 @@
+/* Answers as one line of JSON. Texts here are UTF-8: results, and names of tables that were checked. */
+#include "cli.h"
+
+#include <inttypes.h>
+
+static void put_string(struct span text)
+{
+    putchar('"');
+    for (size_t i = 0; i < text.length; i++) {
+        uint8_t byte = text.bytes[i];
+        if (byte == '"' || byte == '\\')
+            printf("\\%c", byte);
+        else if (byte < 0x20 || byte == 0x7F)
+            printf("\\u%04x", (unsigned)byte);
+        else
+            putchar(byte);
+    }
+    putchar('"');
+}
+
+static void put_number(const char *name, uint64_t value)
+{
+    printf(",\"%s\":%" PRIu64, name, value);
+}
+
+static void put_result(struct span result)
+{
+    printf(",\"result\":");
+    put_string(result);
+}
+
+static void put_pieces(const struct request *q)
+{
+    struct govlezna_cursor cursor = { 0, 0 };
+    uint64_t answer[2];
+    const char *between = "";
+    printf(",\"pieces\":[");
+    while (next_piece(q, &cursor, answer) == 0) {
+        printf("%s[%" PRIu64 ",%" PRIu64 "]", between, answer[0], answer[1]);
+        between = ",";
+    }
+    putchar(']');
+}
+
+static void begin(const struct request *q, uint32_t number)
+{
+    printf("{\"command\":\"%s\"", command_name(q->arguments->command));
+    put_number("number", number);
+}
+
+void json_success(const struct request *q, const struct outcome *o)
+{
+    enum command command = q->arguments->command;
+    begin(q, 0);
+    if (command == CDATA) {
+        put_pieces(q);
+    } else if (command == CHECK) {
+        put_number("length", o->answer[0]);
+        put_number("definitions", o->answer[1]);
+    } else if (command == TRIM) {
+        put_number("start", o->answer[0]);
+        put_number("length", o->answer[1]);
+        put_result((struct span){ q->text + o->answer[0], o->answer[1] });
+    } else {
+        put_number("length", o->answer[0]);
+        if (command == NORMALIZE || command == CANONICAL)
+            put_number("openings", o->answer[1]);
+        put_result((struct span){ o->bytes, o->answer[0] });
+    }
+    puts("}");
+}
+
+/* The library's answer, then the place: offsets in the text of `entity`, or else in the text given. */
+void json_refusal(const struct request *q, const struct outcome *o)
+{
+    struct place place = find_place(q, o);
+    begin(q, o->number);
+    printf(",\"words\":\"%s\"", words_of(o->number));
+    put_number("first", o->answer[0]);
+    put_number("second", o->answer[1]);
+    if (place.known) {
+        if (place.entity.length > 0) {
+            printf(",\"entity\":");
+            put_string(place.entity);
+            put_number("opened", place.opened);
+        }
+        put_number("start", place.start);
+        put_number("end", place.end);
+        put_number("line", line_of(place.text, place.start));
+    }
+    puts("}");
+}

@@ -1,0 +1,168 @@
+/* A refusal in words, with the line of the text and carets under its place. */
+#include "cli.h"
+
+#include <inttypes.h>
+#include <string.h>
+
+/* How much of a long line is shown: this many characters up to the place, and in all. */
+#define BEFORE 50
+#define SHOWN 76
+
+const char *words_of(uint32_t number)
+{
+    static const char *const words[] = {
+        "",
+        "the text is over 16,777,216 bytes",
+        "the depth is over 128",
+        "the opening limit is over 1,000,000",
+        "unknown level or version",
+        "the text is not UTF-8",
+        "the entity table is too long (list over 49,153 or pool over 1,048,576 bytes)",
+        "the table's list is malformed: unknown command, cut operands, no end, or bytes after the end",
+        "a name or text of the table runs past its pool",
+        "a definition with an empty name, or with a name or text that is not UTF-8",
+        "no ; after &",
+        "unknown entity",
+        "a character number with a sign",
+        "no character number",
+        "no character has this number",
+        "the character number 0",
+        "the depth is used up",
+        "the opening limit is used up",
+    };
+    return number < sizeof words / sizeof words[0] ? words[number] : "refused";
+}
+
+/* The line, from 1. Lines end by LF, CR or both. */
+size_t line_of(struct span text, size_t offset)
+{
+    size_t line = 1;
+    for (size_t i = 0; i < offset; i++)
+        if (text.bytes[i] == '\n' || (text.bytes[i] == '\r' && (i + 1 >= text.length || text.bytes[i + 1] != '\n')))
+            line++;
+    return line;
+}
+
+static int ends_line(struct span text, size_t at)
+{
+    return at >= text.length || text.bytes[at] == '\n' || text.bytes[at] == '\r';
+}
+
+/* The bytes of the character at this offset; 0 where there is none. */
+static size_t character(struct span text, size_t at)
+{
+    uint64_t answer[2];
+    for (size_t length = 1; length <= 4 && length <= text.length - at; length++)
+        if (govlezna_check_utf8(text.bytes + at, length, answer) == 0)
+            return length;
+    return 0;
+}
+
+/* Would the terminal take the character as something else than one to print? */
+static int control(const uint8_t *bytes, size_t length)
+{
+    if (length == 1)
+        return bytes[0] < 0x20 || bytes[0] == 0x7F;
+    if (length == 2)
+        return bytes[0] == 0xC2 && bytes[1] < 0xA0;
+    return length == 3 && bytes[0] == 0xE2 && bytes[1] == 0x80 && (bytes[2] == 0xA8 || bytes[2] == 0xA9);
+}
+
+static void show_character(struct span text, size_t at, size_t length)
+{
+    if (length == 1 && text.bytes[at] == '\t')
+        fputc(' ', stderr);
+    else if (length == 0 || control(text.bytes + at, length))
+        fputc('?', stderr);
+    else
+        fwrite(text.bytes + at, 1, length, stderr);
+}
+
+/* Where to begin, so that the place is in sight. */
+static size_t line_start(struct span text, size_t place, int *whole)
+{
+    size_t at = place;
+    for (int count = 0; at > 0 && !ends_line(text, at - 1); count++) {
+        if (count == BEFORE) {
+            *whole = 0;
+            return at;
+        }
+        at--;
+        while (at > 0 && (text.bytes[at] & 0xC0) == 0x80)
+            at--;
+    }
+    *whole = 1;
+    return at;
+}
+
+/* The line, and below it carets from the place's start to its end; one at least. */
+static void show_line(struct span text, size_t start, size_t end)
+{
+    int whole, blanks = 0, carets = 0, shown = 0;
+    size_t at = line_start(text, start, &whole);
+    fputs(whole ? "    " : "    ...", stderr);
+    for (; shown < SHOWN && !ends_line(text, at); shown++) {
+        size_t length = character(text, at);
+        show_character(text, at, length);
+        blanks += at < start;
+        carets += at >= start && at < end;
+        at += length > 0 ? length : 1;
+    }
+    fputs(ends_line(text, at) ? "\n" : "...\n", stderr);
+    fprintf(stderr, "%*s", (whole ? 4 : 7) + blanks, "");
+    do
+        fputc('^', stderr);
+    while (--carets > 0);
+    fputc('\n', stderr);
+}
+
+static void show_entity(struct span name)
+{
+    fputs(" of the entity ", stderr);
+    for (size_t at = 0; at < name.length;) {
+        size_t length = character(name, at);
+        show_character(name, at, length);
+        at += length > 0 ? length : 1;
+    }
+}
+
+static void show_place(const struct request *q, const struct place *place)
+{
+    struct span given = { q->text, q->text_length };
+    if (place->end > place->start + 1)
+        fprintf(stderr, ": bytes %zu to %zu", place->start, place->end - 1);
+    else
+        fprintf(stderr, ": byte %zu", place->start);
+    fputs(" of the text", stderr);
+    if (place->entity.length > 0)
+        show_entity(place->entity);
+    fprintf(stderr, ", line %zu\n", line_of(place->text, place->start));
+    show_line(place->text, place->start, place->end);
+    if (place->entity.length == 0)
+        return;
+    fprintf(stderr, "govlezna: opened from byte %zu of the text, line %zu\n", place->opened, line_of(given, place->opened));
+    show_line(given, place->opened, place->opened + 1);
+}
+
+/* The definition or the command of the list that a table is refused for. */
+static void show_command(const struct request *q, const struct outcome *o)
+{
+    if (q->arguments->entity_count > 0)
+        fprintf(stderr, ": --entity number %" PRIu64, o->answer[0] / 12 + 1);
+    else
+        fprintf(stderr, ": byte %" PRIu64 " of the list", o->answer[0]);
+}
+
+void report_refusal(const struct request *q, const struct outcome *o)
+{
+    struct place place = find_place(q, o);
+    fprintf(stderr, "govlezna: refusal %" PRIu32 ": %s", o->number, words_of(o->number));
+    if (o->number >= GOVLEZNA_MALFORMED_LIST && o->number <= GOVLEZNA_INVALID_DEFINITION)
+        show_command(q, o);
+    if (o->number == GOVLEZNA_INVALID_CODEPOINT)
+        fprintf(stderr, ", %" PRIu64, o->answer[0]);
+    if (place.known)
+        show_place(q, &place);
+    else
+        fputc('\n', stderr);
+}

@@ -1,0 +1,75 @@
+# Sourced by the scripts, after tools.sh: builds what is missing or older than its sources. `root` is the repository's
+# folder. Progress goes to standard error.
+
+version=1.0.0
+build=$root/target/build
+archive=$root/target/staticlib/libgovlezna.a
+warnings=(-Wall -Wextra -Werror -pedantic)
+
+# is_older FILE SOURCE..: is the file missing, or older than one of these files and folders?
+is_older() {
+    local file=$1
+    shift
+    [ ! -e "$file" ] || [ -n "$(find "$@" -newer "$file" -print -quit)" ]
+}
+
+# The crates that the library is made of, lowest first, as crates.txt lists them.
+library_crates() {
+    awk -F: '{ sub(/#.*/, "") }
+        NF == 2 { name[++count] = $1; uses[$1] = $2 }
+        END {
+            needed["govlezna"] = 1
+            for (i = count; i > 0; i--)
+                if (needed[name[i]]) { parts = split(uses[name[i]], part, " "); for (k = 1; k <= parts; k++) needed[part[k]] = 1 }
+            for (i = 1; i <= count; i++) if (needed[name[i]]) print name[i]
+        }' "$root/crates.txt"
+}
+
+# Says each crate that gets proved while the process runs. rt leaves a stamp for a crate that it has proved.
+watch_proofs() { # PROCESS CRATE..
+    local process=$1 left crate
+    shift
+    left=" $* "
+    while kill -0 "$process" 2>/dev/null; do
+        for crate in $left; do
+            [ -e "$root/target/stamp/$crate" ] || continue
+            left=${left/ $crate / }
+            set -- $left
+            echo "proved: $crate ($# left)" >&2
+        done
+        sleep 1
+    done
+}
+
+# Proves what is not proved yet, and compiles the library.
+build_archive() {
+    local crates crate sources=("$root/crates.txt") log=$root/target/library.log
+    crates=$(library_crates)
+    for crate in $crates; do sources+=("$root/crates/$crate"/{src,specs,proofs}); done
+    is_older "$archive" $(ls -d "${sources[@]}" 2>/dev/null) || return 0
+    command -v rt >/dev/null || { echo "rt is not in the PATH: the Rattle kit is needed" >&2; return 1; }
+    mkdir -p "$root/target"
+    echo "proving $(echo "$crates" | wc -l) crates and compiling the library; the first time takes some minutes" >&2
+    (cd "$root" && exec rt staticlib govlezna) >"$log" 2>&1 &
+    watch_proofs $! $crates
+    wait $! && touch "$archive" && return 0
+    tail -n 20 "$log" >&2
+    return 1
+}
+
+# The archive's code is position independent, so that the shared library is made of it; it exports the calls alone.
+build_shared() {
+    build_archive && need_packages cc gcc libc6-dev || return 1
+    is_older "$build/libgovlezna.so" "$archive" "$root/scripts/govlezna.map" || return 0
+    mkdir -p "$build"
+    cc -shared -o "$build/libgovlezna.so" -Wl,--whole-archive "$archive" -Wl,--no-whole-archive \
+        "-Wl,--version-script=$root/scripts/govlezna.map" "-Wl,-soname,libgovlezna.so.${version%%.*}" \
+        -Wl,-z,defs -Wl,-z,now
+}
+
+build_cli() {
+    build_archive && need_packages cc gcc libc6-dev || return 1
+    is_older "$build/govlezna" "$archive" "$root/cli" "$root/include" || return 0
+    mkdir -p "$build"
+    cc -std=c11 -O2 "${warnings[@]}" "-I$root/include" "$root"/cli/*.c "$archive" -o "$build/govlezna"
+}

@@ -1,0 +1,235 @@
+#!/usr/bin/env bash
+# cli.sh PROGRAM: runs the command line program on results, refusals, bad options and bad files. Says each case that fails.
+set -u
+program=$1
+room=$(mktemp -d)
+trap 'rm -rf "$room"' EXIT
+cases=0
+wrong=0
+input=/dev/null
+
+run() {
+    "$program" "$@" <"$input" >"$room/out" 2>"$room/err"
+    status=$?
+    cases=$((cases + 1))
+}
+
+# expect CONDITION-STATUS ARGUMENTS..: counts a case that went wrong, and shows it.
+expect() {
+    local good=$1
+    shift
+    [ "$good" -eq 0 ] && return
+    wrong=$((wrong + 1))
+    echo "wrong: $program ${*@Q} (status $status)"
+    head -c 600 "$room/out"
+    head -c 600 "$room/err"
+}
+
+# gives RESULT ARGUMENTS..: status 0, these bytes on standard output, nothing on standard error.
+gives() {
+    local result=$1
+    shift
+    run "$@"
+    [ "$status" -eq 0 ] && printf %s "$result" | cmp -s - "$room/out" && [ ! -s "$room/err" ]
+    expect $? "$@"
+}
+
+# refuses NUMBER PLACE ARGUMENTS..: status 1, nothing on standard output, the number and the place on standard error; and the
+# same number in JSON.
+refuses() {
+    local number=$1 place=$2
+    shift 2
+    run "$@"
+    [ "$status" -eq 1 ] && [ ! -s "$room/out" ] && [[ $(cat "$room/err") == "govlezna: refusal $number: "*"$place"* ]]
+    expect $? "$@"
+    run "$1" --json "${@:2}"
+    [ "$status" -eq 1 ] && [ ! -s "$room/err" ] && [[ $(cat "$room/out") == "{\"command\":\"$1\",\"number\":$number,"*"}" ]]
+    expect $? "$1" --json "${@:2}"
+}
+
+# shows LINES ARGUMENTS..: status 1, exactly these lines on standard error.
+shows() {
+    local lines=$1
+    shift
+    run "$@"
+    [ "$status" -eq 1 ] && [ ! -s "$room/out" ] && printf '%s\n' "$lines" | cmp -s - "$room/err"
+    expect $? "$@"
+}
+
+# misused WORDS ARGUMENTS..: status 2, nothing on standard output, the words on standard error.
+misused() {
+    local words=$1
+    shift
+    run "$@"
+    [ "$status" -eq 2 ] && [ ! -s "$room/out" ] && [[ $(cat "$room/err") == *"$words"* ]]
+    expect $? "$@"
+}
+
+results() {
+    gives 'a&lt;b&gt;&amp;&apos;&quot;&#13;' escape $'a<b>&\'"\r'
+    gives '&lt;&gt;"' escape --level 1 '<>"'
+    gives "&lt;>'" escape --level=2 "<>'"
+    gives 'a&lt;b&#9;&#10;' escape --level 3 $'a<b\t\n'
+    gives '' escape ''
+    gives 'AA<½' unescape '&#x41;&#65;&lt;&#xBD;'
+    gives 'X sail ' unescape '&amp; &e; ' --entity amp=X --entity e=sail --entity e=boom
+    gives $'& sail a\t' normalize $'&amp;\t&e;&#9;' --entity amp=X --entity 'e=sail&#x20;a'
+    gives 'Panel Großsegel &lt;3&gt;' canonical 'Panel &sail; <3>' --entity sail='Gro&#xDF;segel'
+    gives 'a&#133;b' canonical 'a&#x85;b' --version 1.1
+    gives $'a\xC2\x85b' canonical 'a&#x85;b' --version 1.0
+    gives 'a b' normalize 'a b' --depth 0
+    gives 'xx' normalize '&a;' --entity 'a=&b;&b;' --entity b=x --depth 2 --limit 3
+    gives $'a\nb\nc' eols $'a\r\nb\rc'
+    gives $'\n' eols $'\r\xC2\x85' --version 2
+    gives 'a b' trim $' \t a b\r\n'
+    gives 'a  ' trim --start '  a  '
+    gives '  a' trim --end '  a  '
+    gives '' trim '   '
+    gives '<![CDATA[]]]]><![CDATA[>]]]]><![CDATA[>]]>' cdata ']]>]]>'
+    gives '<![CDATA[]]>' cdata ''
+    gives $'UTF-8, 3 bytes\n' check 'aß'
+    gives $'UTF-8, 1 bytes\ntable valid, 2 definitions\n' check a --entity a=b --entity c=
+    gives '--level' escape -- --level
+    gives '-' escape -
+}
+
+json() {
+    gives '{"command":"escape","number":0,"length":4,"result":"&lt;"}'$'\n' escape --json '<'
+    gives '{"command":"unescape","number":0,"length":4,"result":"\"\\\u000a\u007f"}'$'\n' unescape --json $'"\\\n\x7F'
+    gives '{"command":"canonical","number":0,"length":4,"openings":1,"result":"sail"}'$'\n' canonical '&e;' --entity e=sail --json
+    gives '{"command":"trim","number":0,"start":1,"length":1,"result":"a"}'$'\n' trim --json ' a '
+    gives '{"command":"cdata","number":0,"pieces":[[0,2],[2,3],[5,1]]}'$'\n' cdata --json ']]>]]>'
+    gives '{"command":"check","number":0,"length":0,"definitions":0}'$'\n' check --json ''
+    run normalize --json 'x &e;' --entity $'e=\r\n\r&b;'
+    [ "$status" -eq 1 ] && [ "$(cat "$room/out")" = '{"command":"normalize","number":11,"words":"unknown entity","first":4,"second":5,"entity":"e","opened":2,"start":4,"end":5,"line":3}' ]
+    expect $? normalize --json nested
+}
+
+refusals() {
+    refuses 2 '' normalize a --depth 129
+    refuses 2 '' canonical a --depth 18446744073709551615
+    refuses 3 '' canonical a --limit 1000001
+    refuses 4 '' escape a --level 4
+    refuses 4 '' eols a --version 3
+    refuses 4 '' normalize a --version=255
+    for command in escape unescape normalize canonical eols trim cdata check; do
+        refuses 5 ': byte 1 of the text, line 1' "$command" $'a\xFF'
+    done
+    refuses 9 ': --entity number 2' unescape a --entity a=b --entity =c
+    refuses 9 ': --entity number 1' check a --entity $'a=\xFF'
+    refuses 10 ': byte 2 of the text' unescape 'a &b'
+    refuses 10 ': byte 0 of the text' unescape '&a&b;'
+    refuses 11 ': bytes 1 to 3 of the text' normalize '&a&b;'
+    refuses 11 ': byte 1 of the text' unescape '&;'
+    refuses 12 ': bytes 0 to 4' unescape '&#+1;'
+    refuses 13 ': bytes 4 to 9' normalize '&lt;&#X41;'
+    refuses 14 ', 55296: bytes 0 to 7' unescape '&#xD800;'
+    refuses 15 ': bytes 1 to 4' canonical 'a&#0;'
+    refuses 16 ': byte 1 of the text' normalize $'a\t' --depth 0
+    refuses 16 ': byte 0 of the text of the entity e' normalize '&e;' --version 2 --entity e=½ --depth 1
+    refuses 17 ': byte 0 of the text' normalize '&e;' --entity e=½ --limit 0
+    refuses 17 ': byte 0 of the text of the entity e' normalize '&e;' --entity 'e=&e;' --limit 2 --depth 3
+    refuses 17 ': byte 5 of the text' normalize 'a &e;&e;' --entity 'e=&f;' --entity f=x --limit 2
+}
+
+# The line and the carets: below entities, on a later line, in a long line, under characters of several bytes.
+places() {
+    shows 'govlezna: refusal 11: unknown entity: bytes 3 to 6 of the text of the entity sail, line 1
+    a &boom; b
+       ^^^^
+govlezna: opened from byte 5 of the text, line 2
+    ab &panel; c
+       ^' normalize $'x\nab &panel; c' --entity 'panel=&sail;' --entity 'sail=a &boom; b'
+    shows 'govlezna: refusal 10: no ; after &: byte 6 of the text, line 2
+     ß?&c
+       ^' unescape $'\r\n\tß\x01&c'
+    shows "govlezna: refusal 5: the text is not UTF-8: byte 80 of the text, line 1
+    ...$(printf 'b%.0s' {1..50})?$(printf 'c%.0s' {1..25})...
+       $(printf ' %.0s' {1..50})^" trim "$(printf 'b%.0s' {1..80})"$'\xFF'"$(printf 'c%.0s' {1..80})"
+}
+
+bytes() { # COUNT FILE
+    head -c "$1" /dev/zero | tr '\0' a >"$2"
+}
+
+files() {
+    printf 'a<b' >"$room/text"
+    printf '\1\0\0\0\0\1\1\0\0\0\4\0\0' >"$room/list"
+    printf esail >"$room/pool"
+    gives 'a&lt;b' escape --file "$room/text"
+    input=$room/text
+    gives 'a&lt;b' escape
+    gives 'a&lt;b' escape --file -
+    input=/dev/null
+    gives 'sail' unescape '&e;' --table "$room/list" "$room/pool"
+    gives $'UTF-8, 0 bytes\ntable valid, 1 definitions\n' check --table "$room/list" "$room/pool"
+    refuses 7 ': byte 0 of the list' check a --table "$room/text" "$room/pool"
+    head -c 12 "$room/list" >"$room/cut"
+    refuses 7 ': byte 12 of the list' check a --table "$room/cut" "$room/pool"
+    refuses 8 ': byte 0 of the list' unescape a --table "$room/list" "$room/text"
+    misused "$room/none: No such file" escape --file "$room/none"
+    misused "$room/none: No such file" unescape a --table "$room/list" "$room/none"
+    misused "$room: Is a directory" escape --file "$room"
+    "$program" escape a >/dev/full 2>"$room/err"
+    status=$?
+    [ "$status" -eq 2 ] && grep -q 'standard output: No space left' "$room/err"
+    expect $? escape to a full disk
+}
+
+# The greatest text and one byte more, from a file and from a stream without end; the greatest table and one byte more.
+sizes() {
+    bytes 16777216 "$room/most"
+    bytes 16777217 "$room/over"
+    run escape --file "$room/most"
+    [ "$status" -eq 0 ] && cmp -s "$room/most" "$room/out"
+    expect $? escape the greatest text
+    refuses 1 'over 16,777,216 bytes' escape --file "$room/over"
+    input=/dev/zero
+    refuses 1 'over 16,777,216 bytes' check
+    input=/dev/null
+    bytes 49153 "$room/list"
+    refuses 7 ': byte 0 of the list' check a --table "$room/list" /dev/null
+    bytes 49154 "$room/list"
+    refuses 6 'too long' check a --table "$room/list" /dev/null
+    printf '\0' >"$room/list"
+    bytes 1048577 "$room/pool"
+    refuses 6 'too long' check a --table "$room/list" "$room/pool"
+}
+
+usage() {
+    misused 'govlezna COMMAND'
+    misused 'no such command' frobnicate a
+    misused 'no such option' escape a --frobnicate
+    misused 'no such option' escape a -x
+    misused 'not an option of this command' escape a --depth 3
+    misused 'not an option of this command' unescape a --version 1.1
+    misused 'its value is missing' escape a --level
+    misused 'expected a number' escape a --level x
+    misused 'expected a number' escape a --level -1
+    misused 'expected a number' escape a --level 1x
+    misused 'under 256' escape a --level 256
+    misused 'over 64 bits' normalize a --depth 18446744073709551616
+    misused 'given twice' escape a --level 1 --level 2
+    misused 'a second text' escape a b
+    misused 'the text is given too' escape a --file b
+    misused 'expected NAME=TEXT' unescape a --entity b
+    misused 'at most 255 bytes' unescape a --entity "$(printf 'n%.0s' {1..256})=b"
+    misused 'at most 65,535 bytes' unescape a --entity "b=$(head -c 65536 /dev/zero | tr '\0' a)"
+    misused 'two files' unescape a --table b
+    misused '--table is given too' unescape a --entity b=c --table d e
+    misused '--end is given too' trim a --start --end
+    misused 'takes no value' trim a --start=2
+    run --help
+    [ "$status" -eq 0 ] && grep -q '^Examples:' "$room/out" && [ ! -s "$room/err" ]
+    expect $? --help
+}
+
+results
+json
+refusals
+places
+files
+sizes
+usage
+echo "$cases runs, $wrong wrong"
+[ "$wrong" -eq 0 ]
