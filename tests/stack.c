@@ -1,0 +1,141 @@
+/*
+ * How much stack the calls use at depth 128. Each input runs in a thread whose stack was filled with one byte; the bytes
+ * that changed are what the thread used. A thread that makes no call is measured first, and taken off.
+ */
+#define _POSIX_C_SOURCE 200809L
+
+#include "govlezna.h"
+
+#include <pthread.h>
+#include <stdio.h>
+#include <stdlib.h>
+#include <string.h>
+
+#define PROMISED ((size_t)65536) /* as include/govlezna.h says */
+#define DEPTH 128
+#define ROOM ((size_t)1 << 20)
+#define PAINT 0xA5
+
+/* Entities a0 to a127, of which each opens the next; the last has its own text. */
+struct chain {
+    uint8_t list[12 * DEPTH + 1], pool[16 * DEPTH];
+    size_t pool_length;
+};
+
+struct job {
+    uint32_t (*call)(const struct job *job, uint64_t answer[2]);
+    uint8_t version;
+    struct chain chain;
+    uint32_t number; /* what the call answered */
+};
+
+static const uint8_t text[] = { '&', 'a', '0', ';' };
+static uint8_t scratch[ROOM], out[ROOM];
+
+static void put_number(uint8_t *to, size_t width, size_t value)
+{
+    for (size_t i = 0; i < width; i++)
+        to[i] = (uint8_t)(value >> 8 * i & 0xFF);
+}
+
+static void make_chain(struct chain *chain, const char *last)
+{
+    char name[8], opened[16];
+    chain->pool_length = 0;
+    memset(chain->list, 0, sizeof chain->list);
+    for (int i = 0; i < DEPTH; i++) {
+        uint8_t *command = chain->list + 12 * i;
+        size_t start = chain->pool_length;
+        snprintf(name, sizeof name, "a%d", i);
+        snprintf(opened, sizeof opened, "&a%d;", i + 1);
+        if (i == DEPTH - 1)
+            snprintf(opened, sizeof opened, "%s", last);
+        command[0] = 1;
+        put_number(command + 1, 4, start);
+        put_number(command + 5, 1, strlen(name));
+        put_number(command + 6, 4, start + strlen(name));
+        put_number(command + 10, 2, strlen(opened));
+        memcpy(chain->pool + start, name, strlen(name));
+        memcpy(chain->pool + start + strlen(name), opened, strlen(opened));
+        chain->pool_length += strlen(name) + strlen(opened);
+    }
+}
+
+static uint32_t no_call(const struct job *job, uint64_t answer[2])
+{
+    (void)job;
+    answer[0] = answer[1] = 0;
+    return 0;
+}
+
+static uint32_t normalize(const struct job *job, uint64_t answer[2])
+{
+    return govlezna_normalize_attribute_value(text, sizeof text, job->version, DEPTH, 1000000, job->chain.list,
+                                              sizeof job->chain.list, job->chain.pool, job->chain.pool_length, out, ROOM,
+                                              answer);
+}
+
+static uint32_t canonical(const struct job *job, uint64_t answer[2])
+{
+    return govlezna_canonical_form(text, sizeof text, job->version, DEPTH, 1000000, job->chain.list, sizeof job->chain.list,
+                                   job->chain.pool, job->chain.pool_length, scratch, ROOM, out, ROOM, answer);
+}
+
+static void *run(void *given)
+{
+    struct job *job = given;
+    uint64_t answer[2];
+    job->number = job->call(job, answer);
+    return NULL;
+}
+
+/* The bytes of the stack that the job changed: the stack grows down, so the first changed byte is its deepest. */
+static size_t used(struct job *job)
+{
+    pthread_attr_t attributes;
+    pthread_t thread;
+    uint8_t *stack;
+    size_t kept = 0;
+    if (posix_memalign((void **)&stack, 4096, ROOM) != 0)
+        exit(2);
+    memset(stack, PAINT, ROOM);
+    pthread_attr_init(&attributes);
+    if (pthread_attr_setstack(&attributes, stack, ROOM) != 0 || pthread_create(&thread, &attributes, run, job) != 0 ||
+        pthread_join(thread, NULL) != 0)
+        exit(2);
+    pthread_attr_destroy(&attributes);
+    while (kept < ROOM && stack[kept] == PAINT)
+        kept++;
+    free(stack);
+    return ROOM - kept;
+}
+
+/* The walk down the chain to a last text; 0 where its answer is not the expected one. */
+static size_t measure(struct job job, const char *last, uint32_t expected)
+{
+    struct job none = { .call = no_call };
+    size_t bytes, before = used(&none);
+    make_chain(&job.chain, last);
+    bytes = used(&job) - before;
+    return job.number == expected ? bytes : 0;
+}
+
+int main(void)
+{
+    const struct {
+        const char *last;
+        uint8_t version;
+        uint32_t expected;
+    } walks[] = { { "x", 0, 0 },        { "x", 2, 0 },
+                  { "\t", 0, GOVLEZNA_TOO_DEEP }, { "&a0;", 2, GOVLEZNA_TOO_DEEP },
+                  { "\xC2\xBD", 0, 0 }, { "\xC2\xBD", 2, GOVLEZNA_TOO_DEEP } };
+    size_t most = 0, least = SIZE_MAX;
+    for (size_t i = 0; i < 2 * (sizeof walks / sizeof walks[0]); i++) {
+        struct job job = { .call = i % 2 ? canonical : normalize, .version = walks[i / 2].version };
+        size_t bytes = measure(job, walks[i / 2].last, walks[i / 2].expected);
+        most = bytes > most ? bytes : most;
+        least = bytes < least ? bytes : least;
+    }
+    printf("stack at depth %d: %zu bytes; promised: at most %zu\n", DEPTH, most, PROMISED);
+    return least == 0 || most > PROMISED;
+}
