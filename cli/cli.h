@@ -73,11 +73,11 @@ struct place find_place(const struct request *request, const struct outcome *out
 
 /* report.c */
 const char *words_of(uint32_t number);
+size_t line_of(struct span text, size_t offset);
 void report_refusal(const struct request *request, const struct outcome *outcome);
 
 /* json.c */
 void json_success(const struct request *request, const struct outcome *outcome);
 void json_refusal(const struct request *request, const struct outcome *outcome);
-size_t line_of(struct span text, size_t offset);
 
 #endif

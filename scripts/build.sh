@@ -25,36 +25,49 @@ library_crates() {
         }' "$root/crates.txt"
 }
 
-# Says each crate that gets proved while the process runs. rt leaves a stamp for a crate that it has proved.
-watch_proofs() { # PROCESS CRATE..
-    local process=$1 left crate
+# Says each crate that is proved, as long as the file START is there and this script runs. rt leaves its verdict on a crate
+# in target/log/NAME.res.
+watch_proofs() { # START CRATE..
+    local start=$1 left crate
     shift
     left=" $* "
-    while kill -0 "$process" 2>/dev/null; do
+    while [ -e "$start" ] && kill -0 $$ 2>/dev/null; do
         for crate in $left; do
-            [ -e "$root/target/stamp/$crate" ] || continue
+            [ "$root/target/log/$crate.res" -nt "$start" ] && grep -qx proved "$root/target/log/$crate.res" || continue
             left=${left/ $crate / }
             set -- $left
             echo "proved: $crate ($# left)" >&2
+            [ $# -gt 1 ] || echo "proving and compiling: $*" >&2
         done
         sleep 1
     done
 }
 
+# rt check proves several crates at once, rt staticlib does not; so it is left with the last one, and the compiler.
+prove_and_compile() { # CRATE..
+    cd "$root" && rt check "$@" && rt staticlib govlezna
+}
+
 # Proves what is not proved yet, and compiles the library.
 build_archive() {
-    local crates crate sources=("$root/crates.txt") log=$root/target/library.log
+    local crates crate sources=("$root/crates.txt") start=$root/target/library.start log=$root/target/library.log
     crates=$(library_crates)
     for crate in $crates; do sources+=("$root/crates/$crate"/{src,specs,proofs}); done
     is_older "$archive" $(ls -d "${sources[@]}" 2>/dev/null) || return 0
     command -v rt >/dev/null || { echo "rt is not in the PATH: the Rattle kit is needed" >&2; return 1; }
     mkdir -p "$root/target"
     echo "proving $(echo "$crates" | wc -l) crates and compiling the library; the first time takes some minutes" >&2
-    (cd "$root" && exec rt staticlib govlezna) >"$log" 2>&1 &
-    watch_proofs $! $crates
-    wait $! && touch "$archive" && return 0
-    tail -n 20 "$log" >&2
-    return 1
+    touch "$start"
+    watch_proofs "$start" $crates &
+    if (prove_and_compile ${crates%govlezna}) >"$log" 2>&1; then
+        touch "$archive"
+    else
+        tail -n 20 "$log" >&2
+        rm -f "$archive"
+    fi
+    rm -f "$start"
+    wait $!
+    [ -e "$archive" ]
 }
 
 # The archive's code is position independent, so that the shared library is made of it; it exports the calls alone.

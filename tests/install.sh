@@ -23,7 +23,10 @@ nm -D --defined-only "$room/lib/libgovlezna.so" | sed -n 's/.* T \([^@]*\).*/\1/
 diff "$room/declared" "$room/exported"
 [ "$(wc -l <"$room/exported")" -eq 12 ]
 
+# No call allocates, or asks anything else of the system: the library calls these alone.
+if nm -u "$room/lib/libgovlezna.a" | grep -o ' U .*' | grep -vxE ' U mem(cpy|move|set|cmp)'; then exit 1; fi
+
 # Packages are made below DESTDIR, and name PREFIX alone.
 make --silent install PREFIX=/usr "DESTDIR=$room/package"
 grep -qx 'prefix=/usr' "$room/package/usr/lib/pkgconfig/govlezna.pc"
-! make --silent install PREFIX=relative 2>/dev/null
+if make --silent install PREFIX=relative 2>/dev/null; then exit 1; fi
