@@ -45,6 +45,16 @@ refuses() {
     run "$1" --json "${@:2}"
     [ "$status" -eq 1 ] && [ ! -s "$room/err" ] && [[ $(cat "$room/out") == "{\"command\":\"$1\",\"number\":$number,"*"}" ]]
     expect $? "$1" --json "${@:2}"
+    place_is_the_librarys "$number"
+    expect $? "$1" --json "${@:2}"
+}
+
+# The place in the last answer in JSON is the library's, where the refusal has one.
+place_is_the_librarys() { # NUMBER
+    case $1 in
+    5 | 10 | 17) grep -qE '"first":([0-9]+),.*"start":\1,' "$room/out" ;;
+    11) grep -qE '"first":([0-9]+),"second":([0-9]+),.*"start":\1,"end":\2,' "$room/out" ;;
+    esac
 }
 
 # shows LINES ARGUMENTS..: status 1, exactly these lines on standard error.
