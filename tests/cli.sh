@@ -131,6 +131,12 @@ refusals() {
     refuses 10 ': byte 0 of the text' unescape '&a&b;'
     refuses 11 ': bytes 1 to 3 of the text' normalize '&a&b;'
     refuses 11 ': byte 1 of the text' unescape '&;'
+    for before in 0 1 2 3 4 5 6 7; do
+        text=$(printf '&lt;%.0s' $(seq "$before"))
+        [ "$before" -gt 0 ] || text=
+        refuses 11 ": byte $((4 * before + 1)) of the text" unescape "$text&x;&y;&gt;&gt;"
+        refuses 13 ": bytes $((4 * before)) to $((4 * before + 2))" normalize "$text&#;&y;&gt;"
+    done
     refuses 12 ': bytes 0 to 4' unescape '&#+1;'
     refuses 13 ': bytes 4 to 9' normalize '&lt;&#X41;'
     refuses 14 ', 55296: bytes 0 to 7' unescape '&#xD800;'
