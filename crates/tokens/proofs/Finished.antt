@@ -3,7 +3,8 @@ use mathlib.Core.Path.{_≡_, refl, sym, ap, ap₂, _∙_}
 use mathlib.Core.List.{List, [], _∷_, _++_}
 use Prim.Native.Nat.{ℕ, _≤_, _<_}
 use native.Mathlib.Omega.{arith}
-use lib.ListN.{length}
+use lib.ListN.{length, take, drop}
+use lib.Seq.{take-append-seam}
 use borrow.Author.Tests.{lt-ltb, le-ltb}
 use Rattle.text.specs.Call.{called, callOf, laid}
 use Rattle.text.specs.declared.Answer.{Answer}
@@ -75,4 +76,19 @@ module _ (short : ℕ) (o : Outcome) (out : List ℕ) {old new : List ℕ} {r : 
       let k = done-written short (n .value) (n .made) out (n .size) h in (
         v .answers ∙ ap answerOf (n .whole) ∙ k .0 ∙ ap (λ (p : Outcome). answerIn short p out) (sym (n .whole)),
         v .writes ∙ ap (λ (p : Outcome). over (produced p) out) (n .whole) ∙ k .1 ∙ ap (λ (p : Outcome). leftIn p out) (sym (n .whole)),
+      )
+
+  -- no write, where the count was lent room enough: what it holds is copied
+  pub ended-held : {last : List ℕ} → len ≤ length old → len ≤ length out → last ≡ laid (take len new) out → Ended short o out last r
+  ended-held {last} g h q =
+      let n = counted in
+      let k = done-written short (n .value) (n .made) out (n .size) h in
+      let fits : length (n .value) ≤ length old = omega (arith, n .size, g) in
+      let room : length (n .value) ≤ length out = omega (arith, n .size, h) in
+      let holds : new ≡ laid (n .value) old = w .writes ∙ ap (λ (p : Outcome). over (produced p) old) (n .whole) ∙ over-fits (n .value) old fits in
+      let taken : take len new ≡ n .value =
+      ap₂ (λ (k : ℕ) (l : List ℕ). take k l) (n .size) holds ∙ take-append-seam (n .value) (drop (length (n .value)) old)
+      in (
+        w .answers ∙ ap answerOf (n .whole) ∙ k .0 ∙ ap (λ (p : Outcome). answerIn short p out) (sym (n .whole)),
+        q ∙ ap (λ (l : List ℕ). laid l out) taken ∙ sym (over-fits (n .value) out room) ∙ k .1 ∙ ap (λ (p : Outcome). leftIn p out) (sym (n .whole)),
       )

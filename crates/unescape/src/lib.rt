@@ -173,14 +173,15 @@ fn unescape_runs(text: &[u8], plain: usize, list: &[u8], pool: &[u8], out: &mut 
     }
 }
 
-// Counts first, over no output: a refusal leaves the output, 19 too.
+// Counts first, and holds a short value meanwhile: a refusal leaves the output, 19 too.
 pub fn unescape_with(text: &[u8], list: &[u8], pool: &[u8], out: &mut [u8]) -> Answer
     requires { ⌜ length (now text) ≤ 16777216 ⌝ }
     requires { ⌜ ValidTable (now list) (now pool) ⌝ }
     ensures { λ r. ⌜ callOf r (now (out .exit) ∷ []) ≡ finished (unescape (binding (now (list .entry)) (now (pool .entry))) (now (text .entry))) (now (out .entry)) ⌝ }
 {
     let plain = amp_end(text, 0);
-    let counted = unescape_runs(text, plain, list, pool, &mut out[..0]);
+    let mut held = [0u8; 128];
+    let counted = unescape_runs(text, plain, list, pool, &mut held);
     let Answer::Done {
         first: len,
         second: _,
@@ -194,6 +195,10 @@ pub fn unescape_with(text: &[u8], list: &[u8], pool: &[u8], out: &mut [u8]) -> A
             first: len,
             second: 0,
         };
+    }
+    if len <= 128 {
+        output::put_run(&held[..len as usize], out);
+        return counted;
     }
     unescape_runs(text, plain, list, pool, out)
 }

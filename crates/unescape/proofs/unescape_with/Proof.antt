@@ -1,77 +1,110 @@
-use mathlib.Core.Path.{ap, subst, _∙_}
+use lib.Seq.{length-take-le}
+use mathlib.Core.Path.{_≡_, sym, ap, _∙_}
 use mathlib.Core.List.{List, [], _∷_}
+use Rattle.text.specs.Call.{callOf}
+use Rattle.text.specs.declared.Answer.{Answer}
+use lib.ListN.{length, take}
 use Prim.Native.Nat.{ℕ}
-use native.Mathlib.Omega.{arith}
-use lib.ListN.{length}
-use Rattle.text.specs.Call.{callOf, called}
-use Rattle.entity.specs.Binding.{binding}
-use Rattle.tokens.specs.Walking.{Walked}
-use Rattle.tokens.proofs.Finished.{nothing-lent, ended-call, ended-refused, ended-short, ended-written}
+use Rattle.tokens.proofs.Finished.{ended-call, ended-refused, ended-short, ended-written, ended-held}
 use Rattle.unescape.specs.Unescape.{unescape}
+use Rattle.entity.specs.Binding.{binding}
+use native.Mathlib.Omega.{arith}
 use borrow.Author.Needs.{needs}
 use Rattle.unescape.proofs.unescape_with.Statement.{statement}
 use Rattle.unescape.proofs.unescape_with.Tie as tie
+use Rattle.unescape.proofs.unescape_with.Reads as reads
+use Rattle.unescape.proofs.unescape_with.Lts as lts
+use Rattle.output.proofs.put_run.Reads as put-run-reads
+use Rattle.unescape.proofs.amp_end.Reads as amp-end-reads
+use Rattle.unescape.proofs.unescape_runs.Reads as unescape-runs-reads
 
+-- src/lib.rt:182:9
 amp-end-requires : tie.Need-amp-end-requires
 amp-end-requires c κs = search needs
 
-slice-relend-prefix-unescape-runs : tie.Need-slice-relend-prefix-unescape-runs
-slice-relend-prefix-unescape-runs c = search needs
-
+-- src/lib.rt:184:58
 slice-aggregate-unescape-runs : tie.Need-slice-aggregate-unescape-runs
 slice-aggregate-unescape-runs c = search needs
 
+-- src/lib.rt:184:9
 unescape-runs-requires : tie.Need-unescape-runs-requires
 unescape-runs-requires c κs = search needs
 
+-- src/lib.rt:186:16
 enum-known-counted : tie.Need-enum-known-counted
 enum-known-counted c = search needs
 
+-- src/lib.rt:190:9
 enum-told : tie.Need-enum-told
 enum-told c = search needs
 
+-- src/lib.rt:190:9
+returns : tie.Need-returns
+returns c =
+    let o = unescape (binding (c .before .before .before .before .before .before .before .before .before .before .args .list .now) (c .before .before .before .before .before .before .before .before .before .before .args .pool .now)) (c .before .before .before .before .before .before .before .before .before .before .args .text .now) in
+    ended-call o (c .before .before .before .before .before .before .before .before .before .before .args .out .now) (ended-refused 19 o (c .before .before .before .before .before .before .before .before .before .before .args .out .now) (c .enum-told .given .1) (c .before .before .before .unescape-runs .ensures))
+
+-- src/lib.rt:193:9
+returns-2 : tie.Need-returns-2
+returns-2 c =
+    let o = unescape (binding (c .before .before .before .before .before .before .before .before .before .before .before .before .args .list .now) (c .before .before .before .before .before .before .before .before .before .before .before .before .args .pool .now)) (c .before .before .before .before .before .before .before .before .before .before .before .before .args .text .now) in
+    ended-call o (c .before .before .before .before .before .before .before .before .before .before .before .before .args .out .now) (ended-short 19 o (c .before .before .before .before .before .before .before .before .before .before .before .before .args .out .now) (c .before .before .counted .given .1) (c .before .before .before .before .before .unescape-runs .ensures) (c .if1 .taken))
+
+-- src/lib.rt:200:25
+array-share-prefix-held : tie.Need-array-share-prefix-held
+array-share-prefix-held c = search needs
+
+-- src/lib.rt:200:25
+slice-aggregate-put-run : tie.Need-slice-aggregate-put-run
+slice-aggregate-put-run c =
+    sym (length-take-le (c .before .before .before .before .counted .given .0 .0) (c .before .before .before .before .before .before .before .unescape-runs .last .1 .1 .1 .1 .0) (omega (arith, c .before .if2 .taken, c .before .before .before .before .before .before .before .unescape-runs .kept .1 .1 .1 .1 .0)))
+
+-- src/lib.rt:200:9
+put-run-requires : tie.Need-put-run-requires
+put-run-requires c κs =
+    rw (length-take-le (c .before .before .before .before .before .counted .given .0 .0) (c .before .before .before .before .before .before .before .before .unescape-runs .last .1 .1 .1 .1 .0) (omega (arith, c .before .before .if2 .taken, c .before .before .before .before .before .before .before .before .unescape-runs .kept .1 .1 .1 .1 .0))) (omega (arith, c .before .before .before .if1 .left))
+
+-- src/lib.rt:201:9
 same-length : tie.Need-same-length
 same-length c = search needs
 
-returns : tie.Need-returns
-returns c =
-    ap (λ (l : List ℕ). callOf (c .before .before .before .before .unescape-runs .result) (l ∷ [])) (nothing-lent (c .before .before .before .before .unescape-runs .last .1 .1 .1 .1 .0) (c .before .before .before .before .before .before .before .before .before .before .before .args .out .now) (c .before .before .before .before .unescape-runs .kept .1 .1 .1 .1 .0))
-    ∙ ended-call (unescape (binding (c .before .before .before .before .before .before .before .before .before .before .before .args .list .now) (c .before .before .before .before .before .before .before .before .before .before .before .args .pool .now)) (c .before .before .before .before .before .before .before .before .before .before .before .args .text .now)) (c .before .before .before .before .before .before .before .before .before .before .before .args .out .now) (ended-refused 19 (unescape (binding (c .before .before .before .before .before .before .before .before .before .before .before .args .list .now) (c .before .before .before .before .before .before .before .before .before .before .before .args .pool .now)) (c .before .before .before .before .before .before .before .before .before .before .before .args .text .now)) (c .before .before .before .before .before .before .before .before .before .before .before .args .out .now) (c .enum-told .given .1) (c .before .before .before .before .unescape-runs .ensures))
+-- src/lib.rt:201:9
+returns-3 : tie.Need-returns-3
+returns-3 c =
+    let o = unescape (binding (c .before .before .before .before .before .before .before .before .before .before .before .before .before .before .before .before .before .before .args .list .now) (c .before .before .before .before .before .before .before .before .before .before .before .before .before .before .before .before .before .before .args .pool .now)) (c .before .before .before .before .before .before .before .before .before .before .before .before .before .before .before .before .before .before .args .text .now) in
+    ap (λ (a : Answer). callOf a (c .before .before .put-run .last .1 .0 ∷ [])) (sym (c .before .before .before .before .before .before .before .before .counted .given .1))
+    ∙ ended-call o (c .before .before .before .before .before .before .before .before .before .before .before .before .before .before .before .before .before .before .args .out .now) (ended-held 19 o (c .before .before .before .before .before .before .before .before .before .before .before .before .before .before .before .before .before .before .args .out .now) (c .before .before .before .before .before .before .before .before .counted .given .1) (c .before .before .before .before .before .before .before .before .before .before .before .unescape-runs .ensures) (omega (arith, c .before .before .before .before .before .if2 .taken)) (omega (arith, c .before .before .before .before .before .before .if1 .left)) (c .before .before .put-run .ensures))
 
-same-length-2 : tie.Need-same-length-2
-same-length-2 c = search needs
-
-returns-2 : tie.Need-returns-2
-returns-2 c =
-    let len = c .before .before .counted .given .0 .0 in
-    ap (λ (l : List ℕ). called 19 (len ∷ 0 ∷ []) (l ∷ [])) (nothing-lent (c .before .before .before .before .before .before .unescape-runs .last .1 .1 .1 .1 .0) (c .before .before .before .before .before .before .before .before .before .before .before .before .before .args .out .now) (c .before .before .before .before .before .before .unescape-runs .kept .1 .1 .1 .1 .0))
-    ∙ ended-call (unescape (binding (c .before .before .before .before .before .before .before .before .before .before .before .before .before .args .list .now) (c .before .before .before .before .before .before .before .before .before .before .before .before .before .args .pool .now)) (c .before .before .before .before .before .before .before .before .before .before .before .before .before .args .text .now)) (c .before .before .before .before .before .before .before .before .before .before .before .before .before .args .out .now) (ended-short 19 (unescape (binding (c .before .before .before .before .before .before .before .before .before .before .before .before .before .args .list .now) (c .before .before .before .before .before .before .before .before .before .before .before .before .before .args .pool .now)) (c .before .before .before .before .before .before .before .before .before .before .before .before .before .args .text .now)) (c .before .before .before .before .before .before .before .before .before .before .before .before .before .args .out .now) (c .before .before .counted .given .1) (c .before .before .before .before .before .before .unescape-runs .ensures) (omega (arith, c .if1 .taken, ap length (nothing-lent (c .before .before .before .before .before .before .unescape-runs .last .1 .1 .1 .1 .0) (c .before .before .before .before .before .before .before .before .before .before .before .before .before .args .out .now) (c .before .before .before .before .before .before .unescape-runs .kept .1 .1 .1 .1 .0)))))
-
+-- src/lib.rt:203:5
 unescape-runs-requires-2 : tie.Need-unescape-runs-requires-2
 unescape-runs-requires-2 c κs = search needs
 
-same-length-3 : tie.Need-same-length-3
-same-length-3 c = search needs
+-- src/lib.rt:177:1
+same-length-2 : tie.Need-same-length-2
+same-length-2 c = search needs
 
-returns-3 : tie.Need-returns-3
-returns-3 c =
-    ended-call (unescape (binding (c .before .before .before .before .before .before .before .before .before .before .before .before .before .before .before .before .before .args .list .now) (c .before .before .before .before .before .before .before .before .before .before .before .before .before .before .before .before .before .args .pool .now)) (c .before .before .before .before .before .before .before .before .before .before .before .before .before .before .before .before .before .args .text .now)) (c .before .before .before .before .before .before .before .before .before .before .before .before .before .before .before .before .before .args .out .now) (ended-written 19 (unescape (binding (c .before .before .before .before .before .before .before .before .before .before .before .before .before .before .before .before .before .args .list .now) (c .before .before .before .before .before .before .before .before .before .before .before .before .before .before .before .before .before .args .pool .now)) (c .before .before .before .before .before .before .before .before .before .before .before .before .before .before .before .before .before .args .text .now)) (c .before .before .before .before .before .before .before .before .before .before .before .before .before .before .before .before .before .args .out .now) (c .before .before .before .before .before .before .counted .given .1) (c .before .before .before .before .before .before .before .before .before .before .unescape-runs .ensures) (omega (arith, c .before .before .before .before .if1 .left, ap length (nothing-lent (c .before .before .before .before .before .before .before .before .before .before .unescape-runs .last .1 .1 .1 .1 .0) (c .before .before .before .before .before .before .before .before .before .before .before .before .before .before .before .before .before .args .out .now) (c .before .before .before .before .before .before .before .before .before .before .unescape-runs .kept .1 .1 .1 .1 .0))))
-    (subst (λ (l : List ℕ). Walked (unescape (binding (c .before .before .before .before .before .before .before .before .before .before .before .before .before .before .before .before .before .args .list .now) (c .before .before .before .before .before .before .before .before .before .before .before .before .before .before .before .before .before .args .pool .now)) (c .before .before .before .before .before .before .before .before .before .before .before .before .before .before .before .before .before .args .text .now)) l (c .before .before .unescape-runs2 .last .1 .1 .1 .1 .0) (c .before .before .unescape-runs2 .result)) (nothing-lent (c .before .before .before .before .before .before .before .before .before .before .unescape-runs .last .1 .1 .1 .1 .0) (c .before .before .before .before .before .before .before .before .before .before .before .before .before .before .before .before .before .args .out .now) (c .before .before .before .before .before .before .before .before .before .before .unescape-runs .kept .1 .1 .1 .1 .0)) (c .before .before .unescape-runs2 .ensures)))
+-- src/lib.rt:177:1
+returns-4 : tie.Need-returns-4
+returns-4 c =
+    let o = unescape (binding (c .before .before .before .before .before .before .before .before .before .before .before .before .before .before .before .before .before .args .list .now) (c .before .before .before .before .before .before .before .before .before .before .before .before .before .before .before .before .before .args .pool .now)) (c .before .before .before .before .before .before .before .before .before .before .before .before .before .before .before .before .before .args .text .now) in
+    ended-call o (c .before .before .before .before .before .before .before .before .before .before .before .before .before .before .before .before .before .args .out .now) (ended-written 19 o (c .before .before .before .before .before .before .before .before .before .before .before .before .before .before .before .before .before .args .out .now) (c .before .before .before .before .before .before .before .counted .given .1) (c .before .before .before .before .before .before .before .before .before .before .unescape-runs .ensures) (omega (arith, c .before .before .before .before .before .if1 .left)) (c .before .before .unescape-runs2 .ensures))
 
 pub unescape-with-spec : {M : Type 1} → statement M
 unescape-with-spec =
     tie.close
     (tie.spec
     amp-end-requires
-    slice-relend-prefix-unescape-runs
     slice-aggregate-unescape-runs
     unescape-runs-requires
     enum-known-counted
     enum-told
-    same-length
     returns
-    same-length-2
     returns-2
+    array-share-prefix-held
+    slice-aggregate-put-run
+    put-run-requires
+    same-length
+    returns-3
     unescape-runs-requires-2
-    same-length-3
-    returns-3)
+    same-length-2
+    returns-4)
