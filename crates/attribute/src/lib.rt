@@ -269,8 +269,8 @@ fn normalize_attr_steps(
     }
 }
 
-// The value goes to the start of `out`; a buffer that is too short is refused by the number given. Counts first, over no output, so
-// that a refusal leaves the buffer.
+// The value goes to the start of `out`; a buffer that is too short is refused by the number given. Counts first, and holds a short
+// value meanwhile, so that a refusal leaves the buffer.
 fn normalize_into(
     text: &[u8],
     newer: bool,
@@ -287,7 +287,8 @@ fn normalize_into(
     ensures { λ r. ⌜ Ended short (normalize (readingOf (ruleFor newer) (now (list .entry)) (now (pool .entry)) limit) depth (now (text .entry))) (now (out .entry)) (now (out .exit)) r ⌝ }
     ensures { λ r. ⌜ Counted (length (now (text .entry))) 0 limit r ⌝ }
 {
-    let counted = normalize_attr_steps(text, newer, depth, 0, limit, list, pool, &mut out[..0]);
+    let mut held = [0u8; 128];
+    let counted = normalize_attr_steps(text, newer, depth, 0, limit, list, pool, &mut held);
     let Answer::Done {
         first: len,
         second: _,
@@ -301,6 +302,10 @@ fn normalize_into(
             first: len,
             second: 0,
         };
+    }
+    if len <= 128 {
+        output::put_run(&held[..len as usize], out);
+        return counted;
     }
     normalize_attr_steps(text, newer, depth, 0, limit, list, pool, out)
 }
