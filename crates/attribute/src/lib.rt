@@ -55,12 +55,33 @@ fn plain_blocks(text: &[u8], from: usize, newer: bool) -> usize
     i
 }
 
+// Passes bytes up to the next stop, 8 at most: in dense text it is near.
+fn near_end(text: &[u8], from: usize, newer: bool) -> usize
+    requires { ⌜ (from ≤ length (now text)) × (length (now text) ≤ 16777216) ⌝ }
+    ensures { λ r. ⌜ Plain (stopByte newer) (now (text .entry)) from r ⌝ }
+    ensures { λ r. ⌜ (r < from + 8 → RunEnd (stopByte newer) (now (text .entry)) from r) ⌝ }
+{
+    let last = output::least(from + 8, text.len());
+    let mut i = from;
+    while i < last {
+        if is_stop(text[i], newer) {
+            return i;
+        }
+        i += 1;
+    }
+    i
+}
+
 // The next stop from `from` on, or the text's end.
 fn run_end(text: &[u8], from: usize, newer: bool) -> usize
-    requires { ⌜ from ≤ length (now text) ⌝ }
+    requires { ⌜ (from ≤ length (now text)) × (length (now text) ≤ 16777216) ⌝ }
     ensures { λ r. ⌜ RunEnd (stopByte newer) (now (text .entry)) from r ⌝ }
 {
-    let mut i = plain_blocks(text, from, newer);
+    let near = near_end(text, from, newer);
+    if near < from + 8 {
+        return near;
+    }
+    let mut i = plain_blocks(text, near, newer);
     while i < text.len() {
         if is_stop(text[i], newer) {
             return i;

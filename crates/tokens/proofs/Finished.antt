@@ -1,6 +1,6 @@
 -- How a call ends that walks twice: the count first, then the write. Assumes nothing.
 use mathlib.Core.Path.{_≡_, refl, sym, ap, ap₂, _∙_}
-use mathlib.Core.List.{List, [], _∷_, _++_}
+use mathlib.Core.List.{List, [], _∷_}
 use Prim.Native.Nat.{ℕ, _≤_, _<_}
 use native.Mathlib.Omega.{arith}
 use lib.ListN.{length, take, drop}
@@ -13,11 +13,6 @@ use Rattle.output.specs.Over.{over}
 use Rattle.output.proofs.Clip.{over-fits}
 use Rattle.tokens.specs.Outcome.{Outcome, done, refused, produced, answerOf, answerIn, leftIn, finished}
 use Rattle.tokens.specs.Walking.{Walked, Ended}
-
--- the part of no bytes that the count was lent comes back
-pub nothing-lent : (part out : List ℕ) → length part ≡ 0 → part ++ out ≡ out
-nothing-lent [] out e = refl
-nothing-lent (x ∷ part) out e = absurd (omega arith)
 
 pub ended-call : (o : Outcome) (out : List ℕ) {last : List ℕ} {r : Answer} → Ended 19 o out last r → callOf r (last ∷ []) ≡ finished o out
 unfolding finished

@@ -93,14 +93,19 @@ fn handed(a: Answer) -> Step
 pub fn number_step(digits: &[u8], next: usize, openings: u64, out: &mut [u8]) -> Step
     ensures { λ r. ⌜ Stepped next (numberOutcome anyCharacter (now (digits .entry)) openings) (now (out .entry)) (now (out .exit)) r ⌝ }
 {
-    let n = charref::parse_number(digits);
+    let len = digits.len();
+    if len == 0 {
+        return handed(charref::answer_of(CharNumber::InvalidNumber));
+    }
+    // As a part: a slice that is handed on whole is copied by one load, which waits for the caller's two stores.
+    let n = charref::parse_number(&digits[..len]);
     let CharNumber::Char(c) = n else {
         return handed(charref::answer_of(n));
     };
-    let len = put_char(c, out);
+    let written = put_char(c, out);
     Step::Next {
         at: next,
-        len,
+        len: written,
         openings,
     }
 }
