@@ -29,28 +29,29 @@ fn is_stop(b: u8, newer: bool) -> bool
     (b == 9) | (b == 10) | (b == 13) | (b == 38) | (newer & ((b == 0xc2) | (b == 0xe2)))
 }
 
-// Is one of the 32 bytes from i on a stop?
-fn any_stop(text: &[u8], i: usize, newer: bool) -> bool
-    requires { ⌜ i + 32 ≤ length (now text) ⌝ }
-    ensures { λ r. ⌜ (r ≡ false → Plain (stopByte newer) (now (text .entry)) i (i + 32)) ⌝ }
+// Is one of the `size` bytes from i on a stop?
+fn any_stop(text: &[u8], i: usize, newer: bool, size: usize) -> bool
+    requires { ⌜ i + size ≤ length (now text) ⌝ }
+    ensures { λ r. ⌜ (r ≡ false → Plain (stopByte newer) (now (text .entry)) i (i + size)) ⌝ }
 {
     let mut hit = false;
-    for k in 0..32usize {
+    for k in 0..size {
         hit = hit | is_stop(text[i + k], newer);
     }
     hit
 }
 
-fn plain_blocks(text: &[u8], from: usize, newer: bool) -> usize
-    requires { ⌜ from ≤ length (now text) ⌝ }
+// Passes blocks of `size` bytes that have no stop.
+fn plain_blocks(text: &[u8], from: usize, newer: bool, size: usize) -> usize
+    requires { ⌜ (from ≤ length (now text)) × (1 ≤ size) ⌝ }
     ensures { λ r. ⌜ Plain (stopByte newer) (now (text .entry)) from r ⌝ }
 {
     let mut i = from;
-    while 32 <= text.len() - i {
-        if any_stop(text, i, newer) {
+    while size <= text.len() - i {
+        if any_stop(text, i, newer, size) {
             return i;
         }
-        i += 32;
+        i += size;
     }
     i
 }
@@ -81,7 +82,8 @@ fn run_end(text: &[u8], from: usize, newer: bool) -> usize
     if near < from + 8 {
         return near;
     }
-    let mut i = plain_blocks(text, near, newer);
+    let block = plain_blocks(text, near, newer, 32);
+    let mut i = plain_blocks(text, block, newer, 8);
     while i < text.len() {
         if is_stop(text[i], newer) {
             return i;

@@ -15,10 +15,10 @@ use Rattle.attribute.proofs.any_stop.Lts as lts
 use Rattle.attribute.proofs.is_stop.Reads as is-stop-reads
 
 abbrev Inv-loop : tie.InvT-loop
-Inv-loop text i newer hit₀ k₀ hit k = (k ≤ 32) × (hit ≡ false → (m : ℕ) → m < k → stopByte newer (getD text (i + m) 0) ≡ false)
+Inv-loop text i newer size hit₀ k₀ hit k = (k ≤ size) × (hit ≡ false → (m : ℕ) → m < k → stopByte newer (getD text (i + m) 0) ≡ false)
 
 abbrev μ-loop : tie.MeasureT-loop
-μ-loop text i newer hit₀ k₀ hit k = 32 - k
+μ-loop text i newer size hit₀ k₀ hit k = size - k
 
 -- src/lib.rt:26:5
 loop-holds : tie.Need-loop-holds Inv-loop μ-loop
@@ -50,7 +50,7 @@ loop-again c = (search needs, λ e. below-more (λ (m : ℕ). stopByte (c .befor
 
 -- src/lib.rt:21:1
 returns : tie.Need-returns Inv-loop μ-loop
-returns c = λ e. plain-of (stopByte (c .before .before .before .args .newer)) (c .before .before .before .args .text .now) (c .before .before .before .args .i) 32 (omega (arith, c .before .before .before .pre)) (λ m h. c .before .loop .inv .1 e m (omega (arith, h)))
+returns c = λ e. plain-of (stopByte (c .before .before .before .args .newer)) (c .before .before .before .args .text .now) (c .before .before .before .args .i) (c .before .before .before .args .size) (omega (arith, c .before .before .before .pre)) (λ m h. c .before .loop .inv .1 e m (omega (arith, h)))
 
 pub any-stop-spec : {M : Type 1} → statement M
 any-stop-spec =

@@ -12,14 +12,14 @@ use Rattle.attribute.proofs.plain_blocks.Lts as lts
 use Rattle.attribute.proofs.any_stop.Reads as any-stop-reads
 
 abbrev Inv-loop : tie.InvT-loop
-Inv-loop text from newer i₀ i = Plain (stopByte newer) text from i
+Inv-loop text from newer size i₀ i = Plain (stopByte newer) text from i
 
 abbrev μ-loop : tie.MeasureT-loop
-μ-loop text from newer i₀ i = length text - i
+μ-loop text from newer size i₀ i = length text - i
 
 -- src/lib.rt:37:5
 loop-holds : tie.Need-loop-holds Inv-loop μ-loop
-loop-holds c = plain-none (stopByte (c .before .args .newer)) _ _ (c .before .pre)
+loop-holds c = plain-none (stopByte (c .before .args .newer)) _ _ (c .before .pre .0)
 
 -- src/lib.rt:37:17
 sub-loop : tie.Need-sub-loop Inv-loop μ-loop
@@ -27,7 +27,7 @@ sub-loop c = c .loop .inv .to
 
 -- src/lib.rt:38:12
 any-stop-requires : tie.Need-any-stop-requires Inv-loop μ-loop
-any-stop-requires c κs = omega (arith, c .before .loop .inv .to, c .loop-test .taken)
+any-stop-requires c κs = omega (arith, c .before .loop .inv .to, c .loop-test .taken, c .before .before .before .pre .1)
 
 -- src/lib.rt:39:13
 returns : tie.Need-returns Inv-loop μ-loop
@@ -35,11 +35,11 @@ returns c = c .before .before .before .loop .inv
 
 -- src/lib.rt:41:9
 add-i : tie.Need-add-i Inv-loop μ-loop
-add-i c = omega (arith, c .before .before .before .loop .inv .to, c .before .before .loop-test .taken)
+add-i c = omega (arith, c .before .before .before .loop .inv .to, c .before .before .loop-test .taken, c .before .before .before .before .before .pre .1)
 
 -- src/lib.rt:37:5
 loop-less : tie.Need-loop-less Inv-loop μ-loop
-loop-less c = omega (arith, c .before .before .before .loop .inv .to, c .before .before .loop-test .taken)
+loop-less c = omega (arith, c .before .before .before .loop .inv .to, c .before .before .loop-test .taken, c .before .before .before .before .before .pre .1)
 
 -- src/lib.rt:37:5
 loop-again : tie.Need-loop-again Inv-loop μ-loop
