@@ -56,34 +56,27 @@ fn plain_blocks(text: &[u8], from: usize, newer: bool, size: usize) -> usize
     i
 }
 
-// Passes bytes up to the next stop, 8 at most: in dense text it is near.
-fn near_end(text: &[u8], from: usize, newer: bool) -> usize
-    requires { ⌜ (from ≤ length (now text)) × (length (now text) ≤ 16777216) ⌝ }
+// Passes bytes that are no stops, at once where the next stop is near.
+fn plain_skip(text: &[u8], from: usize, newer: bool) -> usize
+    requires { ⌜ from ≤ length (now text) ⌝ }
     ensures { λ r. ⌜ Plain (stopByte newer) (now (text .entry)) from r ⌝ }
-    ensures { λ r. ⌜ (r < from + 8 → RunEnd (stopByte newer) (now (text .entry)) from r) ⌝ }
 {
-    let last = output::least(from + 8, text.len());
-    let mut i = from;
-    while i < last {
-        if is_stop(text[i], newer) {
-            return i;
-        }
-        i += 1;
+    if text.len() - from < 8 {
+        return from;
     }
-    i
+    if any_stop(text, from, newer, 8) {
+        return from;
+    }
+    let block = plain_blocks(text, from, newer, 32);
+    plain_blocks(text, block, newer, 8)
 }
 
 // The next stop from `from` on, or the text's end.
 fn run_end(text: &[u8], from: usize, newer: bool) -> usize
-    requires { ⌜ (from ≤ length (now text)) × (length (now text) ≤ 16777216) ⌝ }
+    requires { ⌜ from ≤ length (now text) ⌝ }
     ensures { λ r. ⌜ RunEnd (stopByte newer) (now (text .entry)) from r ⌝ }
 {
-    let near = near_end(text, from, newer);
-    if near < from + 8 {
-        return near;
-    }
-    let block = plain_blocks(text, near, newer, 32);
-    let mut i = plain_blocks(text, block, newer, 8);
+    let mut i = plain_skip(text, from, newer);
     while i < text.len() {
         if is_stop(text[i], newer) {
             return i;

@@ -43,34 +43,27 @@ fn amp_blocks(text: &[u8], from: usize, size: usize) -> usize
     i
 }
 
-// Passes bytes up to the next `&`, 8 at most: in dense text it is near.
-fn amp_near(text: &[u8], from: usize) -> usize
-    requires { ⌜ (from ≤ length (now text)) × (length (now text) ≤ 16777216) ⌝ }
+// Passes bytes that are no `&`, at once where the next one is near.
+fn amp_skip(text: &[u8], from: usize) -> usize
+    requires { ⌜ from ≤ length (now text) ⌝ }
     ensures { λ r. ⌜ Plain isAmp (now (text .entry)) from r ⌝ }
-    ensures { λ r. ⌜ (r < from + 8 → RunEnd isAmp (now (text .entry)) from r) ⌝ }
 {
-    let last = output::least(from + 8, text.len());
-    let mut i = from;
-    while i < last {
-        if text[i] == b'&' {
-            return i;
-        }
-        i += 1;
+    if text.len() - from < 8 {
+        return from;
     }
-    i
+    if any_amp(text, from, 8) {
+        return from;
+    }
+    let block = amp_blocks(text, from, 32);
+    amp_blocks(text, block, 8)
 }
 
 // The next `&` from `from` on, or the text's end.
 fn amp_end(text: &[u8], from: usize) -> usize
-    requires { ⌜ (from ≤ length (now text)) × (length (now text) ≤ 16777216) ⌝ }
+    requires { ⌜ from ≤ length (now text) ⌝ }
     ensures { λ r. ⌜ RunEnd isAmp (now (text .entry)) from r ⌝ }
 {
-    let near = amp_near(text, from);
-    if near < from + 8 {
-        return near;
-    }
-    let block = amp_blocks(text, near, 32);
-    let mut i = amp_blocks(text, block, 8);
+    let mut i = amp_skip(text, from);
     while i < text.len() {
         if text[i] == b'&' {
             return i;

@@ -1118,7 +1118,7 @@ normalize-attr-steps-run-end-requires : (t : ℕ) → normalize-attr-steps-lts.N
     normalize-attr-steps.Post
     normalize-attr-steps-Inv-loop
     normalize-attr-steps-μ-loop
-normalize-attr-steps-run-end-requires t c κs = (c .loop .inv .0 .inside, c .before .before .before .before .before .pre .1 .1 .0)
+normalize-attr-steps-run-end-requires t c κs = c .loop .inv .0 .inside
 
 -- src/lib.rt:221:13
 normalize-attr-steps-least-requires : (t : ℕ) → normalize-attr-steps-lts.Need-least-requires (

@@ -47,7 +47,7 @@ returns-2 : tie.Need-returns-2
 unfolding normalize readingOf attributeHead
 returns-2 c =
     let o = normalize (readingOf (ruleFor (c .before .before .before .before .before .before .before .before .before .before .before .args .newer)) (c .before .before .before .before .before .before .before .before .before .before .before .args .list .now) (c .before .before .before .before .before .before .before .before .before .before .before .args .pool .now) (c .before .before .before .before .before .before .before .before .before .before .before .args .limit)) (c .before .before .before .before .before .before .before .before .before .before .before .args .depth) (c .before .before .before .before .before .before .before .before .before .before .before .args .text .now) in
-    (ended-short (c .before .before .before .before .before .before .before .before .before .before .before .args .short) o (c .before .before .before .before .before .before .before .before .before .before .before .args .out .now) (c .before .before .counted .given .1) (c .before .before .before .before .before .normalize-attr-steps .ensures .0) (c .if1 .taken), tt)
+    (ended-short (c .before .before .before .before .before .before .before .before .before .before .before .args .short) o (c .before .before .before .before .before .before .before .before .before .before .before .args .out .now) (c .before .before .counted .given .1) (c .before .before .before .before .before .normalize-attr-steps .ensures .0) (omega (arith, c .if1 .taken)), tt)
 
 -- src/lib.rt:307:25
 array-share-prefix-held : tie.Need-array-share-prefix-held

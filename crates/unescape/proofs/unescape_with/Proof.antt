@@ -48,7 +48,7 @@ returns c =
 returns-2 : tie.Need-returns-2
 returns-2 c =
     let o = unescape (binding (c .before .before .before .before .before .before .before .before .before .before .before .before .args .list .now) (c .before .before .before .before .before .before .before .before .before .before .before .before .args .pool .now)) (c .before .before .before .before .before .before .before .before .before .before .before .before .args .text .now) in
-    ended-call o (c .before .before .before .before .before .before .before .before .before .before .before .before .args .out .now) (ended-short 19 o (c .before .before .before .before .before .before .before .before .before .before .before .before .args .out .now) (c .before .before .counted .given .1) (c .before .before .before .before .before .unescape-runs .ensures) (c .if1 .taken))
+    ended-call o (c .before .before .before .before .before .before .before .before .before .before .before .before .args .out .now) (ended-short 19 o (c .before .before .before .before .before .before .before .before .before .before .before .before .args .out .now) (c .before .before .counted .given .1) (c .before .before .before .before .before .unescape-runs .ensures) (omega (arith, c .if1 .taken)))
 
 -- src/lib.rt:200:25
 array-share-prefix-held : tie.Need-array-share-prefix-held
