@@ -11,6 +11,9 @@ fn main() {
     let library = folder("GOVLEZNA_LIB_DIR", &here.join("../target/staticlib"));
     include_source(&source);
     link(&library);
+    if env::var_os("CARGO_FEATURE_FUZZ").is_some() {
+        link_fuzzer();
+    }
 }
 
 /// The folder that the variable names, or else the usual one.
@@ -52,4 +55,13 @@ fn link(library: &Path) {
     println!("cargo:rerun-if-changed={}", archive.display());
     println!("cargo:rustc-link-search=native={}", library.display());
     println!("cargo:rustc-link-lib=static=govlezna");
+}
+
+/// libFuzzer's runtime without a `main`, of LLVM's folder of runtimes.
+fn link_fuzzer() {
+    println!("cargo:rerun-if-env-changed=FUZZER_LIB_DIR");
+    let folder = env::var("FUZZER_LIB_DIR").expect("FUZZER_LIB_DIR: ../scripts/fuzz sets it");
+    println!("cargo:rustc-link-search=native={folder}");
+    println!("cargo:rustc-link-lib=static=clang_rt.fuzzer_no_main-x86_64");
+    println!("cargo:rustc-link-lib=dylib=stdc++");
 }

@@ -41,9 +41,14 @@ impl<'a> Comparison<'a> {
         family(random, &mut |arguments| self.compare(&arguments));
     }
 
-    fn compare(&mut self, arguments: &Arguments) {
+    pub fn compare(&mut self, arguments: &Arguments) {
+        self.compare_at(arguments, self.compared);
+    }
+
+    /// The turn picks addresses and fills. Gives what was expected.
+    pub fn compare_at(&mut self, arguments: &Arguments, turn: usize) -> Answer {
         let expected = (self.call.expected)(arguments);
-        let lent = self.buffers.lend(arguments, &expected, self.compared);
+        let lent = self.buffers.lend(arguments, &expected, turn);
         let number = (self.library)(&lent);
         let damage = self.buffers.damage(arguments, &expected);
         self.compared += 1;
@@ -51,6 +56,7 @@ impl<'a> Comparison<'a> {
         if number != expected.number || damage.is_some() {
             self.differ(arguments, &lent, &expected, number, damage);
         }
+        expected
     }
 
     #[cold]

@@ -2,6 +2,7 @@
 
 use crate::calls::Call;
 use crate::comparison::Comparison;
+use crate::corpus;
 use crate::library::Lent;
 use crate::random::Random;
 use std::time::{Duration, Instant};
@@ -30,6 +31,7 @@ fn compare_call(call: &Call, seed: u64, end: Instant) -> bool {
     let mut comparison = Comparison::new(call, &library);
     let mut random = Random::new(seed);
     comparison.try_all(call.seams, &mut random);
+    corpus::each(call, &mut |arguments| comparison.compare(&arguments));
     for &family in call.families {
         comparison.try_all(family, &mut random);
     }

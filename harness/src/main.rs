@@ -4,7 +4,11 @@ mod benchmark;
 mod buffers;
 mod calls;
 mod comparison;
+mod corpus;
+mod cut;
 mod differential;
+#[cfg(feature = "fuzz")]
+mod fuzz;
 mod hex;
 mod inputs;
 mod library;
@@ -23,7 +27,9 @@ const USAGE: &str = "\
 harness differential [--calls A,B] [--seed N] [--minutes M]   compare every call with the Rust
 harness self-test [--calls A,B]                               check that wrong libraries are caught
 harness stored [--calls A,B] [FILE]                           write a sample of the Rust's answers
-harness benchmark [--calls A,B]                               measure every call against the Rust";
+harness benchmark [--calls A,B]                               measure every call against the Rust
+harness corpus FOLDER                                         print those of a fuzzer's inputs that are kept
+harness fuzz OPTIONS                                          run libFuzzer (where it is built in: ../scripts/fuzz)";
 
 const DEFAULT_SEED: u64 = 1;
 
@@ -43,6 +49,10 @@ fn main() -> ExitCode {
 /// Whether the command passed; nothing for words that are no command.
 fn run(words: &[&str]) -> Option<bool> {
     let (command, words) = words.split_first()?;
+    #[cfg(feature = "fuzz")]
+    if *command == "fuzz" {
+        return Some(fuzz::run(words));
+    }
     let (calls, words) = match words {
         ["--calls", names, rest @ ..] => (names.split(',').collect(), rest),
         _ => (vec![], words),
@@ -53,6 +63,7 @@ fn run(words: &[&str]) -> Option<bool> {
         ("self-test", []) => Some(self_test::run(&calls)),
         ("stored", []) => Some(passed(stored::write(&calls, &mut io::stdout()))),
         ("stored", [file]) => Some(passed(store(&calls, file))),
+        ("corpus", [folder]) => Some(passed(corpus::choose(folder, &mut io::stdout()))),
         ("benchmark", []) => {
             benchmark::run(&calls);
             Some(true)
@@ -83,7 +94,7 @@ fn store(calls: &[&Call], file: &str) -> io::Result<()> {
 
 fn passed(result: io::Result<()>) -> bool {
     if let Err(error) = &result {
-        eprintln!("stored: {error}");
+        eprintln!("{error}");
     }
     result.is_ok()
 }

@@ -1,6 +1,7 @@
 //! Writes the Rust's answers to a file that is replayed where there is no Rust.
 
 use crate::calls::{Arguments, Call, Form};
+use crate::corpus;
 use crate::hex::hex;
 use crate::library::Cursor;
 use crate::oracle::Answer;
@@ -30,13 +31,13 @@ const HEADER: &str = "\
 const LONGEST: usize = 300;
 const LONGEST_OUTPUT: usize = 700;
 
-/// The seams of each call, each once.
+/// The seams of each call and what a fuzzer found, each once.
 pub fn write(calls: &[&Call], out: &mut dyn Write) -> Result<()> {
     out.write_all(HEADER.as_bytes())?;
     for call in calls {
         let mut lines = vec![];
         let mut seen = HashSet::new();
-        (call.seams)(&mut Random::new(DEFAULT_SEED), &mut |arguments| {
+        let mut store = |arguments: Arguments| {
             let answer = (call.expected)(&arguments);
             if is_short(&arguments, &answer) {
                 let line = line(call, &arguments, &answer);
@@ -44,7 +45,9 @@ pub fn write(calls: &[&Call], out: &mut dyn Write) -> Result<()> {
                     lines.push(line);
                 }
             }
-        });
+        };
+        (call.seams)(&mut Random::new(DEFAULT_SEED), &mut store);
+        corpus::each(call, &mut store);
         for line in lines {
             writeln!(out, "{line}")?;
         }
@@ -52,7 +55,7 @@ pub fn write(calls: &[&Call], out: &mut dyn Write) -> Result<()> {
     Ok(())
 }
 
-fn is_short(arguments: &Arguments, answer: &Answer) -> bool {
+pub fn is_short(arguments: &Arguments, answer: &Answer) -> bool {
     let table = arguments.table;
     let read = [arguments.text, table.list, table.pool];
     let written = [answer.room, answer.scratch_room];
@@ -60,7 +63,7 @@ fn is_short(arguments: &Arguments, answer: &Answer) -> bool {
         && written.iter().all(|&room| room <= LONGEST_OUTPUT)
 }
 
-fn line(call: &Call, arguments: &Arguments, answer: &Answer) -> String {
+pub fn line(call: &Call, arguments: &Arguments, answer: &Answer) -> String {
     let words = [answer.number.into(), answer.first, answer.second];
     let mut fields = vec![call.name.to_string()];
     fields.extend(given(call.form, arguments, answer));

@@ -1,0 +1,119 @@
+//! Cuts bytes into a call and its arguments, so that a fuzzer's inputs, and those of its inputs that
+//! are kept, mean the same. Every sequence of bytes is an input; what is missing is 0.
+
+use crate::calls::{Arguments, Call, Form, Place, Room, CALLS};
+use crate::inputs::MOST_SPARE;
+use crate::library::Cursor;
+use crate::table::{Table, DEFINE, END};
+
+/// Longer texts take longer, and are the differential run's.
+const LONGEST_TEXT: usize = 300;
+/// What precedes list, pool and text.
+const HEAD: usize = 13;
+/// A definition whose starts and lengths have a byte each.
+const SHORT_DEFINITION: usize = 4;
+
+/// Gives the call, its arguments, and the turn that picks addresses and fills.
+pub fn cut(bytes: &[u8], each: &mut dyn FnMut(&'static Call, Arguments, usize)) {
+    let mut head = [0; HEAD];
+    let (first, rest) = bytes.split_at(bytes.len().min(HEAD));
+    head[..first.len()].copy_from_slice(first);
+    let [call, choice, depth, limit, room, scratch, turn_low, turn_high, offset_low, offset_high, finished, list, pool] =
+        head;
+    let (list, rest) = rest.split_at(rest.len().min(list.into()));
+    let (pool, text) = rest.split_at(rest.len().min(pool.into()));
+    let list = list_of(list);
+    let text = &text[..text.len().min(LONGEST_TEXT)];
+    let call = &CALLS[usize::from(call) % CALLS.len()];
+    let offset = i16::from_le_bytes([offset_low, offset_high]);
+    // The others leave the cursor as it is lent, the usual one.
+    let cursor = match call.form {
+        Form::Cursor => Cursor {
+            offset: i64::from(offset) as u64,
+            finished,
+        },
+        _ => Cursor::default(),
+    };
+    let arguments = Arguments {
+        text,
+        place: Place::Any,
+        choice: choice_of(choice),
+        depth: depth_of(depth),
+        limit: limit_of(limit),
+        table: Table { list: &list, pool },
+        room: room_of(room),
+        scratch: room_of(scratch),
+        cursor,
+    };
+    let turn = u16::from_le_bytes([turn_low, turn_high]);
+    each(call, arguments, turn.into());
+}
+
+/// Mostly a level or a version that there is.
+fn choice_of(byte: u8) -> u8 {
+    match byte {
+        0..=239 => byte % 4,
+        _ => byte,
+    }
+}
+
+/// Up to the deepest and one more, and depths whose low bits are few.
+fn depth_of(byte: u8) -> u64 {
+    match byte {
+        0..=129 => byte.into(),
+        130..=250 => u64::from(byte) - 130,
+        251..=254 => 1 << (8 * (byte - 250)),
+        255 => u64::MAX,
+    }
+}
+
+/// Few openings, so that a run is short, and limits that are refused.
+fn limit_of(byte: u8) -> u64 {
+    match byte {
+        0..=252 => byte.into(),
+        253 => 1_000_001,
+        254 => 1 << 32,
+        255 => u64::MAX,
+    }
+}
+
+fn room_of(byte: u8) -> Room {
+    match byte % 8 {
+        0 => Room::Exact,
+        1 => Room::Short,
+        2 => Room::Null,
+        _ => Room::Spare(usize::from(byte) % MOST_SPARE),
+    }
+}
+
+/// The list as it is after a 1, or else of definitions of four bytes and an end: a fuzzer finds few
+/// tables in the long form.
+fn list_of(bytes: &[u8]) -> Vec<u8> {
+    match bytes {
+        [1, list @ ..] => list.to_vec(),
+        [] => vec![END],
+        [_, short @ ..] => {
+            let definitions = short.chunks_exact(SHORT_DEFINITION);
+            definitions.flat_map(definition).chain([END]).collect()
+        }
+    }
+}
+
+fn definition(short: &[u8]) -> [u8; 12] {
+    let (name_start, name_length, text_start, text_length) =
+        (short[0], short[1], short[2], short[3]);
+    [
+        DEFINE,
+        name_start,
+        0,
+        0,
+        0,
+        name_length,
+        text_start,
+        0,
+        0,
+        0,
+        text_length,
+        0,
+    ]
+}
