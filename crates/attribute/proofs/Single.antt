@@ -49,9 +49,6 @@ walked-as e w = record { answers = w .answers ∙ rw e; writes = w .writes ∙ r
 pub stepped-length : {next : ℕ} {o : Outcome} {old new : List ℕ} {r : Step} → Stepped next o old new r → length new ≡ length old
 stepped-length {next} {o} {old} s = ap length (s .writes) ∙ length-over (produced o) old
 
-pub walked-length : {o : Outcome} {old new : List ℕ} {r : Answer} → Walked o old new r → length new ≡ length old
-walked-length {o} {old} w = ap length (w .writes) ∙ length-over (produced o) old
-
 -- a refusal writes nothing
 pub stepped-refused : {next : ℕ} {o : Outcome} {openings number first second : ℕ} {old : List ℕ} {r : Step} → o ≡ refused [] openings number first second
     → r ≡ Stopped number first second → Stepped next o old old r

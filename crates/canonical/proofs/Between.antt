@@ -13,7 +13,7 @@ use Rattle.text.specs.Bytes.{pick, begins}
 use borrow.Rule.Slice.PartMut.{midOf, putMid}
 use Rattle.text.specs.Call.{laid}
 use Rattle.text.specs.Version.{Rule, xml10, xml11}
-use Rattle.text.proofs.Bytes.{pick-by, or-left, or-right}
+use Rattle.text.proofs.Bytes.{pick-by, or-left, or-right, and-true}
 use Rattle.output.proofs.Written.{Written, written-as, written-more, piece-room}
 use Rattle.eols.specs.Stops.{ruleFor}
 use Rattle.eols.proofs.LineEnds.{begins-fits}
@@ -71,10 +71,6 @@ common-run r value (suc n) i h none =
     rw here (common-byte r (getD value i 0) (drop (suc i) value) one ∙ rw (more, q, append-assoc) refl)
 
 -- ---- where one of the two stands
-
-and-true : (t : Bool) → t && true ≡ t
-and-true true = refl
-and-true false = refl
 
 begins-head : (p : ℕ) (ps l : List ℕ) → begins (p ∷ ps) l ≡ begins (p ∷ []) l && begins ps (drop 1 l)
 begins-head p ps [] = refl

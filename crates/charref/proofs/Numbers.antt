@@ -117,11 +117,6 @@ unfolding inBase
 base-digits base [] h k = absurd (h refl)
 base-digits base (b ∷ s) h k = rw (ne-eqb b 43 (λ e. k (inl e)), ne-eqb b 45 (λ e. k (inr e)))
 
--- a zero in front changes no answer, unless it hides a sign
-pub base-zero : (base b : ℕ) (bs : List ℕ) → 1 ≤ base → b ≢ 43 → b ≢ 45 → inBase base (48 ∷ b ∷ bs) ≡ inBase base (b ∷ bs)
-unfolding inBase
-base-zero base b bs h p m = rw (ne-eqb b 43 p, ne-eqb b 45 m) (ap small (leading-zero base (b ∷ bs) h))
-
 pub char-none : (legal : ℕ → CharNumber) (s : List ℕ) → length s ≡ 0 → InvalidNumber ≡ charNumber legal s
 unfolding charNumber
 char-none legal [] h = refl

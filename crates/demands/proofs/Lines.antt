@@ -8,6 +8,7 @@ use mathlib.Core.List.{List, [], _∷_, _++_}
 use lib.ListN.{length}
 use lib.Dec.{eqb}
 use borrow.Author.Tests.{eqb-true, eqb-false, ne-eqb}
+use Rattle.text.proofs.Bytes.{and-true}
 use Rattle.text.specs.Bytes.{pick, begins}
 use Rattle.text.specs.Version.{Rule, xml10, xml11}
 use Rattle.charref.specs.CharRef.{encode}
@@ -130,10 +131,6 @@ ending r c =
     other-ends r c (record { no-cr = eqb-false c 13 cr; no-lf = eqb-false c 10 lf; no-nel = eqb-false c 0x85 nel; no-ls = eqb-false c 0x2028 ls })
 
 -- ---- after a CR: the width of its line end
-
-and-true : (a : Bool) → a && true ≡ a
-and-true true = refl
-and-true false = refl
 
 two-not : (a b : Bool) → (a ≡ true → b ≡ true → ⊥) → a && (b && true) ≡ false
 two-not true true h = absurd (h refl refl)

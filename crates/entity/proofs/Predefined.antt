@@ -7,7 +7,7 @@ use native.Mathlib.Omega.{arith}
 use lib.Dec.{eqb}
 use lib.ListN.{length, getD}
 use Rattle.text.specs.Bytes.{sameBytes}
-use Rattle.text.proofs.Bytes.{same-equal}
+use Rattle.text.proofs.Bytes.{same-equal, and-true}
 
 -- names of different lengths
 pub unlike : (a b : List ℕ) → (length a ≡ length b → ⊥) → false ≡ sameBytes a b
@@ -18,12 +18,8 @@ unlike a b other = go (sameBytes a b) refl
     go false e = sym e
 
 -- `&` groups to the left, the definition to the right
-one : (t : Bool) → t ≡ t && true
-one true = refl
-one false = refl
-
 two : (t u : Bool) → t && u ≡ t && (u && true)
-two true u = one u
+two true u = sym (and-true u)
 two false u = refl
 
 three : (t u v : Bool) → t && u && v ≡ t && (u && (v && true))

@@ -12,7 +12,7 @@ use lib.Seq.{drop-cons, drop-drop}
 use borrow.Author.Tests.{eqb-true, eqb-false, eq-eqb, ne-eqb, lt-ltb}
 use Rattle.text.specs.Bytes.{pick, begins}
 use Rattle.text.specs.Version.{Rule, xml10, xml11, ruleOf}
-use Rattle.text.proofs.Bytes.{pick-by, pick-both, and-left, and-right, or-left, or-right}
+use Rattle.text.proofs.Bytes.{pick-by, pick-both, and-left, and-right, or-left, or-right, and-true}
 use Rattle.eols.specs.LineEnds.{lineEnds, widthOf, lineEnd, eolByte, eolSkip, eolsFrom, eols}
 use Rattle.output.specs.Runs.{Plain}
 use Rattle.output.proofs.Writers.{Copies}
@@ -106,10 +106,6 @@ module _ (b : ℕ) (bs : List ℕ) where
     none11 c e = rw (ne-eqb b 13 n, ne-eqb b 10 m, ne-eqb b 0xC2 c, ne-eqb b 0xE2 e)
 
 -- ---- patterns at an index
-
-and-true : (t : Bool) → t && true ≡ t
-and-true true = refl
-and-true false = refl
 
 pub begins-out : (p : ℕ) (ps t : List ℕ) (i : ℕ) → length t ≤ i → false ≡ begins (p ∷ ps) (drop i t)
 begins-out p ps t i h = sym (rw (drop-of-length-le t h))

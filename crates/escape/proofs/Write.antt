@@ -39,9 +39,6 @@ module _ (set : Replacements) where
   pub write-whole : (text : List ℕ) (i : ℕ) → write set text ≡ write set (take i text) ++ write set (drop i text)
   write-whole text i = ap (write set) (sym (take-append-drop i text)) ∙ write-append (take i text) (drop i text)
 
-  pub write-fits : (text : List ℕ) (i : ℕ) → length (write set (take i text)) ≤ length (write set text)
-  write-fits text i = rw (write-whole text i, length-append) (omega arith)
-
   -- the count of a part, added to that of what is before it
   pub count-part : (text : List ℕ) (i n c m : ℕ) → n + i ≡ length (write set (take i text)) → m + c ≡ length (write set (take c (drop i text)))
       → n + m + (i + c) ≡ length (write set (take (i + c) text))

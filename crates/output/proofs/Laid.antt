@@ -10,9 +10,6 @@ use lib.Seq.{length-take-le, take-suc, take-add, take-all, take-append-seam, dro
 use borrow.Rule.Slice.PartMut.{midOf, putMid}
 use Rattle.text.specs.Call.{laid}
 
-pub laid-none : (old : List ℕ) → laid [] old ≡ old
-laid-none old = refl
-
 -- a value that leaves nothing of the buffer
 pub laid-over : (value old : List ℕ) → length old ≤ length value → laid value old ≡ value
 laid-over value old h = rw (drop-of-length-le old h) (append-nil value)
@@ -44,13 +41,6 @@ pub laid-more : (value more old : List ℕ) {at : ℕ} {buffer part : List ℕ}
 laid-more value more old {at} {buffer} {part} e q p =
     rest-put at buffer part
     ∙ rw (p, rest-part at buffer, e, q, laid-rest value old, take-append-seam value (drop (length value) old)) (laid-append value more old)
-
--- and there is room for it where there is room for both
-pub laid-room : (value more old : List ℕ) {at : ℕ} {buffer : List ℕ}
-    → buffer ≡ laid value old → at ≡ length value → length (value ++ more) ≤ length old → length more ≤ length (midOf at (length buffer - at) buffer)
-laid-room value more old {at} {buffer} e q h =
-    let l : length value + length more ≤ length old = rw length-append at h in
-    rw (rest-part at buffer, length-drop, e, laid-length value old (omega arith)) (omega arith)
 
 -- after the store of one byte
 pub laid-byte : (value old : List ℕ) (b : ℕ) → length value < length old → set (laid value old) (length value) b ≡ laid (value ++ (b ∷ [])) old

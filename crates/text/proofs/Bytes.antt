@@ -30,6 +30,10 @@ pub and-right : (a b : Bool) → a && b ≡ true → b ≡ true
 and-right true b e = e
 and-right false b e = absurd (true≢false (sym e))
 
+pub and-true : (t : Bool) → t && true ≡ t
+and-true true = refl
+and-true false = refl
+
 pub or-left : (a b : Bool) → a || b ≡ false → a ≡ false
 or-left true b e = e
 or-left false b e = refl

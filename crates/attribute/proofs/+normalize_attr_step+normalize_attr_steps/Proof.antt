@@ -17,9 +17,9 @@ use Rattle.tokens.specs.Outcome.{done, Outcome}
 use Rattle.attribute.specs.Heads.{attributeHead}
 use Rattle.attribute.specs.Walk.{Settings, walk, reading, readingOf}
 use Rattle.attribute.specs.Steps.{stopByte, stopAnswer, outcomeAt, Counted, CountedStep}
-use Rattle.tokens.proofs.Progress.{Progress, progress-start, progress-length, progress-end, progress-run, progress-step, progress-refused}
+use Rattle.tokens.proofs.Progress.{Progress, progress-start, progress-length, progress-end, progress-run, progress-step, progress-refused, walked-length}
 use Rattle.attribute.proofs.Stops.{copies}
-use Rattle.attribute.proofs.Single.{stepped-as, stepped-refused, stepped-walked, walk-run, stop-deeper, at-zero, at-none, next-offset, at-number, at-limit, at-text, at-unknown, at-predefined, walk-predefined, counted-number, counted-walked, step-zero, step-blank, step-none, step-number, step-limit, step-text, step-unknown, step-predefined, stepped-told, walked-as, stepped-length, walked-length}
+use Rattle.attribute.proofs.Single.{stepped-as, stepped-refused, stepped-walked, walk-run, stop-deeper, at-zero, at-none, next-offset, at-number, at-limit, at-text, at-unknown, at-predefined, walk-predefined, counted-number, counted-walked, step-zero, step-blank, step-none, step-number, step-limit, step-text, step-unknown, step-predefined, stepped-told, walked-as, stepped-length}
 use Prim.Native.Nat.{ℕ, _<_, _+_, _-_, _*_, _≤_}
 use borrow.Fn.Kinds.{In}
 use borrow.Fn.PlainCycle.{Measures, is, falls, and}
