@@ -365,18 +365,20 @@ pub fn normalize_attribute_value(
     normalize_into(text, 1 < version, depth, limit, list, pool, 19, out)
 }
 
-// The canonical form of a value that a scratch holds.
+// The canonical form of a value that a scratch holds. Where the output has six times its length there is room: no count is needed.
 fn canonical_into(value: &[u8], newer: bool, openings: u64, out: &mut [u8]) -> Answer
     requires { ⌜ length (now value) ≤ 0x1000000000000 ⌝ }
     ensures { λ r. ⌜ callOf r (now (out .exit) ∷ []) ≡ finish (canonical (ruleFor newer) (now (value .entry))) openings (now (out .entry)) ⌝ }
 {
-    let length = canonical::canonical_length(value, newer);
-    if out.len() < length {
-        return Answer::Refused {
-            number: 19,
-            first: length as u64,
-            second: 0,
-        };
+    if out.len() < 6 * value.len() {
+        let length = canonical::canonical_length(value, newer);
+        if out.len() < length {
+            return Answer::Refused {
+                number: 19,
+                first: length as u64,
+                second: 0,
+            };
+        }
     }
     let written = canonical::write_canonical(value, newer, out);
     Answer::Done {
