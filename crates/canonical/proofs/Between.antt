@@ -72,15 +72,6 @@ common-run r value (suc n) i h none =
 
 -- ---- where one of the two stands
 
-begins-head : (p : ℕ) (ps l : List ℕ) → begins (p ∷ ps) l ≡ begins (p ∷ []) l && begins ps (drop 1 l)
-begins-head p ps [] = refl
-begins-head p ps (b ∷ bs) = ap (λ (t : Bool). t && begins ps bs) (sym (and-true (eqb b p)))
-
--- a pattern at an index by its first byte
-pub begins-cons : (p : ℕ) (ps t : List ℕ) (i : ℕ) → begins (p ∷ ps) (drop i t) ≡ begins (p ∷ []) (drop i t) && begins ps (drop (i + 1) t)
-begins-cons p ps t i =
-    begins-head p ps (drop i t) ∙ ap (λ (l : List ℕ). begins (p ∷ []) (drop i t) && begins ps l) (drop-drop 1 i t)
-
 module _ (l : List ℕ) where
   pub special-nel : begins (0xC2 ∷ 0x85 ∷ []) l ≡ true → special xml11 l ≡ 2
   special-nel e = rw e

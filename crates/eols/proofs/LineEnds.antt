@@ -113,15 +113,23 @@ begins-out p ps t i h = sym (rw (drop-of-length-le t h))
 pub begins-one : (p : ℕ) (t : List ℕ) (i : ℕ) → i < length t → eqb (getD t i 0) p ≡ begins (p ∷ []) (drop i t)
 begins-one p t i h = sym (rw (at-head t i h) (and-true (eqb (getD t i 0) p)))
 
-two-of : (a b : ℕ) (l : List ℕ) (u : Bool) → begins (a ∷ []) l ≡ u → begins (a ∷ b ∷ []) l ≡ u && begins (b ∷ []) (drop 1 l)
-two-of a b [] u e = sym (rw (sym e))
-two-of a b (x ∷ xs) u e = ap (λ (t : Bool). t && begins (b ∷ []) xs) (sym (and-true (eqb x a)) ∙ e)
+-- a pattern by its first byte
+begins-head : (p : ℕ) (ps l : List ℕ) → begins (p ∷ ps) l ≡ begins (p ∷ []) l && begins ps (drop 1 l)
+begins-head p ps [] = refl
+begins-head p ps (b ∷ bs) = ap (λ (t : Bool). t && begins ps bs) (sym (and-true (eqb b p)))
+
+-- and at an index
+pub begins-cons : (p : ℕ) (ps t : List ℕ) (i : ℕ) → begins (p ∷ ps) (drop i t) ≡ begins (p ∷ []) (drop i t) && begins ps (drop (i + 1) t)
+begins-cons p ps t i =
+    begins-head p ps (drop i t) ∙ ap (λ (l : List ℕ). begins (p ∷ []) (drop i t) && begins ps l) (drop-drop 1 i t)
 
 pub begins-two : (a b : ℕ) (t : List ℕ) (i : ℕ) → begins (a ∷ []) (drop i t) ≡ true → begins (b ∷ []) (drop (i + 1) t) ≡ begins (a ∷ b ∷ []) (drop i t)
-begins-two a b t i e = sym (two-of a b (drop i t) true e ∙ ap (begins (b ∷ [])) (drop-drop 1 i t))
+begins-two a b t i e =
+    sym (begins-cons a (b ∷ []) t i ∙ ap (λ (u : Bool). u && begins (b ∷ []) (drop (i + 1) t)) e)
 
 pub begins-not : (a b : ℕ) (t : List ℕ) (i : ℕ) → begins (a ∷ []) (drop i t) ≡ false → false ≡ begins (a ∷ b ∷ []) (drop i t)
-begins-not a b t i e = sym (two-of a b (drop i t) false e)
+begins-not a b t i e =
+    sym (begins-cons a (b ∷ []) t i ∙ ap (λ (u : Bool). u && begins (b ∷ []) (drop (i + 1) t)) e)
 
 -- ---- what is written for the byte or the line end at an index
 

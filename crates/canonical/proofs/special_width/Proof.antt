@@ -3,7 +3,8 @@ use mathlib.Core.Bool.{_&&_}
 use Prim.Native.Nat.{_+_}
 use lib.ListN.{drop}
 use mathlib.Core.List.{[], _∷_}
-use Rattle.canonical.proofs.Between.{special-nel, special-ls, special-none, begins-cons}
+use Rattle.canonical.proofs.Between.{special-nel, special-ls, special-none}
+use Rattle.eols.proofs.LineEnds.{begins-cons}
 use borrow.Author.Needs.{needs}
 use Rattle.canonical.proofs.special_width.Statement.{statement}
 use Rattle.canonical.proofs.special_width.Tie as tie
