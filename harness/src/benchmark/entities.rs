@@ -110,18 +110,20 @@ pub fn check_table(run: Run) -> Vec<Row> {
 /// Names and distances of references, of which a text of this size has a few or many.
 type References = (&'static str, &'static [&'static str], usize);
 
+/// A text that names nothing of a table has none.
 pub fn unescape(run: Run) -> Vec<Row> {
-    let inputs: [References; 5] = [
-        ("no references", &[], 0),
-        ("few references", &["&lt;", "&#65;", "&a;"], 100),
-        ("dense, predefined", &["&lt;", "&amp;"], 8),
-        ("dense, numbers", &["&#65;", "&#x20AC;"], 12),
-        ("dense, of the table", &["&a;", "&office;"], 12),
+    let none = Tables::new(Draft::of(&[]));
+    let some = Tables::new(Draft::of(&[("a", "first"), ("office", "Split")]));
+    let inputs: [(References, Tables); 5] = [
+        (("no references", &[], 0), none),
+        (("few references", &["&lt;", "&#65;", "&a;"], 100), some),
+        (("dense, predefined", &["&lt;", "&amp;"], 8), none),
+        (("dense, numbers", &["&#65;", "&#x20AC;"], 12), none),
+        (("dense, of the table", &["&a;", "&office;"], 12), some),
     ];
-    let tables = Tables::new(Draft::of(&[("a", "first"), ("office", "Split")]));
     let mut rows = vec![];
     for size in [64, MEBIBYTE] {
-        for (input, pieces, distance) in inputs {
+        for ((input, pieces, distance), tables) in inputs {
             let text = letters_with(pieces, distance, size);
             rows.push(table_row(
                 "unescape",
