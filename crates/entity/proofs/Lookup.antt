@@ -13,7 +13,7 @@ use Rattle.text.specs.Bytes.{pick, sameBytes}
 use Rattle.text.specs.Blocks.{wordAt}
 use Rattle.text.specs.Call.{andThen}
 use Rattle.text.specs.declared.Answer.the-variants.{Done}
-use Rattle.text.proofs.Bytes.{same-equal, equal-same}
+use Rattle.text.proofs.Bytes.{equal-same}
 use Rattle.entity.specs.Table.{littleEndian, part, nameOf, textOf, declarationsFrom, declarations, runsPast, commandsCheck, sizeCheck, tableCheck, ValidTable}
 use Rattle.entity.specs.Binding.{text, bodyBound, bindingIn, binding, predefinedOf, boundTo, Lies}
 use Rattle.entity.specs.Steps.{commandCheck, TextAt, Agree}
@@ -21,6 +21,7 @@ use Rattle.entity.specs.declared.Binding.{Binding}
 use Rattle.entity.specs.declared.Binding.the-variants.{Text, Predefined, Unknown}
 use Rattle.entity.proofs.Commands.{IsDone, is-done, both-done, command-done, next-check, next-declaration}
 use Rattle.entity.proofs.Parts.{part-length, part-at, name-fits, text-fits}
+use Rattle.entity.proofs.Predefined.{not-same}
 use Rattle.entity.proofs.Reading.{declaration-at}
 use Rattle.entity.proofs.Words.{word-bytes, same-u32}
 
@@ -54,11 +55,7 @@ module _ (pool : List ℕ) (start : ℕ) (name : List ℕ) where
         rw q (equal-same name)
 
     differ : (part pool start n ≡ name → ⊥) → sameBytes (part pool start n) name ≡ false
-    differ other = go (sameBytes (part pool start n) name) refl
-      where
-        go : (t : Bool) → sameBytes (part pool start n) name ≡ t → sameBytes (part pool start n) name ≡ false
-        go true e = absurd (other (same-equal (part pool start n) name e))
-        go false e = e
+    differ other = not-same (part pool start n) name other
 
     pub differ-length : start + n ≤ length pool → (n ≡ length name → ⊥) → sameBytes (part pool start n) name ≡ false
     differ-length h other = differ (λ e. other (sym (part-length pool start n h) ∙ ap length e))

@@ -11,7 +11,7 @@ use Rattle.entity.specs.Table.{littleEndian}
 use Rattle.entity.proofs.Reading.{u32-sum}
 
 -- the lowest byte, and what stands above it
-lowest : (a b x y : ℕ) → a < 0x100 → b < 0x100 → a + x * 0x100 ≡ b + y * 0x100 → (a ≡ b) × (x ≡ y)
+pub lowest : (a b x y : ℕ) → a < 0x100 → b < 0x100 → a + x * 0x100 ≡ b + y * 0x100 → (a ≡ b) × (x ≡ y)
 lowest a b x y h k e = (omega arith, omega arith)
 
 module _ (t u : List ℕ) (i j : ℕ) where

@@ -165,15 +165,6 @@ pub fn check_table(list: &[u8], pool: &[u8]) -> Answer
     check_end(list, at, count)
 }
 
-fn is_two(name: &[u8], a: u8, b: u8) -> bool
-    ensures { λ r. ⌜ r ≡ sameBytes (now (name .entry)) (a ∷ b ∷ []) ⌝ }
-{
-    if name.len() != 2 {
-        return false;
-    }
-    (name[0] == a) & (name[1] == b)
-}
-
 pub fn is_three(name: &[u8], a: u8, b: u8, c: u8) -> bool
     ensures { λ r. ⌜ r ≡ sameBytes (now (name .entry)) (a ∷ b ∷ c ∷ []) ⌝ }
 {
@@ -183,34 +174,33 @@ pub fn is_three(name: &[u8], a: u8, b: u8, c: u8) -> bool
     (name[0] == a) & (name[1] == b) & (name[2] == c)
 }
 
-fn is_four(name: &[u8], a: u8, b: u8, c: u8, d: u8) -> bool
-    ensures { λ r. ⌜ r ≡ sameBytes (now (name .entry)) (a ∷ b ∷ c ∷ d ∷ []) ⌝ }
-{
-    if name.len() != 4 {
-        return false;
-    }
-    (name[0] == a) & (name[1] == b) & (name[2] == c) & (name[3] == d)
-}
-
-// One of the five, or nothing, whatever the pool.
+// One of the five, or nothing, whatever the pool. Two and four bytes are tested as one number, the first byte lowest.
 pub fn resolve_xml_entity(name: &[u8]) -> Binding
     ensures { λ r. ⌜ ((pool : List ℕ) → boundTo pool r ≡ predefinedOf (now (name .entry))) ⌝ }
     ensures { λ r. ⌜ ((pool : List ℕ) → Lies pool r) ⌝ }
 {
-    if is_two(name, b'l', b't') {
-        return Binding::Predefined(b'<');
+    if name.len() == 2 {
+        let two = u16_at(name, 0);
+        if two == 0x746c {
+            return Binding::Predefined(b'<');
+        }
+        if two == 0x7467 {
+            return Binding::Predefined(b'>');
+        }
+        return Binding::Unknown;
     }
-    if is_two(name, b'g', b't') {
-        return Binding::Predefined(b'>');
+    if name.len() == 4 {
+        let four = u32_at(name, 0);
+        if four == 0x736f7061 {
+            return Binding::Predefined(b'\'');
+        }
+        if four == 0x746f7571 {
+            return Binding::Predefined(b'"');
+        }
+        return Binding::Unknown;
     }
     if is_three(name, b'a', b'm', b'p') {
         return Binding::Predefined(b'&');
-    }
-    if is_four(name, b'a', b'p', b'o', b's') {
-        return Binding::Predefined(b'\'');
-    }
-    if is_four(name, b'q', b'u', b'o', b't') {
-        return Binding::Predefined(b'"');
     }
     Binding::Unknown
 }
@@ -287,4 +277,37 @@ pub fn resolve_entity(list: &[u8], pool: &[u8], name: &[u8]) -> Binding
         }
         at += 12;
     }
+}
+
+// Are these bytes of the pool the name?
+fn same_name(pool: &[u8], start: usize, name: &[u8]) -> bool
+    requires { ⌜ start + length (now name) ≤ length (now pool) ⌝ }
+    ensures { λ r. ⌜ r ≡ sameBytes (part (now (pool .entry)) start (length (now (name .entry)))) (now (name .entry)) ⌝ }
+{
+    let mut i: usize = 0;
+    while i < name.len() {
+        if pool[start + i] != name[i] {
+            return false;
+        }
+        i += 1;
+    }
+    true
+}
+
+// What `resolve_entity` answers, for a short name: small enough to be compiled into each walk.
+pub fn resolve_short(list: &[u8], pool: &[u8], name: &[u8]) -> Binding
+    requires { ⌜ ValidTable (now list) (now pool) ⌝ }
+    ensures { λ r. ⌜ boundTo (now (pool .entry)) r ≡ binding (now (list .entry)) (now (pool .entry)) (now (name .entry)) ⌝ }
+    ensures { λ r. ⌜ Lies (now (pool .entry)) r ⌝ }
+{
+    let mut at: usize = 0;
+    while list[at] == 1 {
+        if wide(list[at + 5]) == name.len() {
+            if same_name(pool, u32_at(list, at + 1), name) {
+                return text_at(list, at);
+            }
+        }
+        at += 12;
+    }
+    resolve_xml_entity(name)
 }

@@ -1,3 +1,4 @@
+use mathlib.Core.Path.{sym}
 use mathlib.Core.List.{[], _∷_}
 use Rattle.entity.proofs.Predefined.{unlike, same-three}
 use borrow.Author.Needs.{needs}
@@ -7,7 +8,7 @@ use Rattle.entity.proofs.is_three.Reads as reads
 use Rattle.entity.proofs.is_three.Lts as lts
 
 returns : tie.Need-returns
-returns c = unlike (c .before .args .name .now) (c .before .args .a ∷ c .before .args .b ∷ c .before .args .c ∷ []) (c .if1 .taken)
+returns c = sym (unlike (c .before .args .name .now) (c .before .args .a ∷ c .before .args .b ∷ c .before .args .c ∷ []) (c .if1 .taken))
 
 shared-slice-read-result : tie.Need-shared-slice-read-result
 shared-slice-read-result c = search needs
