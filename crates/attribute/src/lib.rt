@@ -137,6 +137,9 @@ fn bound_to(name: &[u8], list: &[u8], pool: &[u8]) -> Binding
     if entity::is_three(name, b'a', b'm', b'p') {
         return Binding::Predefined(b'&');
     }
+    if name.len() < 8 {
+        return entity::resolve_short(list, pool, name);
+    }
     entity::resolve_entity(list, pool, name)
 }
 

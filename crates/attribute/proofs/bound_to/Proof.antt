@@ -9,22 +9,24 @@ use Rattle.attribute.proofs.bound_to.Lts as lts
 use Rattle.entity.proofs.is_three.Reads as is-three-reads
 use Rattle.entity.proofs.resolve_entity.Reads as resolve-entity-reads
 
--- src/lib.rt:115:8
 is-three-requires : tie.Need-is-three-requires
 is-three-requires c κs = search needs
 
--- src/lib.rt:116:9
 returns : tie.Need-returns
 unfolding boundTo
 returns c = (rw (sym (c .before .is-three .ensures) ∙ c .if1 .taken), omega arith)
 
--- src/lib.rt:118:5
+resolve-short-requires : tie.Need-resolve-short-requires
+resolve-short-requires c κs = search needs
+
+returns-short : tie.Need-returns-2
+returns-short c = (c .resolve-short .ensures .0 ∙ rw (sym (c .before .before .before .is-three .ensures) ∙ c .before .before .if1 .left), c .resolve-short .ensures .1)
+
 resolve-entity-requires : tie.Need-resolve-entity-requires
 resolve-entity-requires c κs = search needs
 
--- src/lib.rt:110:1
-returns-2 : tie.Need-returns-2
-returns-2 c = (c .resolve-entity .ensures .0 ∙ rw (sym (c .before .before .is-three .ensures) ∙ c .before .if1 .left), c .resolve-entity .ensures .1)
+returns-entity : tie.Need-returns-3
+returns-entity c = (c .resolve-entity .ensures .0 ∙ rw (sym (c .before .before .before .is-three .ensures) ∙ c .before .before .if1 .left), c .resolve-entity .ensures .1)
 
 pub bound-to-spec : {M : Type 1} → statement M
-bound-to-spec = tie.close (tie.spec is-three-requires returns resolve-entity-requires returns-2)
+bound-to-spec = tie.close (tie.spec is-three-requires returns resolve-short-requires returns-short resolve-entity-requires returns-entity)
