@@ -9,10 +9,11 @@ use native.Mathlib.Nat.{le-refl, le-trans, add-zero}
 use lib.Dec.{eqb, leb, ltb}
 use lib.ListN.{length, take, drop, getD, length-drop}
 use lib.Seq.{take-suc, getD-drop, take-add}
+use borrow.Author.Count.{below-none, below-more}
 use borrow.Author.Tests.{le-leb, lt-leb, leb-true, leb-false, ltb-true, ltb-false, lt-ltb, le-ltb, eqb-true, eqb-false, eq-eqb, ne-eqb, not-false}
 use Rattle.text.specs.Bytes.{pick, within}
 use Rattle.text.specs.Utf8.{State, between, one, two, three, after-e0, after-ed, after-f0, after-f4, broken, first, next, after, WellFormed}
-use Rattle.text.specs.Blocks.{Prefix, Whole, AtMost, Fitting, Edge, trail, misfit, misfit2, misfit3}
+use Rattle.text.specs.Blocks.{Prefix, Whole, AtMost, Ascii, Fitting, Edge, trail, misfit, misfit2, misfit3}
 use Rattle.text.proofs.Bytes.{inside, and-left, and-right, or-left, or-right}
 use Rattle.text.proofs.FirstByte.{first-ascii, first-one, first-e0, first-ed, first-two, first-f0, first-three, first-f4}
 use Rattle.text.proofs.Utf8.{after-append, append-well-formed}
@@ -62,6 +63,31 @@ ascii-end t i n p f h a =
     rw q at
     (grown t i (length t - i) p
     (ascii-whole t i (length t - i) 0x7F (at-most-part t (length t - n) n i (length t - i) 0x7F a h (omega arith)) (omega arith) (omega arith)))
+
+-- ---- an ASCII start
+
+pub ascii-none : (t : List ℕ) → Ascii t 0
+ascii-none t = record { fits = omega arith; low = below-none _ }
+
+-- it grows by a stretch of such bytes
+pub ascii-more : (t : List ℕ) (i n : ℕ) → Ascii t i → AtMost t i n 0x7F → i + n ≤ length t → Ascii t (i + n)
+ascii-more t i n p a h = record { fits = h; low = λ k l. go (ltb k i) refl l }
+  where
+    go : {k : ℕ} (x : Bool) → ltb k i ≡ x → k < i + n → getD t k 0 ≤ 0x7F
+    go {k} true e l = p .low k (ltb-true k i e)
+    go {k} false e l =
+        let g = ltb-false k i e in
+        let q : i + (k - i) ≡ k = omega arith in
+        rw q at (a .at-most (k - i) (omega arith))
+
+-- and by a byte
+pub ascii-next : (t : List ℕ) (i : ℕ) → Ascii t i → i < length t → getD t i 0 ≤ 0x7F → Ascii t (i + 1)
+ascii-next t i p h l = record { fits = omega arith; low = below-more (λ (k : ℕ). getD t k 0 ≤ 0x7F) i (p .low) l }
+
+-- what lies inside it is whole characters
+pub ascii-inside : (t : List ℕ) (a i n : ℕ) → Ascii t a → i + n ≤ a → Whole t i n
+ascii-inside t a i n p h =
+    ascii-whole t i n 0x7F (record { at-most = λ k l. p .low (i + k) (omega arith) }) (omega arith) (omega (arith, p .fits))
 
 -- ---- the cheaper tests
 

@@ -29,6 +29,11 @@ pub record Character (text : List ℕ) (i width : ℕ) : Type 0 where
 pub record AtMost (text : List ℕ) (i count top : ℕ) : Type 0 where
   pub at-most : (k : ℕ) → k < count → getD text (i + k) 0 ≤ top
 
+-- the first `end` bytes are there, and are ASCII
+pub record Ascii (text : List ℕ) (end : ℕ) : Type 0 where
+  pub fits : end ≤ length text
+  pub low : (k : ℕ) → k < end → getD text k 0 ≤ 0x7F
+
 -- the eight bytes from `i` on as one number, the first the lowest
 abbrev pub wordAt : List ℕ → ℕ → ℕ
 wordAt text i =

@@ -5,7 +5,7 @@ ghost use Prim.Native.Nat.{ℕ, _+_, _*_, _<_, _≤_};
 ghost use mathlib.Core.Bool.{false};
 ghost use lib.ListN.{length, getD};
 ghost use Rattle.text.specs.Utf8.{utf8End};
-ghost use Rattle.text.specs.Blocks.{wordAt, AtMost, Whole, Prefix, Character, Leads, Fitting, Edge, misfit, misfit3, misfit2};
+ghost use Rattle.text.specs.Blocks.{wordAt, AtMost, Ascii, Whole, Prefix, Character, Leads, Fitting, Edge, misfit, misfit3, misfit2};
 
 fn wide(b: u8) -> u64
     ensures { λ r. ⌜ (r ≡ b) × (r < 0x100) ⌝ }
@@ -429,4 +429,34 @@ pub fn utf8_end(text: &[u8]) -> usize
     let blocks = skip_blocks(text, near);
     let words = ascii_blocks(text, blocks, 1);
     last_chars(text, last_word(text, words))
+}
+
+// Blocks of so many words of ASCII, where all before them is ASCII.
+fn ascii_words(text: &[u8], from: usize, words: usize) -> usize
+    requires { ⌜ Ascii (now text) from ⌝ }
+    requires { ⌜ (0 < words) × (words ≤ 8) ⌝ }
+    ensures { λ r. ⌜ Ascii (now (text .entry)) r ⌝ }
+{
+    let mut i = from;
+    while 8 * words <= text.len() - i {
+        if joined_bits(text, i, words) != 0 {
+            return i;
+        }
+        i += 8 * words;
+    }
+    i
+}
+
+// How many bytes at the start are ASCII.
+pub fn ascii_end(text: &[u8]) -> usize
+    ensures { λ r. ⌜ Ascii (now (text .entry)) r ⌝ }
+{
+    let mut i = ascii_words(text, ascii_words(text, 0, 8), 1);
+    while i < text.len() {
+        if 0x7f < text[i] {
+            return i;
+        }
+        i += 1;
+    }
+    i
 }
