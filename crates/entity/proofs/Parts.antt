@@ -1,19 +1,21 @@
 -- Parts of the pool, and refusals 8 and 9 of a declaration. Assumes nothing.
 use mathlib.Core.Path.{_≡_, refl, ap, sym, _∙_}
-use mathlib.Core.Bool.{Bool, true, false, _||_, not}
+use mathlib.Core.Bool.{Bool, true, false, _&&_, _||_, not}
 use mathlib.Core.List.{List}
 use Prim.Native.Nat.{ℕ, _+_, _-_, _≤_, _<_}
 use native.Mathlib.Omega.{arith}
 use native.Mathlib.Nat.{add-sub-cancel-left}
-use lib.Dec.{eqb, ltb}
+use lib.Dec.{eqb, leb, ltb}
 use lib.ListN.{length, getD, take, drop, length-take, length-drop}
 use lib.Seq.{getD-take, getD-drop}
-use borrow.Author.Tests.{eq-eqb, ne-eqb, ltb-false}
+use borrow.Author.Tests.{eq-eqb, ne-eqb, leb-true, ltb-false, not-true}
 use Rattle.text.specs.Utf8.{utf8End, wellFormed}
 use Rattle.text.specs.Call.{passed}
+use Rattle.text.specs.Blocks.{Ascii}
 use Rattle.text.specs.declared.Answer.the-variants.{Refused}
-use Rattle.text.proofs.Bytes.{contrary, or-left, or-right}
+use Rattle.text.proofs.Bytes.{contrary, and-left, and-right, or-left, or-right}
 use Rattle.text.proofs.Utf8.{tested, testable}
+use Rattle.text.proofs.Blocks.{ascii-inside}
 use Rattle.text.proofs.Longest.{end-whole, whole-end}
 use Rattle.entity.specs.Table.{part, inside, Declaration, illFormed, declarationCheck}
 
@@ -30,6 +32,11 @@ module _ (pool : List ℕ) (start size : ℕ) where
   pub part-at : (i : ℕ) → i < size → getD (part pool start size) i 0 ≡ getD pool (start + i) 0
   unfolding part
   part-at i h = rw (getD-take, getD-drop)
+
+  -- a part inside the pool's ASCII start
+  pub part-ascii : (a : ℕ) → Ascii pool a → start + size ≤ a → wellFormed (part pool start size) ≡ true
+  unfolding part
+  part-ascii a p h = testable (take size (drop start pool)) (ascii-inside pool a start size p h .whole)
 
 -- the test of the end is the test of the text
 pub utf8-tested : (t : List ℕ) {end : ℕ} → end ≡ utf8End t → eqb end (length t) ≡ wellFormed t
@@ -74,3 +81,14 @@ module _ (pool : List ℕ) (name n text t : ℕ) where
   pub well-passed : (at : ℕ) → past ≡ false → false ≡ ill → passed ≡ declarationCheck pool at declared passed
   unfolding declarationCheck
   well-passed at e i = let j : illFormed pool declared ≡ false = sym (i ∙ ill-is e) in rw (e, j)
+
+  -- name and text inside the pool's ASCII start
+  pub ascii-passed : (at a : ℕ) → Ascii pool a → past ≡ false → leb (name + n) a && leb (text + t) a && not (eqb n 0) ≡ true → passed ≡ declarationCheck pool at declared passed
+  unfolding declarationCheck
+  ascii-passed at a p e i =
+      let both = leb (name + n) a && leb (text + t) a in
+      let b = and-left both (not (eqb n 0)) i in
+      let nameIs = part-ascii pool name n a p (leb-true (name + n) a (and-left (leb (name + n) a) (leb (text + t) a) b)) in
+      let textIs = part-ascii pool text t a p (leb-true (text + t) a (and-right (leb (name + n) a) (leb (text + t) a) b)) in
+      let j : illFormed pool declared ≡ false = unfold illFormed in rw (not-true (eqb n 0) (and-right both (not (eqb n 0)) i), nameIs, textIs) in
+      rw (e, j)

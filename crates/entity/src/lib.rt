@@ -8,6 +8,7 @@ ghost use lib.ListN.{length, drop};
 ghost use Rattle.text.specs.Bytes.{sameBytes};
 ghost use Rattle.text.specs.Utf8.{wellFormed};
 ghost use Rattle.text.specs.Call.{passed};
+ghost use Rattle.text.specs.Blocks.{Ascii};
 ghost use Rattle.entity.specs.Table.{littleEndian, part, inside, declarationCheck, tableCheck, ValidTable};
 ghost use Rattle.entity.specs.Binding.{predefinedOf, binding, boundTo, Lies};
 ghost use Rattle.entity.specs.Steps.{commandCheck, lastCheck, TextAt, Agree};
@@ -74,7 +75,18 @@ fn ill_formed(name: &[u8], text: &[u8]) -> bool
     true
 }
 
-// Refusals 8 and 9 of the declaration with these numbers, whose command is at `at`.
+// A pool that is long for its list is not searched: its parts are checked one by one.
+fn ascii_of(list: &[u8], pool: &[u8]) -> usize
+    requires { ⌜ length (now list) ≤ 49153 ⌝ }
+    ensures { λ r. ⌜ Ascii (now (pool .entry)) r ⌝ }
+{
+    if pool.len() <= 32 * list.len() {
+        return validate::ascii_end(pool);
+    }
+    0
+}
+
+// Refusals 8 and 9 of the declaration with these numbers, whose command is at `at`. ASCII parts need no check of UTF-8.
 fn check_declaration(
     pool: &[u8],
     at: usize,
@@ -82,14 +94,22 @@ fn check_declaration(
     name_length: usize,
     text_start: usize,
     text_length: usize,
+    ascii: usize,
 ) -> Answer
     requires { ⌜ («name_start» < 0x100000000) × («name_length» < 0x100) × («text_start» < 0x100000000) × («text_length» < 0x10000) ⌝ }
+    requires { ⌜ Ascii (now pool) ascii ⌝ }
     ensures { λ r. ⌜ r ≡ declarationCheck (now (pool .entry)) at (record { nameStart = «name_start»; nameLength = «name_length»; body = inside «text_start» «text_length» }) passed ⌝ }
 {
     let name_end = name_start + name_length;
     let text_end = text_start + text_length;
     if (pool.len() < name_end) | (pool.len() < text_end) {
         return refused(8, at);
+    }
+    if (name_end <= ascii) & (text_end <= ascii) & (name_length != 0) {
+        return Answer::Done {
+            first: 0,
+            second: 0,
+        };
     }
     if ill_formed(&pool[name_start..name_end], &pool[text_start..text_end]) {
         return refused(9, at);
@@ -101,8 +121,9 @@ fn check_declaration(
 }
 
 // Refusals 7 to 9 of the command 1 at `at`.
-fn check_command(list: &[u8], pool: &[u8], at: usize) -> Answer
+fn check_command(list: &[u8], pool: &[u8], at: usize, ascii: usize) -> Answer
     requires { ⌜ at < length (now list) ⌝ }
+    requires { ⌜ Ascii (now pool) ascii ⌝ }
     ensures { λ r. ⌜ r ≡ commandCheck (now (list .entry)) (now (pool .entry)) at ⌝ }
 {
     if list.len() - at < 12 {
@@ -115,6 +136,7 @@ fn check_command(list: &[u8], pool: &[u8], at: usize) -> Answer
         wide(list[at + 5]),
         u32_at(list, at + 6),
         u16_at(list, at + 10),
+        ascii,
     )
 }
 
@@ -148,10 +170,11 @@ pub fn check_table(list: &[u8], pool: &[u8]) -> Answer
     if 1048576 < pool.len() {
         return refused(6, 0);
     }
+    let ascii = ascii_of(list, pool);
     let mut at: usize = 0;
     let mut count: u64 = 0;
     while at < list.len() && list[at] == 1 {
-        let checked = check_command(list, pool, at);
+        let checked = check_command(list, pool, at, ascii);
         let Answer::Done {
             first: _,
             second: _,

@@ -20,7 +20,9 @@ refused-requires : tie.Need-refused-requires
 refused-requires c κs = search needs
 
 returns : tie.Need-returns
-returns c = c .refused .ensures ∙ command-cut (c .before .before .before .before .args .list .now) (c .before .before .before .before .args .pool .now) (c .before .before .before .before .args .at) (omega arith)
+returns c =
+    let a = c .before .before .before .before .args in
+    c .refused .ensures ∙ command-cut (a .list .now) (a .pool .now) (a .at) (omega arith)
 
 add-u32-at : tie.Need-add-u32-at
 add-u32-at c = search needs

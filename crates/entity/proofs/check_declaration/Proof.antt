@@ -1,5 +1,5 @@
 use mathlib.Core.Path.{sym, _∙_}
-use Rattle.entity.proofs.Parts.{name-fits, text-fits, past-refused, ill-refused, well-passed}
+use Rattle.entity.proofs.Parts.{name-fits, text-fits, past-refused, ill-refused, well-passed, ascii-passed}
 use native.Mathlib.Omega.{arith}
 use borrow.Author.Needs.{needs}
 use Rattle.entity.proofs.check_declaration.Statement.{statement}
@@ -23,6 +23,11 @@ returns c =
     let a = c .before .before .before .args in
     c .refused .ensures ∙ past-refused (a .pool .now) (a .name-start) (a .name-length) (a .text-start) (a .text-length) (a .at) (omega arith) (c .before .if1 .taken)
 
+returns-2 : tie.Need-returns-2
+returns-2 c =
+    let a = c .before .before .before .args in
+    ascii-passed (a .pool .now) (a .name-start) (a .name-length) (a .text-start) (a .text-length) (a .at) (a .ascii) (c .before .before .before .pre .1) (c .before .if1 .left) (c .if2 .taken)
+
 sub-ill-formed : tie.Need-sub-ill-formed
 sub-ill-formed c = search needs
 
@@ -31,8 +36,8 @@ part-ill-formed-start c = search needs
 
 part-ill-formed-end : tie.Need-part-ill-formed-end
 part-ill-formed-end c =
-    let a = c .before .before .args in
-    name-fits (a .pool .now) (a .name-start) (a .name-length) (a .text-start) (a .text-length) (c .if1 .left)
+    let a = c .before .before .before .args in
+    name-fits (a .pool .now) (a .name-start) (a .name-length) (a .text-start) (a .text-length) (c .before .if1 .left)
 
 sub-ill-formed-2 : tie.Need-sub-ill-formed-2
 sub-ill-formed-2 c = search needs
@@ -42,8 +47,8 @@ part-ill-formed-start-2 c = search needs
 
 part-ill-formed-end-2 : tie.Need-part-ill-formed-end-2
 part-ill-formed-end-2 c =
-    let a = c .before .before .before .args in
-    text-fits (a .pool .now) (a .name-start) (a .name-length) (a .text-start) (a .text-length) (c .before .if1 .left)
+    let a = c .before .before .before .before .args in
+    text-fits (a .pool .now) (a .name-start) (a .name-length) (a .text-start) (a .text-length) (c .before .before .if1 .left)
 
 ill-formed-requires : tie.Need-ill-formed-requires
 ill-formed-requires c κs = search needs
@@ -51,18 +56,18 @@ ill-formed-requires c κs = search needs
 refused-requires-2 : tie.Need-refused-requires-2
 refused-requires-2 c κs = search needs
 
-returns-2 : tie.Need-returns-2
-returns-2 c =
-    let a = c .before .before .before .before .before .before .before .args in
-    c .refused2 .ensures
-    ∙ ill-refused (a .pool .now) (a .name-start) (a .name-length) (a .text-start) (a .text-length) (a .at) (omega arith) (c .before .before .before .before .before .if1 .left)
-    (sym (c .before .if2 .taken) ∙ c .before .before .ill-formed .ensures)
-
 returns-3 : tie.Need-returns-3
 returns-3 c =
-    let a = c .before .before .before .before .before .before .args in
-    well-passed (a .pool .now) (a .name-start) (a .name-length) (a .text-start) (a .text-length) (a .at) (c .before .before .before .before .if1 .left)
-    (sym (c .if2 .left) ∙ c .before .ill-formed .ensures)
+    let a = c .before .before .before .before .before .before .before .before .args in
+    c .refused2 .ensures
+    ∙ ill-refused (a .pool .now) (a .name-start) (a .name-length) (a .text-start) (a .text-length) (a .at) (omega arith) (c .before .before .before .before .before .before .if1 .left)
+    (sym (c .before .if3 .taken) ∙ c .before .before .ill-formed .ensures)
+
+returns-4 : tie.Need-returns-4
+returns-4 c =
+    let a = c .before .before .before .before .before .before .before .args in
+    well-passed (a .pool .now) (a .name-start) (a .name-length) (a .text-start) (a .text-length) (a .at) (c .before .before .before .before .before .if1 .left)
+    (sym (c .if3 .left) ∙ c .before .ill-formed .ensures)
 
 pub check-declaration-spec : {M : Type 1} → statement M
 check-declaration-spec =
@@ -72,6 +77,7 @@ check-declaration-spec =
     add-text-end
     refused-requires
     returns
+    returns-2
     sub-ill-formed
     part-ill-formed-start
     part-ill-formed-end
@@ -80,5 +86,5 @@ check-declaration-spec =
     part-ill-formed-end-2
     ill-formed-requires
     refused-requires-2
-    returns-2
-    returns-3)
+    returns-3
+    returns-4)

@@ -10,15 +10,16 @@ use Rattle.entity.proofs.check_table.Statement.{statement}
 use Rattle.entity.proofs.check_table.Tie as tie
 use Rattle.entity.proofs.check_table.Reads as reads
 use Rattle.entity.proofs.check_table.Lts as lts
+use Rattle.entity.proofs.ascii_of.Reads as ascii-of-reads
 use Rattle.entity.proofs.check_command.Reads as check-command-reads
 use Rattle.entity.proofs.check_end.Reads as check-end-reads
 use Rattle.entity.proofs.refused.Reads as refused-reads
 
 abbrev Inv-loop : tie.InvT-loop
-Inv-loop list pool at₀ count₀ at count = Standing list pool at count
+Inv-loop list pool ascii at₀ count₀ at count = Standing list pool at count
 
 abbrev μ-loop : tie.MeasureT-loop
-μ-loop list pool at₀ count₀ at count = length list - at
+μ-loop list pool ascii at₀ count₀ at count = length list - at
 
 refused-requires : tie.Need-refused-requires Inv-loop μ-loop
 refused-requires c κs = search needs
@@ -32,14 +33,17 @@ refused-requires-2 c κs = search needs
 returns-2 : tie.Need-returns-2 Inv-loop μ-loop
 returns-2 c = c .refused2 .ensures ∙ long-pool (c .before .before .before .before .before .args .list .now) (c .before .before .before .before .before .args .pool .now) (omega arith) (omega arith)
 
+ascii-of-requires : tie.Need-ascii-of-requires Inv-loop μ-loop
+ascii-of-requires c κs = omega arith
+
 loop-holds : tie.Need-loop-holds Inv-loop μ-loop
-loop-holds c = start (c .before .before .before .before .args .list .now) (c .before .before .before .before .args .pool .now) (omega arith) (omega arith)
+loop-holds c = start (c .before .before .before .before .before .args .list .now) (c .before .before .before .before .before .args .pool .now) (omega arith) (omega arith)
 
 shared-slice-read-if3 : tie.Need-shared-slice-read-if3 Inv-loop μ-loop
 shared-slice-read-if3 c = c .before .loop-test .taken
 
 check-command-requires : tie.Need-check-command-requires Inv-loop μ-loop
-check-command-requires c κs = c .before .before .loop-test .taken
+check-command-requires c κs = (c .before .before .loop-test .taken, c .before .before .before .before .ascii-of .ensures)
 
 enum-told : tie.Need-enum-told Inv-loop μ-loop
 enum-told c = search needs
@@ -51,7 +55,7 @@ returns-3 : tie.Need-returns-3 Inv-loop μ-loop
 returns-3 c =
     let l = c .before .before .before .before .before .before .loop in
     c .before .before .check-command .ensures
-    ∙ refuses (c .before .before .before .before .before .before .before .before .before .before .before .args .list .now) (c .before .before .before .before .before .before .before .before .before .before .before .args .pool .now) (l .at) (l .count) (l .inv) (c .before .before .before .before .before .loop-test .taken) (eqb-true _ _ (c .before .before .before .if3 .taken))
+    ∙ refuses (c .before .before .before .before .before .before .before .before .before .before .before .before .args .list .now) (c .before .before .before .before .before .before .before .before .before .before .before .before .args .pool .now) (l .at) (l .count) (l .inv) (c .before .before .before .before .before .loop-test .taken) (eqb-true _ _ (c .before .before .before .if3 .taken))
     (sym (c .before .before .check-command .ensures) ∙ c .enum-told2 .given .1)
 
 add-at : tie.Need-add-at Inv-loop μ-loop
@@ -66,7 +70,7 @@ loop-less c = let l = c .before .before .before .before .before .loop-test .take
 loop-again : tie.Need-loop-again Inv-loop μ-loop
 loop-again c =
     let l = c .before .before .before .before .before .before .loop in
-    goes-on (c .before .before .before .before .before .before .before .before .before .before .before .args .list .now) (c .before .before .before .before .before .before .before .before .before .before .before .args .pool .now) (l .at) (l .count) (l .inv) (c .before .before .before .before .before .loop-test .taken) (eqb-true _ _ (c .before .before .before .if3 .taken))
+    goes-on (c .before .before .before .before .before .before .before .before .before .before .before .before .args .list .now) (c .before .before .before .before .before .before .before .before .before .before .before .before .args .pool .now) (l .at) (l .count) (l .inv) (c .before .before .before .before .before .loop-test .taken) (eqb-true _ _ (c .before .before .before .if3 .taken))
     (sym (c .before .before .check-command .ensures) ∙ c .enum-told .given .1)
 
 check-end-requires : tie.Need-check-end-requires Inv-loop μ-loop
@@ -76,7 +80,7 @@ returns-4 : tie.Need-returns-4 Inv-loop μ-loop
 returns-4 c =
     let l = c .before .before .loop in
     c .check-end .ensures
-    ∙ finish (c .before .before .before .before .before .before .before .args .list .now) (c .before .before .before .before .before .before .before .args .pool .now) (l .at) (l .count) (l .inv)
+    ∙ finish (c .before .before .before .before .before .before .before .before .args .list .now) (c .before .before .before .before .before .before .before .before .args .pool .now) (l .at) (l .count) (l .inv)
     (λ h e. ⊎-elim (λ w. eqb-false _ _ (w .2 .left) e) (λ w. let o : ⊥ = omega (arith, w .left) in o) (c .before .loop-test .came))
 
 pub check-table-spec : {M : Type 1} → statement M
@@ -89,6 +93,7 @@ check-table-spec =
     returns
     refused-requires-2
     returns-2
+    ascii-of-requires
     loop-holds
     shared-slice-read-if3
     check-command-requires

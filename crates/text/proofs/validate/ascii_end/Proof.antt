@@ -16,39 +16,30 @@ Inv-loop text i₀ i = Ascii text i
 abbrev μ-loop : tie.MeasureT-loop
 μ-loop text i₀ i = length text - i
 
--- src/validate.rt:454:35
 ascii-words-requires : tie.Need-ascii-words-requires Inv-loop μ-loop
 ascii-words-requires c κs = (ascii-none (c .before .args .text .now), (omega arith, omega arith))
 
--- src/validate.rt:454:9
 ascii-words-requires-2 : tie.Need-ascii-words-requires-2 Inv-loop μ-loop
 ascii-words-requires-2 c κs = (c .ascii-words .ensures, (omega arith, omega arith))
 
--- src/validate.rt:455:5
 loop-holds : tie.Need-loop-holds Inv-loop μ-loop
 loop-holds c = c .ascii-words2 .ensures
 
--- src/validate.rt:456:19
 shared-slice-read-if1 : tie.Need-shared-slice-read-if1 Inv-loop μ-loop
 shared-slice-read-if1 c = c .before .loop-test .taken
 
--- src/validate.rt:457:13
 returns : tie.Need-returns Inv-loop μ-loop
 returns c = c .before .before .before .loop .inv
 
--- src/validate.rt:459:9
 add-i : tie.Need-add-i Inv-loop μ-loop
 add-i c = search needs
 
--- src/validate.rt:455:5
 loop-less : tie.Need-loop-less Inv-loop μ-loop
 loop-less c = search needs
 
--- src/validate.rt:455:5
 loop-again : tie.Need-loop-again Inv-loop μ-loop
 loop-again c = ascii-next (c .before .before .before .before .before .before .before .args .text .now) (c .before .before .before .loop .i) (c .before .before .before .loop .inv) (c .before .before .loop-test .taken) (c .if1 .left)
 
--- src/validate.rt:451:1
 returns-2 : tie.Need-returns-2 Inv-loop μ-loop
 returns-2 c = c .before .loop .inv
 
