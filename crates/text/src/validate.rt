@@ -224,71 +224,41 @@ pub struct Lead {
     pub high: u8,
 }
 
+fn leading(width: usize, low: u8, high: u8) -> Lead
+    ensures { λ r. ⌜ r ≡ record { width = «width»; low = «low»; high = «high» } ⌝ }
+{
+    Lead { width, low, high }
+}
+
 fn lead_of(b: u8) -> Lead
     requires { ⌜ 0x80 ≤ b ⌝ }
     ensures { λ r. ⌜ Leads b r ⌝ }
 {
     if b < 0xc2 {
-        return Lead {
-            width: 0,
-            low: 0x80,
-            high: 0xbf,
-        };
+        return leading(0, 0x80, 0xbf);
     }
     if b < 0xe0 {
-        return Lead {
-            width: 2,
-            low: 0x80,
-            high: 0xbf,
-        };
+        return leading(2, 0x80, 0xbf);
     }
     if b == 0xe0 {
-        return Lead {
-            width: 3,
-            low: 0xa0,
-            high: 0xbf,
-        };
+        return leading(3, 0xa0, 0xbf);
     }
     if b == 0xed {
-        return Lead {
-            width: 3,
-            low: 0x80,
-            high: 0x9f,
-        };
+        return leading(3, 0x80, 0x9f);
     }
     if b < 0xf0 {
-        return Lead {
-            width: 3,
-            low: 0x80,
-            high: 0xbf,
-        };
+        return leading(3, 0x80, 0xbf);
     }
     if b == 0xf0 {
-        return Lead {
-            width: 4,
-            low: 0x90,
-            high: 0xbf,
-        };
+        return leading(4, 0x90, 0xbf);
     }
     if b < 0xf4 {
-        return Lead {
-            width: 4,
-            low: 0x80,
-            high: 0xbf,
-        };
+        return leading(4, 0x80, 0xbf);
     }
     if b == 0xf4 {
-        return Lead {
-            width: 4,
-            low: 0x80,
-            high: 0x8f,
-        };
+        return leading(4, 0x80, 0x8f);
     }
-    Lead {
-        width: 0,
-        low: 0x80,
-        high: 0xbf,
-    }
+    leading(0, 0x80, 0xbf)
 }
 
 // The width of the character at i, or 0 where none is.
