@@ -6,13 +6,13 @@ use mathlib.Core.List.{List, [], _∷_}
 use Prim.Native.Nat.{ℕ, zero, suc, _+_, _-_, _≤_, _<_}
 use native.Mathlib.Omega.{arith}
 use native.Mathlib.Numerals.{add-one}
-use lib.Dec.{eqb}
+use lib.Dec.{eqb, leb}
 use lib.ListN.{length, drop, getD, length-drop}
 use lib.Seq.{drop-cons}
-use borrow.Author.Tests.{eqb-true, eqb-false, eq-eqb, ne-eqb}
+use borrow.Author.Tests.{eqb-true, eqb-false, eq-eqb, ne-eqb, leb-true}
 use Rattle.text.specs.Bytes.{pick, begins}
 use Rattle.text.specs.Version.{Rule, xml10, xml11}
-use Rattle.text.proofs.Bytes.{pick-both, pick-by, or-left, or-right}
+use Rattle.text.proofs.Bytes.{pick-both, pick-by, or-left, or-right, and-left, and-right}
 use Rattle.eols.specs.LineEnds.{lineEnd}
 use Rattle.eols.specs.Stops.{ruleFor}
 use Rattle.eols.specs.declared.Step.{Step}
@@ -23,6 +23,20 @@ use Rattle.tokens.specs.Walking.{Copies, headAt, nextAt, outcomeOf}
 use Rattle.attribute.specs.Heads.{spaceOr, otherHead, attributeHead}
 use Rattle.attribute.specs.Walk.{Settings, answer}
 use Rattle.attribute.specs.Steps.{stopByte, Blank}
+
+-- ---- bytes told apart by one comparison
+
+pub common-plain : (b : ℕ) → leb 39 b && leb b 0xC1 ≡ true → (newer : Bool) → stopByte newer b ≡ false
+common-plain b e newer =
+    let low = leb-true 39 b (and-left (leb 39 b) (leb b 0xC1) e) in
+    let high = leb-true b 0xC1 (and-right (leb 39 b) (leb b 0xC1) e) in
+    let none : (c : ℕ) → c < 39 → eqb b c ≡ false = λ c h. ne-eqb b c (λ q. omega (arith, low, h, q)) in
+    let lead : (c : ℕ) → 0xC1 < c → eqb b c ≡ false = λ c h. ne-eqb b c (λ q. omega (arith, high, h, q)) in
+    rw (none 9 (omega arith), none 10 (omega arith), none 13 (omega arith), none 38 (omega arith), lead 0xC2 (omega arith), lead 0xE2 (omega arith)) (no newer)
+  where
+    no : (n : Bool) → n && false ≡ false
+    no true = refl
+    no false = refl
 
 -- ---- bytes that are copied
 

@@ -1,6 +1,6 @@
 // Attribute values: normalization and the canonical form. One code path for both versions; `newer` says that it is 1.1.
 ghost use mathlib.Core.Path.{_≡_};
-ghost use mathlib.Core.Bool.{true, false};
+ghost use mathlib.Core.Bool.{Bool, true, false};
 ghost use mathlib.Core.List.{[], _∷_};
 ghost use Prim.Native.Nat.{ℕ, _+_, _≤_, _<_};
 ghost use lib.ListN.{length, getD};
@@ -56,34 +56,74 @@ fn plain_blocks(text: &[u8], from: usize, newer: bool, size: usize) -> usize
     i
 }
 
-// Passes bytes that are no stops, at once where the next stop is near.
-fn plain_skip(text: &[u8], from: usize, newer: bool) -> usize
-    requires { ⌜ from ≤ length (now text) ⌝ }
-    ensures { λ r. ⌜ Plain (stopByte newer) (now (text .entry)) from r ⌝ }
+// Letters and most other bytes are stops of neither version: one comparison tells.
+fn is_common(b: u8) -> bool
+    ensures { λ r. ⌜ (r ≡ true → (newer : Bool) → stopByte newer b ≡ false) ⌝ }
 {
-    if text.len() - from < 8 {
-        return from;
-    }
-    if any_stop(text, from, newer, 8) {
-        return from;
-    }
-    let block = plain_blocks(text, from, newer, 32);
-    plain_blocks(text, block, newer, 8)
+    (39 <= b) & (b <= 0xc1)
 }
 
-// The next stop from `from` on, or the text's end.
-fn run_end(text: &[u8], from: usize, newer: bool) -> usize
+// The same as is_stop, told by one comparison for most bytes.
+fn ends_run(b: u8, newer: bool) -> bool
+    ensures { λ r. ⌜ r ≡ stopByte newer b ⌝ }
+{
+    if is_common(b) {
+        return false;
+    }
+    is_stop(b, newer)
+}
+
+// The next stop among the eight bytes from `from` on, else the place after them.
+fn near_stop(text: &[u8], from: usize, newer: bool) -> usize
+    requires { ⌜ from + 8 ≤ length (now text) ⌝ }
+    ensures { λ r. ⌜ Plain (stopByte newer) (now (text .entry)) from r ⌝ }
+    ensures { λ r. ⌜ (r ≤ from + 8) × (r < from + 8 → stopByte newer (getD (now (text .entry)) r 0) ≡ true) ⌝ }
+{
+    for k in 0..8usize {
+        if ends_run(text[from + k], newer) {
+            return from + k;
+        }
+    }
+    from + 8
+}
+
+// The next stop from `from` on, or the text's end, byte by byte.
+fn bytes_stop(text: &[u8], from: usize, newer: bool) -> usize
     requires { ⌜ from ≤ length (now text) ⌝ }
     ensures { λ r. ⌜ RunEnd (stopByte newer) (now (text .entry)) from r ⌝ }
 {
-    let mut i = plain_skip(text, from, newer);
+    let mut i = from;
     while i < text.len() {
-        if is_stop(text[i], newer) {
+        if ends_run(text[i], newer) {
             return i;
         }
         i += 1;
     }
     i
+}
+
+// The same by blocks.
+fn far_stop(text: &[u8], from: usize, newer: bool) -> usize
+    requires { ⌜ from ≤ length (now text) ⌝ }
+    ensures { λ r. ⌜ RunEnd (stopByte newer) (now (text .entry)) from r ⌝ }
+{
+    let block = plain_blocks(text, from, newer, 32);
+    bytes_stop(text, plain_blocks(text, block, newer, 8), newer)
+}
+
+// The next stop from `from` on, or the text's end. Most stops are near: the first eight bytes are looked at one by one.
+fn run_end(text: &[u8], from: usize, newer: bool) -> usize
+    requires { ⌜ from ≤ length (now text) ⌝ }
+    ensures { λ r. ⌜ RunEnd (stopByte newer) (now (text .entry)) from r ⌝ }
+{
+    if text.len() - from < 8 {
+        return bytes_stop(text, from, newer);
+    }
+    let near = near_stop(text, from, newer);
+    if near < from + 8 {
+        return near;
+    }
+    far_stop(text, near, newer)
 }
 
 // TAB, a line end, or a C2 or E2 that starts none.
