@@ -2,12 +2,13 @@
 use mathlib.Core.Path.{_≡_, refl, sym, ap, subst, _∙_}
 use mathlib.Core.Logic.{_≢_}
 use mathlib.Core.Bool.{Bool, true, false, true≢false}
-use mathlib.Core.List.{List, [], _∷_}
+use mathlib.Core.List.{List, [], _∷_, append-nil}
 use Prim.Native.Nat.{ℕ, zero, suc, _+_, _-_, _*_, _≤_, _<_}
 use native.Mathlib.Omega.{arith}
 use native.Mathlib.Numerals.{add-one}
 use lib.Dec.{eqb}
 use lib.ListN.{length, getD, take, drop}
+use lib.Seq.{take-all}
 use borrow.Author.Tests.{eq-eqb, ne-eqb, eqb-true, eqb-false}
 use Rattle.text.specs.Bytes.{pick, sameBytes}
 use Rattle.text.specs.Version.{Rule}
@@ -21,13 +22,17 @@ use Rattle.entity.specs.Table.{Body, inside, Declaration, nameOf, part, declara
 use Rattle.entity.specs.Binding.{Bound, text, predefined, unknown, predefinedOf, bodyBound, bindingIn, binding, boundTo, Lies}
 use Rattle.entity.specs.declared.Binding.{Binding}
 use Rattle.entity.specs.declared.Binding.the-variants.{Text, Predefined, Unknown}
+use Rattle.output.specs.Over.{over}
+use Rattle.output.specs.Runs.{Plain}
 use Rattle.output.proofs.Clip.{length-over}
+use Rattle.output.proofs.Runs.{plain-byte}
 use Rattle.tokens.specs.Tokens.{Stop, kept, space, number, named, unterminated, Token, copy, stop, Head, head, tokenOf, skipOf, nameAt, referenceAt, tokens}
-use Rattle.tokens.specs.Outcome.{Outcome, done, refused, run, produced, answerOf, numberOutcome}
+use Rattle.tokens.specs.Outcome.{Outcome, done, refused, prepend, run, produced, answerOf, numberOutcome}
 use Rattle.tokens.specs.Walking.{NameEnd, headAt, nextAt, outcomeOf, stepOf, Stepped, Walked}
 use Rattle.tokens.specs.declared.Step.{Step}
 use Rattle.tokens.specs.declared.Step.the-variants.{Next, Stopped}
 use Rattle.tokens.proofs.Numbers.{Small, number-small}
+use Rattle.tokens.proofs.Progress.{run-over, run-plain}
 use Rattle.tokens.proofs.References.{reference-none, reference-number, reference-named, name-size, digits-from}
 use Rattle.attribute.specs.Heads.{attributeHead}
 use Rattle.attribute.specs.Walk.{Settings, opened, answer, exhausted, walk, reading, readingOf}
@@ -84,6 +89,16 @@ module _ (s : Settings) where
   pub at-zero : (newer : Bool) (t : List ℕ) (at n depth : ℕ) → depth ≡ 0 → stopByte newer (getD t at 0) ≡ true
       → outcomeAt s (ruleFor newer) depth t at n ≡ refused [] n 16 0 0
   at-zero newer t at n depth e b = stop-zero depth e (tokenOf (headAt (attributeHead (ruleFor newer)) t at)) (stop-head newer at (getD t at 0) (drop (at + 1) t) b) n
+
+-- a text without stops, walked, is itself at every depth
+pub walk-plain : (s : Settings) (newer : Bool) (depth : ℕ) (t : List ℕ) (n : ℕ) → Plain (stopByte newer) t 0 (length t) → walk s (attributeHead (ruleFor newer)) depth t n ≡ done t n
+walk-plain s newer depth t n p =
+    let head = attributeHead (ruleFor newer) in
+    let whole : take (length t - 0) (drop 0 t) ≡ t = take-all (length t - 0) t (omega arith) in
+    walk-run s (ruleFor newer) depth t n
+    ∙ run-plain head (stopAnswer s depth) t (stopByte newer) (copies newer) 0 (length t) n p
+    ∙ ap (prepend (take (length t - 0) (drop 0 t))) (run-over head (stopAnswer s depth) t (length t) n (omega arith))
+    ∙ ap (λ (l : List ℕ). done l n) (append-nil (take (length t - 0) (drop 0 t)) ∙ whole)
 
 -- ---- what a name is bound to, `amp` aside
 
@@ -223,16 +238,13 @@ plain-predefined newer name c no-amp e =
     go false false false false true f k = let z : c ≡ 34 = cc in rw z (plain-four newer .3)
     go false false false false false f k = let z : _≡_ {A = ℕ} 0 1 = cc in absurd (omega arith)
 
-walk-plain : (s : Settings) (newer : Bool) (depth c n : ℕ) → stopByte newer c ≡ false → walk s (attributeHead (ruleFor newer)) depth (c ∷ []) n ≡ done (c ∷ []) n
-unfolding tokens run
-walk-plain s newer depth c n e = walk-run s (ruleFor newer) depth (c ∷ []) n ∙ rw (copies newer 0 c [] e)
-
 -- such a text, walked, is itself
 pub walk-predefined : (s : Settings) (newer : Bool) (list pool name : List ℕ) (depth c n : ℕ) → sameBytes name (97 ∷ 109 ∷ 112 ∷ []) ≡ false
     → binding list pool name ≡ predefined (c ∷ []) → walk s (attributeHead (ruleFor newer)) depth (c ∷ []) n ≡ done (c ∷ []) n
 unfolding binding
 walk-predefined s newer list pool name depth c n no-amp e =
-    walk-plain s newer depth c n (plain-predefined newer name c no-amp (bound-predefined (declarations list) pool name (c ∷ []) e))
+    walk-plain s newer depth (c ∷ []) n
+    (plain-byte (stopByte newer) (c ∷ []) 0 (omega arith) (plain-predefined newer name c no-amp (bound-predefined (declarations list) pool name (c ∷ []) e)))
 
 -- ---- how far a step goes
 
@@ -307,6 +319,16 @@ module _ (newer : Bool) (list pool : List ℕ) (limit depth : ℕ) (t : List ℕ
               stepped-as goes-to
               (at-text newer setting any depth deep t at n end amp e h b (binding list pool called) bound-is pool a z (sym (ap (boundTo pool) k) ∙ same) q)
               (stepped-walked w p)
+
+          -- a replacement text without stops, copied
+          pub step-plain : (a z : ℕ) → x ≡ Text a z → n ≢ limit → Plain (stopByte newer) (take (z - a) (drop a pool)) 0 (length (take (z - a) (drop a pool)))
+              → {len : ℕ} → length (take (z - a) (drop a pool)) ≡ len → {old new : List ℕ} → new ≡ over (take (z - a) (drop a pool)) old
+              → Steps old new (Next (end + 1) len (n + 1))
+          step-plain a z k q p {len} size {old} {new} w =
+              let whole = walk-plain setting newer (depth - 1) (take (z - a) (drop a pool)) (n + 1) p in
+              let walked : Walked (walk setting (attributeHead (ruleFor newer)) (depth - 1) (take (z - a) (drop a pool)) (n + 1)) old new (Done len (n + 1)) =
+              record { answers = sym (ap answerOf whole ∙ ap (λ (k : ℕ). Done k (n + 1)) size); writes = w ∙ ap (λ (o : Outcome). over (produced o) old) (sym whole) } in
+              step-text a z k q walked refl
 
           pub step-unknown : x ≡ Unknown → {old : List ℕ} {r : Step} → r ≡ Stopped 11 (at + 1) end → Steps old old r
           step-unknown k p =

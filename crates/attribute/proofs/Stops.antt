@@ -1,5 +1,5 @@
 -- The stops of the attribute walk: which bytes are none, what stands for a blank, where a stop's token ends. Assumes nothing.
-use mathlib.Core.Path.{_≡_, refl, sym, ap, _∙_}
+use mathlib.Core.Path.{_≡_, refl, sym, ap, subst, _∙_}
 use mathlib.Core.Logic.{_≢_}
 use mathlib.Core.Bool.{Bool, true, false, _&&_, _||_, true≢false}
 use mathlib.Core.List.{List, [], _∷_}
@@ -19,7 +19,8 @@ use Rattle.eols.specs.declared.Step.{Step}
 use Rattle.eols.proofs.LineEnds.{none10, none11, lf-alone, line-end-fits}
 use Rattle.tokens.specs.Tokens.{Stop, kept, space, number, named, Token, copy, stop, Head, head, tokenOf, Name, ended, endless, nameAt, referenceTo, referenceAt}
 use Rattle.tokens.specs.Outcome.{Outcome, done}
-use Rattle.tokens.specs.Walking.{Copies, headAt, nextAt, outcomeOf}
+use Rattle.output.specs.Runs.{Plain}
+use Rattle.tokens.specs.Walking.{RunEnd, Copies, headAt, nextAt, outcomeOf}
 use Rattle.attribute.specs.Heads.{spaceOr, otherHead, attributeHead}
 use Rattle.attribute.specs.Walk.{Settings, answer}
 use Rattle.attribute.specs.Steps.{stopByte, Blank}
@@ -37,6 +38,10 @@ common-plain b e newer =
     no : (n : Bool) → n && false ≡ false
     no true = refl
     no false = refl
+
+-- no stop before the text's end
+pub plain-whole : {stops : ℕ → Bool} {t : List ℕ} {e : ℕ} → RunEnd stops t 0 e → eqb e (length t) ≡ true → Plain stops t 0 (length t)
+plain-whole {stops} {t} {e} r q = subst (Plain stops t 0) (eqb-true e (length t) q) (r .run)
 
 -- ---- bytes that are copied
 

@@ -126,6 +126,16 @@ fn run_end(text: &[u8], from: usize, newer: bool) -> usize
     far_stop(text, near, newer)
 }
 
+// Is there no stop in the text? A short one is not looked at by blocks.
+fn is_plain(text: &[u8], newer: bool) -> bool
+    ensures { λ r. ⌜ (r ≡ true → Plain (stopByte newer) (now (text .entry)) 0 (length (now (text .entry)))) ⌝ }
+{
+    if text.len() < 16 {
+        return bytes_stop(text, 0, newer) == text.len();
+    }
+    far_stop(text, 0, newer) == text.len()
+}
+
 // TAB, a line end, or a C2 or E2 that starts none.
 fn blank_at(text: &[u8], at: usize, newer: bool) -> eols::Step
     requires { ⌜ at < length (now text) ⌝ }
@@ -205,7 +215,8 @@ fn walked_step(walked: Answer, next: usize) -> Step
     }
 }
 
-// The stop at `at`: what it stands for is written at the start of `out`. A replacement text is walked with the depth one less.
+// The stop at `at`: what it stands for is written at the start of `out`. A replacement text is walked with the depth one less; one
+// without stops is copied at once.
 fn normalize_attr_step(
     text: &[u8],
     at: usize,
@@ -243,6 +254,14 @@ fn normalize_attr_step(
         Binding::Text { start, end: last } => {
             if openings == limit {
                 return stopped(17, at, 0);
+            }
+            if is_plain(&pool[start..last], newer) {
+                output::put_over(&pool[start..last], out);
+                return Step::Next {
+                    at: end + 1,
+                    len: last - start,
+                    openings: openings + 1,
+                };
             }
             let walked = normalize_attr_steps(
                 &pool[start..last],

@@ -19,7 +19,7 @@ use Rattle.attribute.specs.Walk.{Settings, walk, reading, readingOf}
 use Rattle.attribute.specs.Steps.{stopByte, stopAnswer, outcomeAt, Counted, CountedStep}
 use Rattle.tokens.proofs.Progress.{Progress, progress-start, progress-length, progress-end, progress-run, progress-step, progress-refused, walked-length}
 use Rattle.attribute.proofs.Stops.{copies}
-use Rattle.attribute.proofs.Single.{stepped-as, stepped-refused, stepped-walked, walk-run, stop-deeper, at-zero, at-none, next-offset, at-number, at-limit, at-text, at-unknown, at-predefined, walk-predefined, counted-number, counted-walked, step-zero, step-blank, step-none, step-number, step-limit, step-text, step-unknown, step-predefined, stepped-told, walked-as, stepped-length}
+use Rattle.attribute.proofs.Single.{stepped-as, stepped-refused, stepped-walked, walk-run, stop-deeper, at-zero, at-none, next-offset, at-number, at-limit, at-text, at-unknown, at-predefined, walk-predefined, counted-number, counted-walked, step-zero, step-blank, step-none, step-number, step-limit, step-text, step-unknown, step-predefined, stepped-told, walked-as, stepped-length, step-plain}
 use Prim.Native.Nat.{ℕ, _<_, _+_, _-_, _*_, _≤_}
 use borrow.Fn.Kinds.{In}
 use borrow.Fn.PlainCycle.{Measures, is, falls, and}
@@ -32,6 +32,7 @@ use Rattle.attribute.proofs.+normalize_attr_step+normalize_attr_steps.L
 use Rattle.attribute.proofs.blank_at.Reads as blank-at-reads
 use Rattle.attribute.proofs.bound_to.Reads as bound-to-reads
 use Rattle.attribute.proofs.byte_step.Reads as byte-step-reads
+use Rattle.attribute.proofs.is_plain.Reads as is-plain-reads
 use Rattle.attribute.proofs.run_end.Reads as run-end-reads
 use Rattle.attribute.proofs.stopped.Reads as stopped-reads
 use Rattle.attribute.proofs.walked_step.Reads as walked-step-reads
@@ -80,7 +81,7 @@ normalize-attr-steps-below t =
     (falls 4 normalize-attr-steps-kinds.ps _<_ μ-normalize-attr-steps t)
     normalize-attr-steps.Pre
 
--- src/lib.rt:163:9
+-- src/lib.rt:236:9
 normalize-attr-step-stopped-requires : (t : ℕ) → normalize-attr-step-lts.Need-stopped-requires (
   stopped-reads.Asked,
   stopped-reads.Learnt,
@@ -94,6 +95,10 @@ normalize-attr-step-stopped-requires : (t : ℕ) → normalize-attr-step-lts.Nee
   number-step-reads.Learnt,
   bound-to-reads.Asked,
   bound-to-reads.Learnt,
+  is-plain-reads.Asked,
+  is-plain-reads.Learnt,
+  put-over-reads.Asked,
+  put-over-reads.Learnt,
   normalize-attr-steps-below t,
   normalize-attr-steps.Post,
   walked-step-reads.Asked,
@@ -101,7 +106,7 @@ normalize-attr-step-stopped-requires : (t : ℕ) → normalize-attr-step-lts.Nee
 ) (normalize-attr-step-at t) normalize-attr-step.Post
 normalize-attr-step-stopped-requires t c κs = tt
 
--- src/lib.rt:163:9
+-- src/lib.rt:236:9
 normalize-attr-step-returns : (t : ℕ) → normalize-attr-step-lts.Need-returns (
   stopped-reads.Asked,
   stopped-reads.Learnt,
@@ -115,6 +120,10 @@ normalize-attr-step-returns : (t : ℕ) → normalize-attr-step-lts.Need-returns
   number-step-reads.Learnt,
   bound-to-reads.Asked,
   bound-to-reads.Learnt,
+  is-plain-reads.Asked,
+  is-plain-reads.Learnt,
+  put-over-reads.Asked,
+  put-over-reads.Learnt,
   normalize-attr-steps-below t,
   normalize-attr-steps.Post,
   walked-step-reads.Asked,
@@ -122,7 +131,7 @@ normalize-attr-step-returns : (t : ℕ) → normalize-attr-step-lts.Need-returns
 ) (normalize-attr-step-at t) normalize-attr-step.Post
 normalize-attr-step-returns t c = (step-zero (c .before .before .before .before .before .before .args .newer) (c .before .before .before .before .before .before .args .list .now) (c .before .before .before .before .before .before .args .pool .now) (c .before .before .before .before .before .before .args .limit) (c .before .before .before .before .before .before .args .depth) (c .before .before .before .before .before .before .args .text .now) (c .before .before .before .before .before .before .args .at) (c .before .before .before .before .before .before .args .openings) (c .before .if1 .taken) (c .before .before .before .before .before .before .pre .1 .1 .1 .0) (c .stopped .ensures), rw (c .stopped .ensures) tt)
 
--- src/lib.rt:165:8
+-- src/lib.rt:238:8
 normalize-attr-step-shared-slice-read-if2 :
     (t : ℕ) → normalize-attr-step-lts.Need-shared-slice-read-if2 (
       stopped-reads.Asked,
@@ -137,6 +146,10 @@ normalize-attr-step-shared-slice-read-if2 :
       number-step-reads.Learnt,
       bound-to-reads.Asked,
       bound-to-reads.Learnt,
+      is-plain-reads.Asked,
+      is-plain-reads.Learnt,
+      put-over-reads.Asked,
+      put-over-reads.Learnt,
       normalize-attr-steps-below t,
       normalize-attr-steps.Post,
       walked-step-reads.Asked,
@@ -144,7 +157,7 @@ normalize-attr-step-shared-slice-read-if2 :
     ) (normalize-attr-step-at t) normalize-attr-step.Post
 normalize-attr-step-shared-slice-read-if2 t c = c .before .before .before .before .before .before .pre .1 .1 .0 .0
 
--- src/lib.rt:166:13
+-- src/lib.rt:239:13
 normalize-attr-step-blank-at-requires : (t : ℕ) → normalize-attr-step-lts.Need-blank-at-requires (
   stopped-reads.Asked,
   stopped-reads.Learnt,
@@ -158,6 +171,10 @@ normalize-attr-step-blank-at-requires : (t : ℕ) → normalize-attr-step-lts.Ne
   number-step-reads.Learnt,
   bound-to-reads.Asked,
   bound-to-reads.Learnt,
+  is-plain-reads.Asked,
+  is-plain-reads.Learnt,
+  put-over-reads.Asked,
+  put-over-reads.Learnt,
   normalize-attr-steps-below t,
   normalize-attr-steps.Post,
   walked-step-reads.Asked,
@@ -165,7 +182,7 @@ normalize-attr-step-blank-at-requires : (t : ℕ) → normalize-attr-step-lts.Ne
 ) (normalize-attr-step-at t) normalize-attr-step.Post
 normalize-attr-step-blank-at-requires t c κs = (c .before .before .before .before .before .before .before .pre .1 .1 .0 .0, (c .before .before .before .before .before .before .before .pre .1 .1 .1 .0, c .if2 .taken))
 
--- src/lib.rt:167:38
+-- src/lib.rt:240:38
 normalize-attr-step-add-byte-step : (t : ℕ) → normalize-attr-step-lts.Need-add-byte-step (
   stopped-reads.Asked,
   stopped-reads.Learnt,
@@ -179,6 +196,10 @@ normalize-attr-step-add-byte-step : (t : ℕ) → normalize-attr-step-lts.Need-a
   number-step-reads.Learnt,
   bound-to-reads.Asked,
   bound-to-reads.Learnt,
+  is-plain-reads.Asked,
+  is-plain-reads.Learnt,
+  put-over-reads.Asked,
+  put-over-reads.Learnt,
   normalize-attr-steps-below t,
   normalize-attr-steps.Post,
   walked-step-reads.Asked,
@@ -186,7 +207,7 @@ normalize-attr-step-add-byte-step : (t : ℕ) → normalize-attr-step-lts.Need-a
 ) (normalize-attr-step-at t) normalize-attr-step.Post
 normalize-attr-step-add-byte-step t c = omega (arith, c .before .blank-at .ensures .inside, c .before .before .before .before .before .before .before .before .before .pre .1 .1 .0 .1)
 
--- src/lib.rt:167:9
+-- src/lib.rt:240:9
 normalize-attr-step-byte-step-requires : (t : ℕ) → normalize-attr-step-lts.Need-byte-step-requires (
   stopped-reads.Asked,
   stopped-reads.Learnt,
@@ -200,6 +221,10 @@ normalize-attr-step-byte-step-requires : (t : ℕ) → normalize-attr-step-lts.N
   number-step-reads.Learnt,
   bound-to-reads.Asked,
   bound-to-reads.Learnt,
+  is-plain-reads.Asked,
+  is-plain-reads.Learnt,
+  put-over-reads.Asked,
+  put-over-reads.Learnt,
   normalize-attr-steps-below t,
   normalize-attr-steps.Post,
   walked-step-reads.Asked,
@@ -207,7 +232,7 @@ normalize-attr-step-byte-step-requires : (t : ℕ) → normalize-attr-step-lts.N
 ) (normalize-attr-step-at t) normalize-attr-step.Post
 normalize-attr-step-byte-step-requires t c κs = tt
 
--- src/lib.rt:167:9
+-- src/lib.rt:240:9
 normalize-attr-step-same-length : (t : ℕ) → normalize-attr-step-lts.Need-same-length (
   stopped-reads.Asked,
   stopped-reads.Learnt,
@@ -221,6 +246,10 @@ normalize-attr-step-same-length : (t : ℕ) → normalize-attr-step-lts.Need-sam
   number-step-reads.Learnt,
   bound-to-reads.Asked,
   bound-to-reads.Learnt,
+  is-plain-reads.Asked,
+  is-plain-reads.Learnt,
+  put-over-reads.Asked,
+  put-over-reads.Learnt,
   normalize-attr-steps-below t,
   normalize-attr-steps.Post,
   walked-step-reads.Asked,
@@ -228,7 +257,7 @@ normalize-attr-step-same-length : (t : ℕ) → normalize-attr-step-lts.Need-sam
 ) (normalize-attr-step-at t) normalize-attr-step.Post
 normalize-attr-step-same-length t c = stepped-length (c .before .before .byte-step .ensures)
 
--- src/lib.rt:167:9
+-- src/lib.rt:240:9
 normalize-attr-step-returns-2 : (t : ℕ) → normalize-attr-step-lts.Need-returns-2 (
   stopped-reads.Asked,
   stopped-reads.Learnt,
@@ -242,6 +271,10 @@ normalize-attr-step-returns-2 : (t : ℕ) → normalize-attr-step-lts.Need-retur
   number-step-reads.Learnt,
   bound-to-reads.Asked,
   bound-to-reads.Learnt,
+  is-plain-reads.Asked,
+  is-plain-reads.Learnt,
+  put-over-reads.Asked,
+  put-over-reads.Learnt,
   normalize-attr-steps-below t,
   normalize-attr-steps.Post,
   walked-step-reads.Asked,
@@ -249,7 +282,7 @@ normalize-attr-step-returns-2 : (t : ℕ) → normalize-attr-step-lts.Need-retur
 ) (normalize-attr-step-at t) normalize-attr-step.Post
 normalize-attr-step-returns-2 t c = (step-blank (c .before .before .before .before .before .before .before .before .before .before .before .before .before .args .newer) (c .before .before .before .before .before .before .before .before .before .before .before .before .before .args .list .now) (c .before .before .before .before .before .before .before .before .before .before .before .before .before .args .pool .now) (c .before .before .before .before .before .before .before .before .before .before .before .before .before .args .limit) (c .before .before .before .before .before .before .before .before .before .before .before .before .before .args .depth) (c .before .before .before .before .before .before .before .before .before .before .before .before .before .args .text .now) (c .before .before .before .before .before .before .before .before .before .before .before .before .before .args .at) (c .before .before .before .before .before .before .before .before .before .before .before .before .before .args .openings) (c .before .before .before .before .before .before .before .before .if1 .left) (c .before .before .before .before .before .blank-at .ensures) (c .before .before .byte-step .ensures), rw (c .before .before .byte-step .ensures .answers) (omega (arith, c .before .before .before .before .before .blank-at .ensures .some), c .before .before .before .before .before .blank-at .ensures .inside, omega arith, c .before .before .before .before .before .before .before .before .before .before .before .before .before .pre .1 .1 .1 .1 .0, omega (arith, c .before .before .before .before .before .blank-at .ensures .some)))
 
--- src/lib.rt:169:16
+-- src/lib.rt:242:16
 normalize-attr-step-add-from : (t : ℕ) → normalize-attr-step-lts.Need-add-from (
   stopped-reads.Asked,
   stopped-reads.Learnt,
@@ -263,6 +296,10 @@ normalize-attr-step-add-from : (t : ℕ) → normalize-attr-step-lts.Need-add-fr
   number-step-reads.Learnt,
   bound-to-reads.Asked,
   bound-to-reads.Learnt,
+  is-plain-reads.Asked,
+  is-plain-reads.Learnt,
+  put-over-reads.Asked,
+  put-over-reads.Learnt,
   normalize-attr-steps-below t,
   normalize-attr-steps.Post,
   walked-step-reads.Asked,
@@ -270,7 +307,7 @@ normalize-attr-step-add-from : (t : ℕ) → normalize-attr-step-lts.Need-add-fr
 ) (normalize-attr-step-at t) normalize-attr-step.Post
 normalize-attr-step-add-from t c = omega (arith, c .before .before .before .before .before .before .before .pre .1 .1 .0)
 
--- src/lib.rt:170:9
+-- src/lib.rt:243:9
 normalize-attr-step-name-end-requires : (t : ℕ) → normalize-attr-step-lts.Need-name-end-requires (
   stopped-reads.Asked,
   stopped-reads.Learnt,
@@ -284,6 +321,10 @@ normalize-attr-step-name-end-requires : (t : ℕ) → normalize-attr-step-lts.Ne
   number-step-reads.Learnt,
   bound-to-reads.Asked,
   bound-to-reads.Learnt,
+  is-plain-reads.Asked,
+  is-plain-reads.Learnt,
+  put-over-reads.Asked,
+  put-over-reads.Learnt,
   normalize-attr-steps-below t,
   normalize-attr-steps.Post,
   walked-step-reads.Asked,
@@ -291,7 +332,7 @@ normalize-attr-step-name-end-requires : (t : ℕ) → normalize-attr-step-lts.Ne
 ) (normalize-attr-step-at t) normalize-attr-step.Post
 normalize-attr-step-name-end-requires t c κs = omega (arith, c .before .before .before .before .before .before .before .pre .1 .1 .0)
 
--- src/lib.rt:172:9
+-- src/lib.rt:245:9
 normalize-attr-step-stopped-requires-2 : (t : ℕ) → normalize-attr-step-lts.Need-stopped-requires-2 (
   stopped-reads.Asked,
   stopped-reads.Learnt,
@@ -305,6 +346,10 @@ normalize-attr-step-stopped-requires-2 : (t : ℕ) → normalize-attr-step-lts.N
   number-step-reads.Learnt,
   bound-to-reads.Asked,
   bound-to-reads.Learnt,
+  is-plain-reads.Asked,
+  is-plain-reads.Learnt,
+  put-over-reads.Asked,
+  put-over-reads.Learnt,
   normalize-attr-steps-below t,
   normalize-attr-steps.Post,
   walked-step-reads.Asked,
@@ -312,7 +357,7 @@ normalize-attr-step-stopped-requires-2 : (t : ℕ) → normalize-attr-step-lts.N
 ) (normalize-attr-step-at t) normalize-attr-step.Post
 normalize-attr-step-stopped-requires-2 t c κs = tt
 
--- src/lib.rt:172:9
+-- src/lib.rt:245:9
 normalize-attr-step-returns-3 : (t : ℕ) → normalize-attr-step-lts.Need-returns-3 (
   stopped-reads.Asked,
   stopped-reads.Learnt,
@@ -326,6 +371,10 @@ normalize-attr-step-returns-3 : (t : ℕ) → normalize-attr-step-lts.Need-retur
   number-step-reads.Learnt,
   bound-to-reads.Asked,
   bound-to-reads.Learnt,
+  is-plain-reads.Asked,
+  is-plain-reads.Learnt,
+  put-over-reads.Asked,
+  put-over-reads.Learnt,
   normalize-attr-steps-below t,
   normalize-attr-steps.Post,
   walked-step-reads.Asked,
@@ -333,7 +382,7 @@ normalize-attr-step-returns-3 : (t : ℕ) → normalize-attr-step-lts.Need-retur
 ) (normalize-attr-step-at t) normalize-attr-step.Post
 normalize-attr-step-returns-3 t c = (step-none (c .before .before .before .before .before .before .before .before .before .before .args .newer) (c .before .before .before .before .before .before .before .before .before .before .args .list .now) (c .before .before .before .before .before .before .before .before .before .before .args .pool .now) (c .before .before .before .before .before .before .before .before .before .before .args .limit) (c .before .before .before .before .before .before .before .before .before .before .args .depth) (c .before .before .before .before .before .before .before .before .before .before .args .text .now) (c .before .before .before .before .before .before .before .before .before .before .args .at) (c .before .before .before .before .before .before .before .before .before .before .args .openings) (c .before .before .before .before .before .if1 .left) (c .before .before .name-end .result) (c .before .before .before .if2 .left) (c .before .before .name-end .ensures) (c .before .if3 .taken) (c .stopped2 .ensures), rw (c .stopped2 .ensures) tt)
 
--- src/lib.rt:174:8
+-- src/lib.rt:247:8
 normalize-attr-step-shared-slice-read-if4 :
     (t : ℕ) → normalize-attr-step-lts.Need-shared-slice-read-if4 (
       stopped-reads.Asked,
@@ -348,6 +397,10 @@ normalize-attr-step-shared-slice-read-if4 :
       number-step-reads.Learnt,
       bound-to-reads.Asked,
       bound-to-reads.Learnt,
+      is-plain-reads.Asked,
+      is-plain-reads.Learnt,
+      put-over-reads.Asked,
+      put-over-reads.Learnt,
       normalize-attr-steps-below t,
       normalize-attr-steps.Post,
       walked-step-reads.Asked,
@@ -355,7 +408,7 @@ normalize-attr-step-shared-slice-read-if4 :
     ) (normalize-attr-step-at t) normalize-attr-step.Post
 normalize-attr-step-shared-slice-read-if4 t c = omega (arith, c .before .before .name-end .ensures .from, c .before .before .name-end .ensures .to, c .before .if3 .left)
 
--- src/lib.rt:175:42
+-- src/lib.rt:248:42
 normalize-attr-step-add-number-step : (t : ℕ) → normalize-attr-step-lts.Need-add-number-step (
   stopped-reads.Asked,
   stopped-reads.Learnt,
@@ -369,6 +422,10 @@ normalize-attr-step-add-number-step : (t : ℕ) → normalize-attr-step-lts.Need
   number-step-reads.Learnt,
   bound-to-reads.Asked,
   bound-to-reads.Learnt,
+  is-plain-reads.Asked,
+  is-plain-reads.Learnt,
+  put-over-reads.Asked,
+  put-over-reads.Learnt,
   normalize-attr-steps-below t,
   normalize-attr-steps.Post,
   walked-step-reads.Asked,
@@ -376,7 +433,7 @@ normalize-attr-step-add-number-step : (t : ℕ) → normalize-attr-step-lts.Need
 ) (normalize-attr-step-at t) normalize-attr-step.Post
 normalize-attr-step-add-number-step t c = omega (arith, c .before .before .before .before .before .before .before .before .before .before .before .pre .1 .1 .0)
 
--- src/lib.rt:175:36
+-- src/lib.rt:248:36
 normalize-attr-step-sub-number-step : (t : ℕ) → normalize-attr-step-lts.Need-sub-number-step (
   stopped-reads.Asked,
   stopped-reads.Learnt,
@@ -390,6 +447,10 @@ normalize-attr-step-sub-number-step : (t : ℕ) → normalize-attr-step-lts.Need
   number-step-reads.Learnt,
   bound-to-reads.Asked,
   bound-to-reads.Learnt,
+  is-plain-reads.Asked,
+  is-plain-reads.Learnt,
+  put-over-reads.Asked,
+  put-over-reads.Learnt,
   normalize-attr-steps-below t,
   normalize-attr-steps.Post,
   walked-step-reads.Asked,
@@ -397,7 +458,7 @@ normalize-attr-step-sub-number-step : (t : ℕ) → normalize-attr-step-lts.Need
 ) (normalize-attr-step-at t) normalize-attr-step.Post
 normalize-attr-step-sub-number-step t c = digits-from false (c .before .before .before .before .before .before .before .before .before .before .before .args .text .now) (c .before .before .before .before .before .before .before .before .before .before .before .args .at) (c .before .before .before .name-end .result) (c .before .before .before .name-end .ensures) (omega (arith, c .before .before .before .name-end .ensures .to, c .before .before .if3 .left)) (c .if4 .taken)
 
--- src/lib.rt:175:36
+-- src/lib.rt:248:36
 normalize-attr-step-part-number-step-start :
     (t : ℕ) → normalize-attr-step-lts.Need-part-number-step-start (
       stopped-reads.Asked,
@@ -412,6 +473,10 @@ normalize-attr-step-part-number-step-start :
       number-step-reads.Learnt,
       bound-to-reads.Asked,
       bound-to-reads.Learnt,
+      is-plain-reads.Asked,
+      is-plain-reads.Learnt,
+      put-over-reads.Asked,
+      put-over-reads.Learnt,
       normalize-attr-steps-below t,
       normalize-attr-steps.Post,
       walked-step-reads.Asked,
@@ -419,7 +484,7 @@ normalize-attr-step-part-number-step-start :
     ) (normalize-attr-step-at t) normalize-attr-step.Post
 normalize-attr-step-part-number-step-start t c = digits-from false (c .before .before .before .before .before .before .before .before .before .before .before .args .text .now) (c .before .before .before .before .before .before .before .before .before .before .before .args .at) (c .before .before .before .name-end .result) (c .before .before .before .name-end .ensures) (omega (arith, c .before .before .before .name-end .ensures .to, c .before .before .if3 .left)) (c .if4 .taken)
 
--- src/lib.rt:175:36
+-- src/lib.rt:248:36
 normalize-attr-step-part-number-step-end :
     (t : ℕ) → normalize-attr-step-lts.Need-part-number-step-end (
       stopped-reads.Asked,
@@ -434,6 +499,10 @@ normalize-attr-step-part-number-step-end :
       number-step-reads.Learnt,
       bound-to-reads.Asked,
       bound-to-reads.Learnt,
+      is-plain-reads.Asked,
+      is-plain-reads.Learnt,
+      put-over-reads.Asked,
+      put-over-reads.Learnt,
       normalize-attr-steps-below t,
       normalize-attr-steps.Post,
       walked-step-reads.Asked,
@@ -441,7 +510,7 @@ normalize-attr-step-part-number-step-end :
     ) (normalize-attr-step-at t) normalize-attr-step.Post
 normalize-attr-step-part-number-step-end t c = c .before .before .before .name-end .ensures .to
 
--- src/lib.rt:175:58
+-- src/lib.rt:248:58
 normalize-attr-step-add-number-step-2 : (t : ℕ) → normalize-attr-step-lts.Need-add-number-step-2 (
   stopped-reads.Asked,
   stopped-reads.Learnt,
@@ -455,6 +524,10 @@ normalize-attr-step-add-number-step-2 : (t : ℕ) → normalize-attr-step-lts.Ne
   number-step-reads.Learnt,
   bound-to-reads.Asked,
   bound-to-reads.Learnt,
+  is-plain-reads.Asked,
+  is-plain-reads.Learnt,
+  put-over-reads.Asked,
+  put-over-reads.Learnt,
   normalize-attr-steps-below t,
   normalize-attr-steps.Post,
   walked-step-reads.Asked,
@@ -462,7 +535,7 @@ normalize-attr-step-add-number-step-2 : (t : ℕ) → normalize-attr-step-lts.Ne
 ) (normalize-attr-step-at t) normalize-attr-step.Post
 normalize-attr-step-add-number-step-2 t c = omega (arith, c .before .before .before .before .before .before .before .before .before .before .before .before .pre .1 .1 .0, c .before .before .before .before .name-end .ensures .to)
 
--- src/lib.rt:175:9
+-- src/lib.rt:248:9
 normalize-attr-step-number-step-requires :
     (t : ℕ) → normalize-attr-step-lts.Need-number-step-requires (
       stopped-reads.Asked,
@@ -477,6 +550,10 @@ normalize-attr-step-number-step-requires :
       number-step-reads.Learnt,
       bound-to-reads.Asked,
       bound-to-reads.Learnt,
+      is-plain-reads.Asked,
+      is-plain-reads.Learnt,
+      put-over-reads.Asked,
+      put-over-reads.Learnt,
       normalize-attr-steps-below t,
       normalize-attr-steps.Post,
       walked-step-reads.Asked,
@@ -484,7 +561,7 @@ normalize-attr-step-number-step-requires :
     ) (normalize-attr-step-at t) normalize-attr-step.Post
 normalize-attr-step-number-step-requires t c κs = tt
 
--- src/lib.rt:175:9
+-- src/lib.rt:248:9
 normalize-attr-step-same-length-2 : (t : ℕ) → normalize-attr-step-lts.Need-same-length-2 (
   stopped-reads.Asked,
   stopped-reads.Learnt,
@@ -498,6 +575,10 @@ normalize-attr-step-same-length-2 : (t : ℕ) → normalize-attr-step-lts.Need-s
   number-step-reads.Learnt,
   bound-to-reads.Asked,
   bound-to-reads.Learnt,
+  is-plain-reads.Asked,
+  is-plain-reads.Learnt,
+  put-over-reads.Asked,
+  put-over-reads.Learnt,
   normalize-attr-steps-below t,
   normalize-attr-steps.Post,
   walked-step-reads.Asked,
@@ -505,7 +586,7 @@ normalize-attr-step-same-length-2 : (t : ℕ) → normalize-attr-step-lts.Need-s
 ) (normalize-attr-step-at t) normalize-attr-step.Post
 normalize-attr-step-same-length-2 t c = stepped-length (c .before .before .number-step .ensures)
 
--- src/lib.rt:175:9
+-- src/lib.rt:248:9
 normalize-attr-step-returns-4 : (t : ℕ) → normalize-attr-step-lts.Need-returns-4 (
   stopped-reads.Asked,
   stopped-reads.Learnt,
@@ -519,6 +600,10 @@ normalize-attr-step-returns-4 : (t : ℕ) → normalize-attr-step-lts.Need-retur
   number-step-reads.Learnt,
   bound-to-reads.Asked,
   bound-to-reads.Learnt,
+  is-plain-reads.Asked,
+  is-plain-reads.Learnt,
+  put-over-reads.Asked,
+  put-over-reads.Learnt,
   normalize-attr-steps-below t,
   normalize-attr-steps.Post,
   walked-step-reads.Asked,
@@ -528,7 +613,7 @@ normalize-attr-step-returns-4 t c =
     let inside : c .before .before .before .before .before .before .before .before .name-end .result < length (c .before .before .before .before .before .before .before .before .before .before .before .before .before .before .before .before .args .text .now) = (omega (arith, c .before .before .before .before .before .before .before .before .name-end .ensures .to, c .before .before .before .before .before .before .before .if3 .left)) in
     (step-number (c .before .before .before .before .before .before .before .before .before .before .before .before .before .before .before .before .args .newer) (c .before .before .before .before .before .before .before .before .before .before .before .before .before .before .before .before .args .list .now) (c .before .before .before .before .before .before .before .before .before .before .before .before .before .before .before .before .args .pool .now) (c .before .before .before .before .before .before .before .before .before .before .before .before .before .before .before .before .args .limit) (c .before .before .before .before .before .before .before .before .before .before .before .before .before .before .before .before .args .depth) (c .before .before .before .before .before .before .before .before .before .before .before .before .before .before .before .before .args .text .now) (c .before .before .before .before .before .before .before .before .before .before .before .before .before .before .before .before .args .at) (c .before .before .before .before .before .before .before .before .before .before .before .before .before .before .before .before .args .openings) (c .before .before .before .before .before .before .before .before .before .before .before .if1 .left) (c .before .before .before .before .before .before .before .before .name-end .result) (c .before .before .before .before .before .before .before .before .before .if2 .left) (c .before .before .before .before .before .before .before .before .name-end .ensures) inside (c .before .before .before .before .before .if4 .taken) (c .before .before .number-step .ensures), counted-number (length (c .before .before .before .before .before .before .before .before .before .before .before .before .before .before .before .before .args .text .now)) (c .before .before .before .before .before .before .before .before .before .before .before .before .before .before .before .before .args .at) (c .before .before .before .before .before .before .before .before .before .before .before .before .before .before .before .before .args .openings) (c .before .before .before .before .before .before .before .before .before .before .before .before .before .before .before .before .args .limit) (c .before .before .before .before .before .before .before .before .name-end .result) _ _ _ _ (omega (arith, c .before .before .before .before .before .before .before .before .name-end .ensures .from)) inside (c .before .before .before .before .before .before .before .before .before .before .before .before .before .before .before .before .pre .1 .1 .1 .1 .0) (c .before .before .number-step .ensures))
 
--- src/lib.rt:177:20
+-- src/lib.rt:250:20
 normalize-attr-step-sub-bound-to : (t : ℕ) → normalize-attr-step-lts.Need-sub-bound-to (
   stopped-reads.Asked,
   stopped-reads.Learnt,
@@ -542,6 +627,10 @@ normalize-attr-step-sub-bound-to : (t : ℕ) → normalize-attr-step-lts.Need-su
   number-step-reads.Learnt,
   bound-to-reads.Asked,
   bound-to-reads.Learnt,
+  is-plain-reads.Asked,
+  is-plain-reads.Learnt,
+  put-over-reads.Asked,
+  put-over-reads.Learnt,
   normalize-attr-steps-below t,
   normalize-attr-steps.Post,
   walked-step-reads.Asked,
@@ -549,7 +638,7 @@ normalize-attr-step-sub-bound-to : (t : ℕ) → normalize-attr-step-lts.Need-su
 ) (normalize-attr-step-at t) normalize-attr-step.Post
 normalize-attr-step-sub-bound-to t c = c .before .before .before .name-end .ensures .from
 
--- src/lib.rt:177:20
+-- src/lib.rt:250:20
 normalize-attr-step-part-bound-to-start :
     (t : ℕ) → normalize-attr-step-lts.Need-part-bound-to-start (
       stopped-reads.Asked,
@@ -564,6 +653,10 @@ normalize-attr-step-part-bound-to-start :
       number-step-reads.Learnt,
       bound-to-reads.Asked,
       bound-to-reads.Learnt,
+      is-plain-reads.Asked,
+      is-plain-reads.Learnt,
+      put-over-reads.Asked,
+      put-over-reads.Learnt,
       normalize-attr-steps-below t,
       normalize-attr-steps.Post,
       walked-step-reads.Asked,
@@ -571,7 +664,7 @@ normalize-attr-step-part-bound-to-start :
     ) (normalize-attr-step-at t) normalize-attr-step.Post
 normalize-attr-step-part-bound-to-start t c = c .before .before .before .name-end .ensures .from
 
--- src/lib.rt:177:20
+-- src/lib.rt:250:20
 normalize-attr-step-part-bound-to-end : (t : ℕ) → normalize-attr-step-lts.Need-part-bound-to-end (
   stopped-reads.Asked,
   stopped-reads.Learnt,
@@ -585,6 +678,10 @@ normalize-attr-step-part-bound-to-end : (t : ℕ) → normalize-attr-step-lts.Ne
   number-step-reads.Learnt,
   bound-to-reads.Asked,
   bound-to-reads.Learnt,
+  is-plain-reads.Asked,
+  is-plain-reads.Learnt,
+  put-over-reads.Asked,
+  put-over-reads.Learnt,
   normalize-attr-steps-below t,
   normalize-attr-steps.Post,
   walked-step-reads.Asked,
@@ -592,7 +689,7 @@ normalize-attr-step-part-bound-to-end : (t : ℕ) → normalize-attr-step-lts.Ne
 ) (normalize-attr-step-at t) normalize-attr-step.Post
 normalize-attr-step-part-bound-to-end t c = c .before .before .before .name-end .ensures .to
 
--- src/lib.rt:177:11
+-- src/lib.rt:250:11
 normalize-attr-step-bound-to-requires : (t : ℕ) → normalize-attr-step-lts.Need-bound-to-requires (
   stopped-reads.Asked,
   stopped-reads.Learnt,
@@ -606,6 +703,10 @@ normalize-attr-step-bound-to-requires : (t : ℕ) → normalize-attr-step-lts.Ne
   number-step-reads.Learnt,
   bound-to-reads.Asked,
   bound-to-reads.Learnt,
+  is-plain-reads.Asked,
+  is-plain-reads.Learnt,
+  put-over-reads.Asked,
+  put-over-reads.Learnt,
   normalize-attr-steps-below t,
   normalize-attr-steps.Post,
   walked-step-reads.Asked,
@@ -613,7 +714,7 @@ normalize-attr-step-bound-to-requires : (t : ℕ) → normalize-attr-step-lts.Ne
 ) (normalize-attr-step-at t) normalize-attr-step.Post
 normalize-attr-step-bound-to-requires t c κs = c .before .before .before .before .before .before .before .before .before .before .before .before .pre .1 .0
 
--- src/lib.rt:178:25
+-- src/lib.rt:251:25
 normalize-attr-step-enum-known-start : (t : ℕ) → normalize-attr-step-lts.Need-enum-known-start (
   stopped-reads.Asked,
   stopped-reads.Learnt,
@@ -627,6 +728,10 @@ normalize-attr-step-enum-known-start : (t : ℕ) → normalize-attr-step-lts.Nee
   number-step-reads.Learnt,
   bound-to-reads.Asked,
   bound-to-reads.Learnt,
+  is-plain-reads.Asked,
+  is-plain-reads.Learnt,
+  put-over-reads.Asked,
+  put-over-reads.Learnt,
   normalize-attr-steps-below t,
   normalize-attr-steps.Post,
   walked-step-reads.Asked,
@@ -634,7 +739,7 @@ normalize-attr-step-enum-known-start : (t : ℕ) → normalize-attr-step-lts.Nee
 ) (normalize-attr-step-at t) normalize-attr-step.Post
 normalize-attr-step-enum-known-start t c = search needs
 
--- src/lib.rt:180:17
+-- src/lib.rt:253:17
 normalize-attr-step-stopped-requires-3 : (t : ℕ) → normalize-attr-step-lts.Need-stopped-requires-3 (
   stopped-reads.Asked,
   stopped-reads.Learnt,
@@ -648,6 +753,10 @@ normalize-attr-step-stopped-requires-3 : (t : ℕ) → normalize-attr-step-lts.N
   number-step-reads.Learnt,
   bound-to-reads.Asked,
   bound-to-reads.Learnt,
+  is-plain-reads.Asked,
+  is-plain-reads.Learnt,
+  put-over-reads.Asked,
+  put-over-reads.Learnt,
   normalize-attr-steps-below t,
   normalize-attr-steps.Post,
   walked-step-reads.Asked,
@@ -655,7 +764,7 @@ normalize-attr-step-stopped-requires-3 : (t : ℕ) → normalize-attr-step-lts.N
 ) (normalize-attr-step-at t) normalize-attr-step.Post
 normalize-attr-step-stopped-requires-3 t c κs = tt
 
--- src/lib.rt:180:17
+-- src/lib.rt:253:17
 normalize-attr-step-returns-5 : (t : ℕ) → normalize-attr-step-lts.Need-returns-5 (
   stopped-reads.Asked,
   stopped-reads.Learnt,
@@ -669,6 +778,10 @@ normalize-attr-step-returns-5 : (t : ℕ) → normalize-attr-step-lts.Need-retur
   number-step-reads.Learnt,
   bound-to-reads.Asked,
   bound-to-reads.Learnt,
+  is-plain-reads.Asked,
+  is-plain-reads.Learnt,
+  put-over-reads.Asked,
+  put-over-reads.Learnt,
   normalize-attr-steps-below t,
   normalize-attr-steps.Post,
   walked-step-reads.Asked,
@@ -677,7 +790,346 @@ normalize-attr-step-returns-5 : (t : ℕ) → normalize-attr-step-lts.Need-retur
 normalize-attr-step-returns-5 t c =
     (step-limit (c .before .before .before .before .before .before .before .before .before .before .before .before .before .before .before .before .before .before .args .newer) (c .before .before .before .before .before .before .before .before .before .before .before .before .before .before .before .before .before .before .args .list .now) (c .before .before .before .before .before .before .before .before .before .before .before .before .before .before .before .before .before .before .args .pool .now) (c .before .before .before .before .before .before .before .before .before .before .before .before .before .before .before .before .before .before .args .limit) (c .before .before .before .before .before .before .before .before .before .before .before .before .before .before .before .before .before .before .args .depth) (c .before .before .before .before .before .before .before .before .before .before .before .before .before .before .before .before .before .before .args .text .now) (c .before .before .before .before .before .before .before .before .before .before .before .before .before .before .before .before .before .before .args .at) (c .before .before .before .before .before .before .before .before .before .before .before .before .before .before .before .before .before .before .args .openings) (c .before .before .before .before .before .before .before .before .before .before .before .before .before .if1 .left) (c .before .before .before .before .before .before .before .before .before .before .name-end .result) (c .before .before .before .before .before .before .before .before .before .before .before .if2 .left) (c .before .before .before .before .before .before .before .before .before .before .name-end .ensures) (omega (arith, c .before .before .before .before .before .before .before .before .before .before .name-end .ensures .to, c .before .before .before .before .before .before .before .before .before .if3 .left)) (c .before .before .before .before .before .before .before .if4 .left) (c .before .before .before .before .before .bound-to .result) (c .before .before .before .before .before .bound-to .ensures .0) (c .before .before .before .start .given .0 .0) (c .before .before .before .start .given .0 .1 .0) (c .before .before .before .start .given .1) (c .before .if5 .taken) (c .stopped3 .ensures), rw (c .stopped3 .ensures) tt)
 
--- src/lib.rt:183:17
+-- src/lib.rt:255:25
+normalize-attr-step-sub-is-plain : (t : ℕ) → normalize-attr-step-lts.Need-sub-is-plain (
+  stopped-reads.Asked,
+  stopped-reads.Learnt,
+  blank-at-reads.Asked,
+  blank-at-reads.Learnt,
+  byte-step-reads.Asked,
+  byte-step-reads.Learnt,
+  name-end-reads.Asked,
+  name-end-reads.Learnt,
+  number-step-reads.Asked,
+  number-step-reads.Learnt,
+  bound-to-reads.Asked,
+  bound-to-reads.Learnt,
+  is-plain-reads.Asked,
+  is-plain-reads.Learnt,
+  put-over-reads.Asked,
+  put-over-reads.Learnt,
+  normalize-attr-steps-below t,
+  normalize-attr-steps.Post,
+  walked-step-reads.Asked,
+  walked-step-reads.Learnt,
+) (normalize-attr-step-at t) normalize-attr-step.Post
+normalize-attr-step-sub-is-plain t c = subst (Lies (c .before .before .before .before .before .before .before .before .before .before .before .before .before .before .before .before .before .args .pool .now)) (c .before .before .start .given .1) (c .before .before .before .before .bound-to .ensures .1) .0
+
+-- src/lib.rt:255:25
+normalize-attr-step-part-is-plain-start :
+    (t : ℕ) → normalize-attr-step-lts.Need-part-is-plain-start (
+      stopped-reads.Asked,
+      stopped-reads.Learnt,
+      blank-at-reads.Asked,
+      blank-at-reads.Learnt,
+      byte-step-reads.Asked,
+      byte-step-reads.Learnt,
+      name-end-reads.Asked,
+      name-end-reads.Learnt,
+      number-step-reads.Asked,
+      number-step-reads.Learnt,
+      bound-to-reads.Asked,
+      bound-to-reads.Learnt,
+      is-plain-reads.Asked,
+      is-plain-reads.Learnt,
+      put-over-reads.Asked,
+      put-over-reads.Learnt,
+      normalize-attr-steps-below t,
+      normalize-attr-steps.Post,
+      walked-step-reads.Asked,
+      walked-step-reads.Learnt,
+    ) (normalize-attr-step-at t) normalize-attr-step.Post
+normalize-attr-step-part-is-plain-start t c = subst (Lies (c .before .before .before .before .before .before .before .before .before .before .before .before .before .before .before .before .before .args .pool .now)) (c .before .before .start .given .1) (c .before .before .before .before .bound-to .ensures .1) .0
+
+-- src/lib.rt:255:25
+normalize-attr-step-part-is-plain-end : (t : ℕ) → normalize-attr-step-lts.Need-part-is-plain-end (
+  stopped-reads.Asked,
+  stopped-reads.Learnt,
+  blank-at-reads.Asked,
+  blank-at-reads.Learnt,
+  byte-step-reads.Asked,
+  byte-step-reads.Learnt,
+  name-end-reads.Asked,
+  name-end-reads.Learnt,
+  number-step-reads.Asked,
+  number-step-reads.Learnt,
+  bound-to-reads.Asked,
+  bound-to-reads.Learnt,
+  is-plain-reads.Asked,
+  is-plain-reads.Learnt,
+  put-over-reads.Asked,
+  put-over-reads.Learnt,
+  normalize-attr-steps-below t,
+  normalize-attr-steps.Post,
+  walked-step-reads.Asked,
+  walked-step-reads.Learnt,
+) (normalize-attr-step-at t) normalize-attr-step.Post
+normalize-attr-step-part-is-plain-end t c = subst (Lies (c .before .before .before .before .before .before .before .before .before .before .before .before .before .before .before .before .before .args .pool .now)) (c .before .before .start .given .1) (c .before .before .before .before .bound-to .ensures .1) .1
+
+-- src/lib.rt:255:16
+normalize-attr-step-is-plain-requires : (t : ℕ) → normalize-attr-step-lts.Need-is-plain-requires (
+  stopped-reads.Asked,
+  stopped-reads.Learnt,
+  blank-at-reads.Asked,
+  blank-at-reads.Learnt,
+  byte-step-reads.Asked,
+  byte-step-reads.Learnt,
+  name-end-reads.Asked,
+  name-end-reads.Learnt,
+  number-step-reads.Asked,
+  number-step-reads.Learnt,
+  bound-to-reads.Asked,
+  bound-to-reads.Learnt,
+  is-plain-reads.Asked,
+  is-plain-reads.Learnt,
+  put-over-reads.Asked,
+  put-over-reads.Learnt,
+  normalize-attr-steps-below t,
+  normalize-attr-steps.Post,
+  walked-step-reads.Asked,
+  walked-step-reads.Learnt,
+) (normalize-attr-step-at t) normalize-attr-step.Post
+normalize-attr-step-is-plain-requires t c κs = tt
+
+-- src/lib.rt:256:34
+normalize-attr-step-sub-put-over : (t : ℕ) → normalize-attr-step-lts.Need-sub-put-over (
+  stopped-reads.Asked,
+  stopped-reads.Learnt,
+  blank-at-reads.Asked,
+  blank-at-reads.Learnt,
+  byte-step-reads.Asked,
+  byte-step-reads.Learnt,
+  name-end-reads.Asked,
+  name-end-reads.Learnt,
+  number-step-reads.Asked,
+  number-step-reads.Learnt,
+  bound-to-reads.Asked,
+  bound-to-reads.Learnt,
+  is-plain-reads.Asked,
+  is-plain-reads.Learnt,
+  put-over-reads.Asked,
+  put-over-reads.Learnt,
+  normalize-attr-steps-below t,
+  normalize-attr-steps.Post,
+  walked-step-reads.Asked,
+  walked-step-reads.Learnt,
+) (normalize-attr-step-at t) normalize-attr-step.Post
+normalize-attr-step-sub-put-over t c = subst (Lies (c .before .before .before .before .before .before .before .before .before .before .before .before .before .before .before .before .before .before .before .before .args .pool .now)) (c .before .before .before .before .before .start .given .1) (c .before .before .before .before .before .before .before .bound-to .ensures .1) .0
+
+-- src/lib.rt:256:34
+normalize-attr-step-part-put-over-start :
+    (t : ℕ) → normalize-attr-step-lts.Need-part-put-over-start (
+      stopped-reads.Asked,
+      stopped-reads.Learnt,
+      blank-at-reads.Asked,
+      blank-at-reads.Learnt,
+      byte-step-reads.Asked,
+      byte-step-reads.Learnt,
+      name-end-reads.Asked,
+      name-end-reads.Learnt,
+      number-step-reads.Asked,
+      number-step-reads.Learnt,
+      bound-to-reads.Asked,
+      bound-to-reads.Learnt,
+      is-plain-reads.Asked,
+      is-plain-reads.Learnt,
+      put-over-reads.Asked,
+      put-over-reads.Learnt,
+      normalize-attr-steps-below t,
+      normalize-attr-steps.Post,
+      walked-step-reads.Asked,
+      walked-step-reads.Learnt,
+    ) (normalize-attr-step-at t) normalize-attr-step.Post
+normalize-attr-step-part-put-over-start t c = subst (Lies (c .before .before .before .before .before .before .before .before .before .before .before .before .before .before .before .before .before .before .before .before .args .pool .now)) (c .before .before .before .before .before .start .given .1) (c .before .before .before .before .before .before .before .bound-to .ensures .1) .0
+
+-- src/lib.rt:256:34
+normalize-attr-step-part-put-over-end : (t : ℕ) → normalize-attr-step-lts.Need-part-put-over-end (
+  stopped-reads.Asked,
+  stopped-reads.Learnt,
+  blank-at-reads.Asked,
+  blank-at-reads.Learnt,
+  byte-step-reads.Asked,
+  byte-step-reads.Learnt,
+  name-end-reads.Asked,
+  name-end-reads.Learnt,
+  number-step-reads.Asked,
+  number-step-reads.Learnt,
+  bound-to-reads.Asked,
+  bound-to-reads.Learnt,
+  is-plain-reads.Asked,
+  is-plain-reads.Learnt,
+  put-over-reads.Asked,
+  put-over-reads.Learnt,
+  normalize-attr-steps-below t,
+  normalize-attr-steps.Post,
+  walked-step-reads.Asked,
+  walked-step-reads.Learnt,
+) (normalize-attr-step-at t) normalize-attr-step.Post
+normalize-attr-step-part-put-over-end t c = subst (Lies (c .before .before .before .before .before .before .before .before .before .before .before .before .before .before .before .before .before .before .before .before .args .pool .now)) (c .before .before .before .before .before .start .given .1) (c .before .before .before .before .before .before .before .bound-to .ensures .1) .1
+
+-- src/lib.rt:256:17
+normalize-attr-step-put-over-requires : (t : ℕ) → normalize-attr-step-lts.Need-put-over-requires (
+  stopped-reads.Asked,
+  stopped-reads.Learnt,
+  blank-at-reads.Asked,
+  blank-at-reads.Learnt,
+  byte-step-reads.Asked,
+  byte-step-reads.Learnt,
+  name-end-reads.Asked,
+  name-end-reads.Learnt,
+  number-step-reads.Asked,
+  number-step-reads.Learnt,
+  bound-to-reads.Asked,
+  bound-to-reads.Learnt,
+  is-plain-reads.Asked,
+  is-plain-reads.Learnt,
+  put-over-reads.Asked,
+  put-over-reads.Learnt,
+  normalize-attr-steps-below t,
+  normalize-attr-steps.Post,
+  walked-step-reads.Asked,
+  walked-step-reads.Learnt,
+) (normalize-attr-step-at t) normalize-attr-step.Post
+normalize-attr-step-put-over-requires t c κs = tt
+
+-- src/lib.rt:258:25
+normalize-attr-step-add-t46 : (t : ℕ) → normalize-attr-step-lts.Need-add-t46 (
+  stopped-reads.Asked,
+  stopped-reads.Learnt,
+  blank-at-reads.Asked,
+  blank-at-reads.Learnt,
+  byte-step-reads.Asked,
+  byte-step-reads.Learnt,
+  name-end-reads.Asked,
+  name-end-reads.Learnt,
+  number-step-reads.Asked,
+  number-step-reads.Learnt,
+  bound-to-reads.Asked,
+  bound-to-reads.Learnt,
+  is-plain-reads.Asked,
+  is-plain-reads.Learnt,
+  put-over-reads.Asked,
+  put-over-reads.Learnt,
+  normalize-attr-steps-below t,
+  normalize-attr-steps.Post,
+  walked-step-reads.Asked,
+  walked-step-reads.Learnt,
+) (normalize-attr-step-at t) normalize-attr-step.Post
+normalize-attr-step-add-t46 t c = omega (arith, c .before .before .before .before .before .before .before .before .before .before .before .before .before .before .before .before .before .before .before .before .before .before .before .before .before .pre .1 .1 .0, c .before .before .before .before .before .before .before .before .before .before .before .before .before .before .before .before .before .name-end .ensures .to)
+
+-- src/lib.rt:259:26
+normalize-attr-step-sub-t51 : (t : ℕ) → normalize-attr-step-lts.Need-sub-t51 (
+  stopped-reads.Asked,
+  stopped-reads.Learnt,
+  blank-at-reads.Asked,
+  blank-at-reads.Learnt,
+  byte-step-reads.Asked,
+  byte-step-reads.Learnt,
+  name-end-reads.Asked,
+  name-end-reads.Learnt,
+  number-step-reads.Asked,
+  number-step-reads.Learnt,
+  bound-to-reads.Asked,
+  bound-to-reads.Learnt,
+  is-plain-reads.Asked,
+  is-plain-reads.Learnt,
+  put-over-reads.Asked,
+  put-over-reads.Learnt,
+  normalize-attr-steps-below t,
+  normalize-attr-steps.Post,
+  walked-step-reads.Asked,
+  walked-step-reads.Learnt,
+) (normalize-attr-step-at t) normalize-attr-step.Post
+normalize-attr-step-sub-t51 t c = subst (Lies (c .before .before .before .before .before .before .before .before .before .before .before .before .before .before .before .before .before .before .before .before .before .before .before .before .before .args .pool .now)) (c .before .before .before .before .before .before .before .before .before .before .start .given .1) (c .before .before .before .before .before .before .before .before .before .before .before .before .bound-to .ensures .1) .0
+
+-- src/lib.rt:260:31
+normalize-attr-step-add-t52 : (t : ℕ) → normalize-attr-step-lts.Need-add-t52 (
+  stopped-reads.Asked,
+  stopped-reads.Learnt,
+  blank-at-reads.Asked,
+  blank-at-reads.Learnt,
+  byte-step-reads.Asked,
+  byte-step-reads.Learnt,
+  name-end-reads.Asked,
+  name-end-reads.Learnt,
+  number-step-reads.Asked,
+  number-step-reads.Learnt,
+  bound-to-reads.Asked,
+  bound-to-reads.Learnt,
+  is-plain-reads.Asked,
+  is-plain-reads.Learnt,
+  put-over-reads.Asked,
+  put-over-reads.Learnt,
+  normalize-attr-steps-below t,
+  normalize-attr-steps.Post,
+  walked-step-reads.Asked,
+  walked-step-reads.Learnt,
+) (normalize-attr-step-at t) normalize-attr-step.Post
+normalize-attr-step-add-t52 t c = omega (arith, c .before .before .before .before .before .before .before .before .before .before .before .before .before .before .before .before .before .before .before .before .before .before .before .before .before .pre .1 .1 .1 .1)
+
+-- src/lib.rt:257:17
+normalize-attr-step-same-length-3 : (t : ℕ) → normalize-attr-step-lts.Need-same-length-3 (
+  stopped-reads.Asked,
+  stopped-reads.Learnt,
+  blank-at-reads.Asked,
+  blank-at-reads.Learnt,
+  byte-step-reads.Asked,
+  byte-step-reads.Learnt,
+  name-end-reads.Asked,
+  name-end-reads.Learnt,
+  number-step-reads.Asked,
+  number-step-reads.Learnt,
+  bound-to-reads.Asked,
+  bound-to-reads.Learnt,
+  is-plain-reads.Asked,
+  is-plain-reads.Learnt,
+  put-over-reads.Asked,
+  put-over-reads.Learnt,
+  normalize-attr-steps-below t,
+  normalize-attr-steps.Post,
+  walked-step-reads.Asked,
+  walked-step-reads.Learnt,
+) (normalize-attr-step-at t) normalize-attr-step.Post
+normalize-attr-step-same-length-3 t c =
+    let a = c .before .before .before .before .before .before .before .before .before .before .start .given .0 .0 in
+    let z = c .before .before .before .before .before .before .before .before .before .before .start .given .0 .1 .0 in
+    ap length (c .before .before .put-over .ensures) ∙ length-over (take (z - a) (drop a (c .before .before .before .before .before .before .before .before .before .before .before .before .before .before .before .before .before .before .before .before .before .before .before .before .before .args .pool .now))) (c .before .before .before .before .before .before .before .before .before .before .before .before .before .before .before .before .before .before .before .before .before .before .before .before .before .args .out .now)
+
+-- src/lib.rt:257:17
+normalize-attr-step-returns-6 : (t : ℕ) → normalize-attr-step-lts.Need-returns-6 (
+  stopped-reads.Asked,
+  stopped-reads.Learnt,
+  blank-at-reads.Asked,
+  blank-at-reads.Learnt,
+  byte-step-reads.Asked,
+  byte-step-reads.Learnt,
+  name-end-reads.Asked,
+  name-end-reads.Learnt,
+  number-step-reads.Asked,
+  number-step-reads.Learnt,
+  bound-to-reads.Asked,
+  bound-to-reads.Learnt,
+  is-plain-reads.Asked,
+  is-plain-reads.Learnt,
+  put-over-reads.Asked,
+  put-over-reads.Learnt,
+  normalize-attr-steps-below t,
+  normalize-attr-steps.Post,
+  walked-step-reads.Asked,
+  walked-step-reads.Learnt,
+) (normalize-attr-step-at t) normalize-attr-step.Post
+normalize-attr-step-returns-6 t c =
+    let inside : c .before .before .before .before .before .before .before .before .before .before .before .before .before .before .before .before .before .name-end .result < length (c .before .before .before .before .before .before .before .before .before .before .before .before .before .before .before .before .before .before .before .before .before .before .before .before .before .args .text .now) = (omega (arith, c .before .before .before .before .before .before .before .before .before .before .before .before .before .before .before .before .before .name-end .ensures .to, c .before .before .before .before .before .before .before .before .before .before .before .before .before .before .before .before .if3 .left)) in
+    let a = c .before .before .before .before .before .before .before .before .before .before .start .given .0 .0 in
+    let z = c .before .before .before .before .before .before .before .before .before .before .start .given .0 .1 .0 in
+    let lies = subst (Lies (c .before .before .before .before .before .before .before .before .before .before .before .before .before .before .before .before .before .before .before .before .before .before .before .before .before .args .pool .now)) (c .before .before .before .before .before .before .before .before .before .before .start .given .1) (c .before .before .before .before .before .before .before .before .before .before .before .before .bound-to .ensures .1) in
+    let size : length (take (z - a) (drop a (c .before .before .before .before .before .before .before .before .before .before .before .before .before .before .before .before .before .before .before .before .before .before .before .before .before .args .pool .now))) ≡ z - a = length-take-le (z - a) (drop a (c .before .before .before .before .before .before .before .before .before .before .before .before .before .before .before .before .before .before .before .before .before .before .before .before .before .args .pool .now)) (rw length-drop (omega (arith, lies .0, lies .1))) in
+    let room : c .before .before .before .before .before .before .before .before .before .before .before .before .before .before .before .before .before .before .before .before .before .before .before .before .before .args .openings + 1 ≤ c .before .before .before .before .before .before .before .before .before .before .before .before .before .before .before .before .before .before .before .before .before .before .before .before .before .args .limit = omega (arith, c .before .before .before .before .before .before .before .before .if5 .left, c .before .before .before .before .before .before .before .before .before .before .before .before .before .before .before .before .before .before .before .before .before .before .before .before .before .pre .1 .1 .1 .1 .0) in (
+      step-plain (c .before .before .before .before .before .before .before .before .before .before .before .before .before .before .before .before .before .before .before .before .before .before .before .before .before .args .newer) (c .before .before .before .before .before .before .before .before .before .before .before .before .before .before .before .before .before .before .before .before .before .before .before .before .before .args .list .now) (c .before .before .before .before .before .before .before .before .before .before .before .before .before .before .before .before .before .before .before .before .before .before .before .before .before .args .pool .now) (c .before .before .before .before .before .before .before .before .before .before .before .before .before .before .before .before .before .before .before .before .before .before .before .before .before .args .limit) (c .before .before .before .before .before .before .before .before .before .before .before .before .before .before .before .before .before .before .before .before .before .before .before .before .before .args .depth) (c .before .before .before .before .before .before .before .before .before .before .before .before .before .before .before .before .before .before .before .before .before .before .before .before .before .args .text .now) (c .before .before .before .before .before .before .before .before .before .before .before .before .before .before .before .before .before .before .before .before .before .before .before .before .before .args .at) (c .before .before .before .before .before .before .before .before .before .before .before .before .before .before .before .before .before .before .before .before .before .before .before .before .before .args .openings) (c .before .before .before .before .before .before .before .before .before .before .before .before .before .before .before .before .before .before .before .before .if1 .left) (c .before .before .before .before .before .before .before .before .before .before .before .before .before .before .before .before .before .name-end .result) (c .before .before .before .before .before .before .before .before .before .before .before .before .before .before .before .before .before .before .if2 .left) (c .before .before .before .before .before .before .before .before .before .before .before .before .before .before .before .before .before .name-end .ensures) inside (c .before .before .before .before .before .before .before .before .before .before .before .before .before .before .if4 .left) (c .before .before .before .before .before .before .before .before .before .before .before .before .bound-to .result) (c .before .before .before .before .before .before .before .before .before .before .before .before .bound-to .ensures .0) a z (c .before .before .before .before .before .before .before .before .before .before .start .given .1) (c .before .before .before .before .before .before .before .before .if5 .left) (c .before .before .before .before .before .before .is-plain .ensures (c .before .before .before .before .before .if6 .taken)) size (c .before .before .put-over .ensures),
+      (omega (arith, c .before .before .before .before .before .before .before .before .before .before .before .before .before .before .before .before .before .name-end .ensures .from), omega (arith, inside), omega arith, room, omega (arith, c .before .before .before .before .before .before .before .before .before .before .before .before .before .before .before .before .before .name-end .ensures .from, lies .0, lies .2)),
+    )
+
+-- src/lib.rt:264:17
 normalize-attr-step-sub-normalize-attr-steps :
     (t : ℕ) → normalize-attr-step-lts.Need-sub-normalize-attr-steps (
       stopped-reads.Asked,
@@ -692,14 +1144,18 @@ normalize-attr-step-sub-normalize-attr-steps :
       number-step-reads.Learnt,
       bound-to-reads.Asked,
       bound-to-reads.Learnt,
+      is-plain-reads.Asked,
+      is-plain-reads.Learnt,
+      put-over-reads.Asked,
+      put-over-reads.Learnt,
       normalize-attr-steps-below t,
       normalize-attr-steps.Post,
       walked-step-reads.Asked,
       walked-step-reads.Learnt,
     ) (normalize-attr-step-at t) normalize-attr-step.Post
-normalize-attr-step-sub-normalize-attr-steps t c = subst (Lies (c .before .before .before .before .before .before .before .before .before .before .before .before .before .before .before .before .before .args .pool .now)) (c .before .before .start .given .1) (c .before .before .before .before .bound-to .ensures .1) .0
+normalize-attr-step-sub-normalize-attr-steps t c = subst (Lies (c .before .before .before .before .before .before .before .before .before .before .before .before .before .before .before .before .before .before .before .before .args .pool .now)) (c .before .before .before .before .before .start .given .1) (c .before .before .before .before .before .before .before .bound-to .ensures .1) .0
 
--- src/lib.rt:183:17
+-- src/lib.rt:264:17
 normalize-attr-step-part-normalize-attr-steps-start :
     (t : ℕ) → normalize-attr-step-lts.Need-part-normalize-attr-steps-start (
       stopped-reads.Asked,
@@ -714,14 +1170,18 @@ normalize-attr-step-part-normalize-attr-steps-start :
       number-step-reads.Learnt,
       bound-to-reads.Asked,
       bound-to-reads.Learnt,
+      is-plain-reads.Asked,
+      is-plain-reads.Learnt,
+      put-over-reads.Asked,
+      put-over-reads.Learnt,
       normalize-attr-steps-below t,
       normalize-attr-steps.Post,
       walked-step-reads.Asked,
       walked-step-reads.Learnt,
     ) (normalize-attr-step-at t) normalize-attr-step.Post
-normalize-attr-step-part-normalize-attr-steps-start t c = subst (Lies (c .before .before .before .before .before .before .before .before .before .before .before .before .before .before .before .before .before .args .pool .now)) (c .before .before .start .given .1) (c .before .before .before .before .bound-to .ensures .1) .0
+normalize-attr-step-part-normalize-attr-steps-start t c = subst (Lies (c .before .before .before .before .before .before .before .before .before .before .before .before .before .before .before .before .before .before .before .before .args .pool .now)) (c .before .before .before .before .before .start .given .1) (c .before .before .before .before .before .before .before .bound-to .ensures .1) .0
 
--- src/lib.rt:183:17
+-- src/lib.rt:264:17
 normalize-attr-step-part-normalize-attr-steps-end :
     (t : ℕ) → normalize-attr-step-lts.Need-part-normalize-attr-steps-end (
       stopped-reads.Asked,
@@ -736,14 +1196,18 @@ normalize-attr-step-part-normalize-attr-steps-end :
       number-step-reads.Learnt,
       bound-to-reads.Asked,
       bound-to-reads.Learnt,
+      is-plain-reads.Asked,
+      is-plain-reads.Learnt,
+      put-over-reads.Asked,
+      put-over-reads.Learnt,
       normalize-attr-steps-below t,
       normalize-attr-steps.Post,
       walked-step-reads.Asked,
       walked-step-reads.Learnt,
     ) (normalize-attr-step-at t) normalize-attr-step.Post
-normalize-attr-step-part-normalize-attr-steps-end t c = subst (Lies (c .before .before .before .before .before .before .before .before .before .before .before .before .before .before .before .before .before .args .pool .now)) (c .before .before .start .given .1) (c .before .before .before .before .bound-to .ensures .1) .1
+normalize-attr-step-part-normalize-attr-steps-end t c = subst (Lies (c .before .before .before .before .before .before .before .before .before .before .before .before .before .before .before .before .before .before .before .before .args .pool .now)) (c .before .before .before .before .before .start .given .1) (c .before .before .before .before .before .before .before .bound-to .ensures .1) .1
 
--- src/lib.rt:185:17
+-- src/lib.rt:266:17
 normalize-attr-step-sub-normalize-attr-steps-2 :
     (t : ℕ) → normalize-attr-step-lts.Need-sub-normalize-attr-steps-2 (
       stopped-reads.Asked,
@@ -758,14 +1222,18 @@ normalize-attr-step-sub-normalize-attr-steps-2 :
       number-step-reads.Learnt,
       bound-to-reads.Asked,
       bound-to-reads.Learnt,
+      is-plain-reads.Asked,
+      is-plain-reads.Learnt,
+      put-over-reads.Asked,
+      put-over-reads.Learnt,
       normalize-attr-steps-below t,
       normalize-attr-steps.Post,
       walked-step-reads.Asked,
       walked-step-reads.Learnt,
     ) (normalize-attr-step-at t) normalize-attr-step.Post
-normalize-attr-step-sub-normalize-attr-steps-2 t c = omega (arith, c .before .before .before .before .before .before .before .before .before .before .before .before .before .if1 .left)
+normalize-attr-step-sub-normalize-attr-steps-2 t c = omega (arith, c .before .before .before .before .before .before .before .before .before .before .before .before .before .before .before .before .if1 .left)
 
--- src/lib.rt:186:17
+-- src/lib.rt:267:17
 normalize-attr-step-add-normalize-attr-steps :
     (t : ℕ) → normalize-attr-step-lts.Need-add-normalize-attr-steps (
       stopped-reads.Asked,
@@ -780,14 +1248,18 @@ normalize-attr-step-add-normalize-attr-steps :
       number-step-reads.Learnt,
       bound-to-reads.Asked,
       bound-to-reads.Learnt,
+      is-plain-reads.Asked,
+      is-plain-reads.Learnt,
+      put-over-reads.Asked,
+      put-over-reads.Learnt,
       normalize-attr-steps-below t,
       normalize-attr-steps.Post,
       walked-step-reads.Asked,
       walked-step-reads.Learnt,
     ) (normalize-attr-step-at t) normalize-attr-step.Post
-normalize-attr-step-add-normalize-attr-steps t c = omega (arith, c .before .before .before .before .before .before .before .before .before .before .before .before .before .before .before .before .before .before .pre .1 .1 .1 .1)
+normalize-attr-step-add-normalize-attr-steps t c = omega (arith, c .before .before .before .before .before .before .before .before .before .before .before .before .before .before .before .before .before .before .before .before .before .pre .1 .1 .1 .1)
 
--- src/lib.rt:182:17
+-- src/lib.rt:263:17
 normalize-attr-step-normalize-attr-steps-requires :
     (t : ℕ) → normalize-attr-step-lts.Need-normalize-attr-steps-requires (
       stopped-reads.Asked,
@@ -802,21 +1274,25 @@ normalize-attr-step-normalize-attr-steps-requires :
       number-step-reads.Learnt,
       bound-to-reads.Asked,
       bound-to-reads.Learnt,
+      is-plain-reads.Asked,
+      is-plain-reads.Learnt,
+      put-over-reads.Asked,
+      put-over-reads.Learnt,
       normalize-attr-steps-below t,
       normalize-attr-steps.Post,
       walked-step-reads.Asked,
       walked-step-reads.Learnt,
     ) (normalize-attr-step-at t) normalize-attr-step.Post
 normalize-attr-step-normalize-attr-steps-requires t c κs =
-    let a = c .before .before .before .before .start .given .0 .0 in
-    let z = c .before .before .before .before .start .given .0 .1 .0 in
-    let lies = subst (Lies (c .before .before .before .before .before .before .before .before .before .before .before .before .before .before .before .before .before .before .before .args .pool .now)) (c .before .before .before .before .start .given .1) (c .before .before .before .before .before .before .bound-to .ensures .1) in
-    let less : (c .before .before .before .before .before .before .before .before .before .before .before .before .before .before .before .before .before .before .before .args .depth - 1) + (c .before .before .before .before .before .before .before .before .before .before .before .before .before .before .before .before .before .before .before .args .depth - 1) + 1 < t = omega (arith, c .before .before .before .before .before .before .before .before .before .before .before .before .before .before .before .before .before .before .before .pre .0, c .before .before .before .before .before .before .before .before .before .before .before .before .before .before .if1 .left) in
-    let short : length (take (z - a) (drop a (c .before .before .before .before .before .before .before .before .before .before .before .before .before .before .before .before .before .before .before .args .pool .now))) ≤ 16777216 = simp (length-take, length-drop) (omega (arith, lies .2)) in
-    let room : c .before .before .before .before .before .before .before .before .before .before .before .before .before .before .before .before .before .before .before .args .openings + 1 ≤ c .before .before .before .before .before .before .before .before .before .before .before .before .before .before .before .before .before .before .before .args .limit = omega (arith, c .before .before .if5 .left, c .before .before .before .before .before .before .before .before .before .before .before .before .before .before .before .before .before .before .before .pre .1 .1 .1 .1 .0) in
-    (less, (c .before .before .before .before .before .before .before .before .before .before .before .before .before .before .before .before .before .before .before .pre .1 .0, (short, (room, c .before .before .before .before .before .before .before .before .before .before .before .before .before .before .before .before .before .before .before .pre .1 .1 .1 .1 .1))))
+    let a = c .before .before .before .before .before .before .before .start .given .0 .0 in
+    let z = c .before .before .before .before .before .before .before .start .given .0 .1 .0 in
+    let lies = subst (Lies (c .before .before .before .before .before .before .before .before .before .before .before .before .before .before .before .before .before .before .before .before .before .before .args .pool .now)) (c .before .before .before .before .before .before .before .start .given .1) (c .before .before .before .before .before .before .before .before .before .bound-to .ensures .1) in
+    let less : (c .before .before .before .before .before .before .before .before .before .before .before .before .before .before .before .before .before .before .before .before .before .before .args .depth - 1) + (c .before .before .before .before .before .before .before .before .before .before .before .before .before .before .before .before .before .before .before .before .before .before .args .depth - 1) + 1 < t = omega (arith, c .before .before .before .before .before .before .before .before .before .before .before .before .before .before .before .before .before .before .before .before .before .before .pre .0, c .before .before .before .before .before .before .before .before .before .before .before .before .before .before .before .before .before .if1 .left) in
+    let short : length (take (z - a) (drop a (c .before .before .before .before .before .before .before .before .before .before .before .before .before .before .before .before .before .before .before .before .before .before .args .pool .now))) ≤ 16777216 = simp (length-take, length-drop) (omega (arith, lies .2)) in
+    let room : c .before .before .before .before .before .before .before .before .before .before .before .before .before .before .before .before .before .before .before .before .before .before .args .openings + 1 ≤ c .before .before .before .before .before .before .before .before .before .before .before .before .before .before .before .before .before .before .before .before .before .before .args .limit = omega (arith, c .before .before .before .before .before .if5 .left, c .before .before .before .before .before .before .before .before .before .before .before .before .before .before .before .before .before .before .before .before .before .before .pre .1 .1 .1 .1 .0) in
+    (less, (c .before .before .before .before .before .before .before .before .before .before .before .before .before .before .before .before .before .before .before .before .before .before .pre .1 .0, (short, (room, c .before .before .before .before .before .before .before .before .before .before .before .before .before .before .before .before .before .before .before .before .before .before .pre .1 .1 .1 .1 .1))))
 
--- src/lib.rt:192:33
+-- src/lib.rt:273:33
 normalize-attr-step-add-walked-step : (t : ℕ) → normalize-attr-step-lts.Need-add-walked-step (
   stopped-reads.Asked,
   stopped-reads.Learnt,
@@ -830,14 +1306,18 @@ normalize-attr-step-add-walked-step : (t : ℕ) → normalize-attr-step-lts.Need
   number-step-reads.Learnt,
   bound-to-reads.Asked,
   bound-to-reads.Learnt,
+  is-plain-reads.Asked,
+  is-plain-reads.Learnt,
+  put-over-reads.Asked,
+  put-over-reads.Learnt,
   normalize-attr-steps-below t,
   normalize-attr-steps.Post,
   walked-step-reads.Asked,
   walked-step-reads.Learnt,
 ) (normalize-attr-step-at t) normalize-attr-step.Post
-normalize-attr-step-add-walked-step t c = omega (arith, c .before .before .before .before .before .before .before .before .before .before .before .before .before .before .before .before .before .before .before .before .before .before .pre .1 .1 .0, c .before .before .before .before .before .before .before .before .before .before .before .before .before .before .name-end .ensures .to)
+normalize-attr-step-add-walked-step t c = omega (arith, c .before .before .before .before .before .before .before .before .before .before .before .before .before .before .before .before .before .before .before .before .before .before .before .before .before .pre .1 .1 .0, c .before .before .before .before .before .before .before .before .before .before .before .before .before .before .before .before .before .name-end .ensures .to)
 
--- src/lib.rt:192:13
+-- src/lib.rt:273:13
 normalize-attr-step-walked-step-requires :
     (t : ℕ) → normalize-attr-step-lts.Need-walked-step-requires (
       stopped-reads.Asked,
@@ -852,6 +1332,10 @@ normalize-attr-step-walked-step-requires :
       number-step-reads.Learnt,
       bound-to-reads.Asked,
       bound-to-reads.Learnt,
+      is-plain-reads.Asked,
+      is-plain-reads.Learnt,
+      put-over-reads.Asked,
+      put-over-reads.Learnt,
       normalize-attr-steps-below t,
       normalize-attr-steps.Post,
       walked-step-reads.Asked,
@@ -859,7 +1343,7 @@ normalize-attr-step-walked-step-requires :
     ) (normalize-attr-step-at t) normalize-attr-step.Post
 normalize-attr-step-walked-step-requires t c κs = tt
 
--- src/lib.rt:194:29
+-- src/lib.rt:275:29
 normalize-attr-step-enum-known-b : (t : ℕ) → normalize-attr-step-lts.Need-enum-known-b (
   stopped-reads.Asked,
   stopped-reads.Learnt,
@@ -873,6 +1357,10 @@ normalize-attr-step-enum-known-b : (t : ℕ) → normalize-attr-step-lts.Need-en
   number-step-reads.Learnt,
   bound-to-reads.Asked,
   bound-to-reads.Learnt,
+  is-plain-reads.Asked,
+  is-plain-reads.Learnt,
+  put-over-reads.Asked,
+  put-over-reads.Learnt,
   normalize-attr-steps-below t,
   normalize-attr-steps.Post,
   walked-step-reads.Asked,
@@ -880,7 +1368,7 @@ normalize-attr-step-enum-known-b : (t : ℕ) → normalize-attr-step-lts.Need-en
 ) (normalize-attr-step-at t) normalize-attr-step.Post
 normalize-attr-step-enum-known-b t c = search needs
 
--- src/lib.rt:194:48
+-- src/lib.rt:275:48
 normalize-attr-step-add-byte-step-2 : (t : ℕ) → normalize-attr-step-lts.Need-add-byte-step-2 (
   stopped-reads.Asked,
   stopped-reads.Learnt,
@@ -894,6 +1382,10 @@ normalize-attr-step-add-byte-step-2 : (t : ℕ) → normalize-attr-step-lts.Need
   number-step-reads.Learnt,
   bound-to-reads.Asked,
   bound-to-reads.Learnt,
+  is-plain-reads.Asked,
+  is-plain-reads.Learnt,
+  put-over-reads.Asked,
+  put-over-reads.Learnt,
   normalize-attr-steps-below t,
   normalize-attr-steps.Post,
   walked-step-reads.Asked,
@@ -901,7 +1393,7 @@ normalize-attr-step-add-byte-step-2 : (t : ℕ) → normalize-attr-step-lts.Need
 ) (normalize-attr-step-at t) normalize-attr-step.Post
 normalize-attr-step-add-byte-step-2 t c = omega (arith, c .before .before .before .before .before .before .before .before .before .before .before .before .before .before .before .before .pre .1 .1 .0, c .before .before .before .before .before .before .before .before .name-end .ensures .to)
 
--- src/lib.rt:194:35
+-- src/lib.rt:275:35
 normalize-attr-step-byte-step-requires-2 :
     (t : ℕ) → normalize-attr-step-lts.Need-byte-step-requires-2 (
       stopped-reads.Asked,
@@ -916,6 +1408,10 @@ normalize-attr-step-byte-step-requires-2 :
       number-step-reads.Learnt,
       bound-to-reads.Asked,
       bound-to-reads.Learnt,
+      is-plain-reads.Asked,
+      is-plain-reads.Learnt,
+      put-over-reads.Asked,
+      put-over-reads.Learnt,
       normalize-attr-steps-below t,
       normalize-attr-steps.Post,
       walked-step-reads.Asked,
@@ -923,7 +1419,7 @@ normalize-attr-step-byte-step-requires-2 :
     ) (normalize-attr-step-at t) normalize-attr-step.Post
 normalize-attr-step-byte-step-requires-2 t c κs = tt
 
--- src/lib.rt:195:29
+-- src/lib.rt:276:29
 normalize-attr-step-enum-told : (t : ℕ) → normalize-attr-step-lts.Need-enum-told (
   stopped-reads.Asked,
   stopped-reads.Learnt,
@@ -937,6 +1433,10 @@ normalize-attr-step-enum-told : (t : ℕ) → normalize-attr-step-lts.Need-enum-
   number-step-reads.Learnt,
   bound-to-reads.Asked,
   bound-to-reads.Learnt,
+  is-plain-reads.Asked,
+  is-plain-reads.Learnt,
+  put-over-reads.Asked,
+  put-over-reads.Learnt,
   normalize-attr-steps-below t,
   normalize-attr-steps.Post,
   walked-step-reads.Asked,
@@ -944,7 +1444,7 @@ normalize-attr-step-enum-told : (t : ℕ) → normalize-attr-step-lts.Need-enum-
 ) (normalize-attr-step-at t) normalize-attr-step.Post
 normalize-attr-step-enum-told t c = search needs
 
--- src/lib.rt:195:29
+-- src/lib.rt:276:29
 normalize-attr-step-stopped-requires-4 : (t : ℕ) → normalize-attr-step-lts.Need-stopped-requires-4 (
   stopped-reads.Asked,
   stopped-reads.Learnt,
@@ -958,6 +1458,10 @@ normalize-attr-step-stopped-requires-4 : (t : ℕ) → normalize-attr-step-lts.N
   number-step-reads.Learnt,
   bound-to-reads.Asked,
   bound-to-reads.Learnt,
+  is-plain-reads.Asked,
+  is-plain-reads.Learnt,
+  put-over-reads.Asked,
+  put-over-reads.Learnt,
   normalize-attr-steps-below t,
   normalize-attr-steps.Post,
   walked-step-reads.Asked,
@@ -965,57 +1469,7 @@ normalize-attr-step-stopped-requires-4 : (t : ℕ) → normalize-attr-step-lts.N
 ) (normalize-attr-step-at t) normalize-attr-step.Post
 normalize-attr-step-stopped-requires-4 t c κs = tt
 
--- src/lib.rt:144:1
-normalize-attr-step-same-length-3 : (t : ℕ) → normalize-attr-step-lts.Need-same-length-3 (
-  stopped-reads.Asked,
-  stopped-reads.Learnt,
-  blank-at-reads.Asked,
-  blank-at-reads.Learnt,
-  byte-step-reads.Asked,
-  byte-step-reads.Learnt,
-  name-end-reads.Asked,
-  name-end-reads.Learnt,
-  number-step-reads.Asked,
-  number-step-reads.Learnt,
-  bound-to-reads.Asked,
-  bound-to-reads.Learnt,
-  normalize-attr-steps-below t,
-  normalize-attr-steps.Post,
-  walked-step-reads.Asked,
-  walked-step-reads.Learnt,
-) (normalize-attr-step-at t) normalize-attr-step.Post
-normalize-attr-step-same-length-3 t c = walked-length (c .before .before .before .normalize-attr-steps .ensures .0)
-
--- src/lib.rt:144:1
-normalize-attr-step-returns-6 : (t : ℕ) → normalize-attr-step-lts.Need-returns-6 (
-  stopped-reads.Asked,
-  stopped-reads.Learnt,
-  blank-at-reads.Asked,
-  blank-at-reads.Learnt,
-  byte-step-reads.Asked,
-  byte-step-reads.Learnt,
-  name-end-reads.Asked,
-  name-end-reads.Learnt,
-  number-step-reads.Asked,
-  number-step-reads.Learnt,
-  bound-to-reads.Asked,
-  bound-to-reads.Learnt,
-  normalize-attr-steps-below t,
-  normalize-attr-steps.Post,
-  walked-step-reads.Asked,
-  walked-step-reads.Learnt,
-) (normalize-attr-step-at t) normalize-attr-step.Post
-normalize-attr-step-returns-6 t c =
-    let inside : c .before .before .before .before .before .before .before .before .before .before .before .before .before .before .before .name-end .result < length (c .before .before .before .before .before .before .before .before .before .before .before .before .before .before .before .before .before .before .before .before .before .before .before .args .text .now) = (omega (arith, c .before .before .before .before .before .before .before .before .before .before .before .before .before .before .before .name-end .ensures .to, c .before .before .before .before .before .before .before .before .before .before .before .before .before .before .if3 .left)) in
-    let a = c .before .before .before .before .before .before .before .before .start .given .0 .0 in
-    let z = c .before .before .before .before .before .before .before .before .start .given .0 .1 .0 in
-    let lies = subst (Lies (c .before .before .before .before .before .before .before .before .before .before .before .before .before .before .before .before .before .before .before .before .before .before .before .args .pool .now)) (c .before .before .before .before .before .before .before .before .start .given .1) (c .before .before .before .before .before .before .before .before .before .before .bound-to .ensures .1) in
-    let size : length (take (z - a) (drop a (c .before .before .before .before .before .before .before .before .before .before .before .before .before .before .before .before .before .before .before .before .before .before .before .args .pool .now))) ≡ z - a = length-take-le (z - a) (drop a (c .before .before .before .before .before .before .before .before .before .before .before .before .before .before .before .before .before .before .before .before .before .before .before .args .pool .now)) (rw length-drop (omega (arith, lies .0, lies .1))) in (
-      step-text (c .before .before .before .before .before .before .before .before .before .before .before .before .before .before .before .before .before .before .before .before .before .before .before .args .newer) (c .before .before .before .before .before .before .before .before .before .before .before .before .before .before .before .before .before .before .before .before .before .before .before .args .list .now) (c .before .before .before .before .before .before .before .before .before .before .before .before .before .before .before .before .before .before .before .before .before .before .before .args .pool .now) (c .before .before .before .before .before .before .before .before .before .before .before .before .before .before .before .before .before .before .before .before .before .before .before .args .limit) (c .before .before .before .before .before .before .before .before .before .before .before .before .before .before .before .before .before .before .before .before .before .before .before .args .depth) (c .before .before .before .before .before .before .before .before .before .before .before .before .before .before .before .before .before .before .before .before .before .before .before .args .text .now) (c .before .before .before .before .before .before .before .before .before .before .before .before .before .before .before .before .before .before .before .before .before .before .before .args .at) (c .before .before .before .before .before .before .before .before .before .before .before .before .before .before .before .before .before .before .before .before .before .before .before .args .openings) (c .before .before .before .before .before .before .before .before .before .before .before .before .before .before .before .before .before .before .if1 .left) (c .before .before .before .before .before .before .before .before .before .before .before .before .before .before .before .name-end .result) (c .before .before .before .before .before .before .before .before .before .before .before .before .before .before .before .before .if2 .left) (c .before .before .before .before .before .before .before .before .before .before .before .before .before .before .before .name-end .ensures) inside (c .before .before .before .before .before .before .before .before .before .before .before .before .if4 .left) (c .before .before .before .before .before .before .before .before .before .before .bound-to .result) (c .before .before .before .before .before .before .before .before .before .before .bound-to .ensures .0) a z (c .before .before .before .before .before .before .before .before .start .given .1) (c .before .before .before .before .before .before .if5 .left) (c .before .before .before .normalize-attr-steps .ensures .0) (c .walked-step .ensures),
-      counted-walked (length (c .before .before .before .before .before .before .before .before .before .before .before .before .before .before .before .before .before .before .before .before .before .before .before .args .text .now)) (c .before .before .before .before .before .before .before .before .before .before .before .before .before .before .before .before .before .before .before .before .before .before .before .args .at) (c .before .before .before .before .before .before .before .before .before .before .before .before .before .before .before .before .before .before .before .before .before .before .before .args .openings) (c .before .before .before .before .before .before .before .before .before .before .before .before .before .before .before .before .before .before .before .before .before .before .before .args .limit) (c .before .before .before .before .before .before .before .before .before .before .before .before .before .before .before .name-end .result) a z (c .before .before .before .normalize-attr-steps .result) (omega (arith, c .before .before .before .before .before .before .before .before .before .before .before .before .before .before .before .name-end .ensures .from)) inside (lies .0) (lies .2) (subst (λ (k : ℕ). Counted k (c .before .before .before .before .before .before .before .before .before .before .before .before .before .before .before .before .before .before .before .before .before .before .before .args .openings + 1) (c .before .before .before .before .before .before .before .before .before .before .before .before .before .before .before .before .before .before .before .before .before .before .before .args .limit) (c .before .before .before .normalize-attr-steps .result)) size (c .before .before .before .normalize-attr-steps .ensures .1)) (c .walked-step .ensures),
-    )
-
--- src/lib.rt:144:1
+-- src/lib.rt:217:1
 normalize-attr-step-same-length-4 : (t : ℕ) → normalize-attr-step-lts.Need-same-length-4 (
   stopped-reads.Asked,
   stopped-reads.Learnt,
@@ -1029,14 +1483,18 @@ normalize-attr-step-same-length-4 : (t : ℕ) → normalize-attr-step-lts.Need-s
   number-step-reads.Learnt,
   bound-to-reads.Asked,
   bound-to-reads.Learnt,
+  is-plain-reads.Asked,
+  is-plain-reads.Learnt,
+  put-over-reads.Asked,
+  put-over-reads.Learnt,
   normalize-attr-steps-below t,
   normalize-attr-steps.Post,
   walked-step-reads.Asked,
   walked-step-reads.Learnt,
 ) (normalize-attr-step-at t) normalize-attr-step.Post
-normalize-attr-step-same-length-4 t c = stepped-length (c .before .before .byte-step2 .ensures)
+normalize-attr-step-same-length-4 t c = walked-length (c .before .before .before .normalize-attr-steps .ensures .0)
 
--- src/lib.rt:144:1
+-- src/lib.rt:217:1
 normalize-attr-step-returns-7 : (t : ℕ) → normalize-attr-step-lts.Need-returns-7 (
   stopped-reads.Asked,
   stopped-reads.Learnt,
@@ -1050,16 +1508,51 @@ normalize-attr-step-returns-7 : (t : ℕ) → normalize-attr-step-lts.Need-retur
   number-step-reads.Learnt,
   bound-to-reads.Asked,
   bound-to-reads.Learnt,
+  is-plain-reads.Asked,
+  is-plain-reads.Learnt,
+  put-over-reads.Asked,
+  put-over-reads.Learnt,
   normalize-attr-steps-below t,
   normalize-attr-steps.Post,
   walked-step-reads.Asked,
   walked-step-reads.Learnt,
 ) (normalize-attr-step-at t) normalize-attr-step.Post
 normalize-attr-step-returns-7 t c =
-    let inside : c .before .before .before .before .before .before .before .before .before .before .before .before .name-end .result < length (c .before .before .before .before .before .before .before .before .before .before .before .before .before .before .before .before .before .before .before .before .args .text .now) = (omega (arith, c .before .before .before .before .before .before .before .before .before .before .before .before .name-end .ensures .to, c .before .before .before .before .before .before .before .before .before .before .before .if3 .left)) in
-    (step-predefined (c .before .before .before .before .before .before .before .before .before .before .before .before .before .before .before .before .before .before .before .before .args .newer) (c .before .before .before .before .before .before .before .before .before .before .before .before .before .before .before .before .before .before .before .before .args .list .now) (c .before .before .before .before .before .before .before .before .before .before .before .before .before .before .before .before .before .before .before .before .args .pool .now) (c .before .before .before .before .before .before .before .before .before .before .before .before .before .before .before .before .before .before .before .before .args .limit) (c .before .before .before .before .before .before .before .before .before .before .before .before .before .before .before .before .before .before .before .before .args .depth) (c .before .before .before .before .before .before .before .before .before .before .before .before .before .before .before .before .before .before .before .before .args .text .now) (c .before .before .before .before .before .before .before .before .before .before .before .before .before .before .before .before .before .before .before .before .args .at) (c .before .before .before .before .before .before .before .before .before .before .before .before .before .before .before .before .before .before .before .before .args .openings) (c .before .before .before .before .before .before .before .before .before .before .before .before .before .before .before .if1 .left) (c .before .before .before .before .before .before .before .before .before .before .before .before .name-end .result) (c .before .before .before .before .before .before .before .before .before .before .before .before .before .if2 .left) (c .before .before .before .before .before .before .before .before .before .before .before .before .name-end .ensures) inside (c .before .before .before .before .before .before .before .before .before .if4 .left) (c .before .before .before .before .before .before .before .bound-to .result) (c .before .before .before .before .before .before .before .bound-to .ensures .0) (c .before .before .before .before .before .b .given .0 .0) (c .before .before .before .before .before .b .given .1) (c .before .before .byte-step2 .ensures), rw (c .before .before .byte-step2 .ensures .answers) (omega (arith, c .before .before .before .before .before .before .before .before .before .before .before .before .name-end .ensures .from), omega (arith, inside), omega arith, c .before .before .before .before .before .before .before .before .before .before .before .before .before .before .before .before .before .before .before .before .pre .1 .1 .1 .1 .0, omega (arith, c .before .before .before .before .before .before .before .before .before .before .before .before .name-end .ensures .from)))
+    let inside : c .before .before .before .before .before .before .before .before .before .before .before .before .before .before .before .before .before .before .name-end .result < length (c .before .before .before .before .before .before .before .before .before .before .before .before .before .before .before .before .before .before .before .before .before .before .before .before .before .before .args .text .now) = (omega (arith, c .before .before .before .before .before .before .before .before .before .before .before .before .before .before .before .before .before .before .name-end .ensures .to, c .before .before .before .before .before .before .before .before .before .before .before .before .before .before .before .before .before .if3 .left)) in
+    let a = c .before .before .before .before .before .before .before .before .before .before .before .start .given .0 .0 in
+    let z = c .before .before .before .before .before .before .before .before .before .before .before .start .given .0 .1 .0 in
+    let lies = subst (Lies (c .before .before .before .before .before .before .before .before .before .before .before .before .before .before .before .before .before .before .before .before .before .before .before .before .before .before .args .pool .now)) (c .before .before .before .before .before .before .before .before .before .before .before .start .given .1) (c .before .before .before .before .before .before .before .before .before .before .before .before .before .bound-to .ensures .1) in
+    let size : length (take (z - a) (drop a (c .before .before .before .before .before .before .before .before .before .before .before .before .before .before .before .before .before .before .before .before .before .before .before .before .before .before .args .pool .now))) ≡ z - a = length-take-le (z - a) (drop a (c .before .before .before .before .before .before .before .before .before .before .before .before .before .before .before .before .before .before .before .before .before .before .before .before .before .before .args .pool .now)) (rw length-drop (omega (arith, lies .0, lies .1))) in (
+      step-text (c .before .before .before .before .before .before .before .before .before .before .before .before .before .before .before .before .before .before .before .before .before .before .before .before .before .before .args .newer) (c .before .before .before .before .before .before .before .before .before .before .before .before .before .before .before .before .before .before .before .before .before .before .before .before .before .before .args .list .now) (c .before .before .before .before .before .before .before .before .before .before .before .before .before .before .before .before .before .before .before .before .before .before .before .before .before .before .args .pool .now) (c .before .before .before .before .before .before .before .before .before .before .before .before .before .before .before .before .before .before .before .before .before .before .before .before .before .before .args .limit) (c .before .before .before .before .before .before .before .before .before .before .before .before .before .before .before .before .before .before .before .before .before .before .before .before .before .before .args .depth) (c .before .before .before .before .before .before .before .before .before .before .before .before .before .before .before .before .before .before .before .before .before .before .before .before .before .before .args .text .now) (c .before .before .before .before .before .before .before .before .before .before .before .before .before .before .before .before .before .before .before .before .before .before .before .before .before .before .args .at) (c .before .before .before .before .before .before .before .before .before .before .before .before .before .before .before .before .before .before .before .before .before .before .before .before .before .before .args .openings) (c .before .before .before .before .before .before .before .before .before .before .before .before .before .before .before .before .before .before .before .before .before .if1 .left) (c .before .before .before .before .before .before .before .before .before .before .before .before .before .before .before .before .before .before .name-end .result) (c .before .before .before .before .before .before .before .before .before .before .before .before .before .before .before .before .before .before .before .if2 .left) (c .before .before .before .before .before .before .before .before .before .before .before .before .before .before .before .before .before .before .name-end .ensures) inside (c .before .before .before .before .before .before .before .before .before .before .before .before .before .before .before .if4 .left) (c .before .before .before .before .before .before .before .before .before .before .before .before .before .bound-to .result) (c .before .before .before .before .before .before .before .before .before .before .before .before .before .bound-to .ensures .0) a z (c .before .before .before .before .before .before .before .before .before .before .before .start .given .1) (c .before .before .before .before .before .before .before .before .before .if5 .left) (c .before .before .before .normalize-attr-steps .ensures .0) (c .walked-step .ensures),
+      counted-walked (length (c .before .before .before .before .before .before .before .before .before .before .before .before .before .before .before .before .before .before .before .before .before .before .before .before .before .before .args .text .now)) (c .before .before .before .before .before .before .before .before .before .before .before .before .before .before .before .before .before .before .before .before .before .before .before .before .before .before .args .at) (c .before .before .before .before .before .before .before .before .before .before .before .before .before .before .before .before .before .before .before .before .before .before .before .before .before .before .args .openings) (c .before .before .before .before .before .before .before .before .before .before .before .before .before .before .before .before .before .before .before .before .before .before .before .before .before .before .args .limit) (c .before .before .before .before .before .before .before .before .before .before .before .before .before .before .before .before .before .before .name-end .result) a z (c .before .before .before .normalize-attr-steps .result) (omega (arith, c .before .before .before .before .before .before .before .before .before .before .before .before .before .before .before .before .before .before .name-end .ensures .from)) inside (lies .0) (lies .2) (subst (λ (k : ℕ). Counted k (c .before .before .before .before .before .before .before .before .before .before .before .before .before .before .before .before .before .before .before .before .before .before .before .before .before .before .args .openings + 1) (c .before .before .before .before .before .before .before .before .before .before .before .before .before .before .before .before .before .before .before .before .before .before .before .before .before .before .args .limit) (c .before .before .before .normalize-attr-steps .result)) size (c .before .before .before .normalize-attr-steps .ensures .1)) (c .walked-step .ensures),
+    )
 
--- src/lib.rt:144:1
+-- src/lib.rt:217:1
+normalize-attr-step-same-length-5 : (t : ℕ) → normalize-attr-step-lts.Need-same-length-5 (
+  stopped-reads.Asked,
+  stopped-reads.Learnt,
+  blank-at-reads.Asked,
+  blank-at-reads.Learnt,
+  byte-step-reads.Asked,
+  byte-step-reads.Learnt,
+  name-end-reads.Asked,
+  name-end-reads.Learnt,
+  number-step-reads.Asked,
+  number-step-reads.Learnt,
+  bound-to-reads.Asked,
+  bound-to-reads.Learnt,
+  is-plain-reads.Asked,
+  is-plain-reads.Learnt,
+  put-over-reads.Asked,
+  put-over-reads.Learnt,
+  normalize-attr-steps-below t,
+  normalize-attr-steps.Post,
+  walked-step-reads.Asked,
+  walked-step-reads.Learnt,
+) (normalize-attr-step-at t) normalize-attr-step.Post
+normalize-attr-step-same-length-5 t c = stepped-length (c .before .before .byte-step2 .ensures)
+
+-- src/lib.rt:217:1
 normalize-attr-step-returns-8 : (t : ℕ) → normalize-attr-step-lts.Need-returns-8 (
   stopped-reads.Asked,
   stopped-reads.Learnt,
@@ -1073,12 +1566,43 @@ normalize-attr-step-returns-8 : (t : ℕ) → normalize-attr-step-lts.Need-retur
   number-step-reads.Learnt,
   bound-to-reads.Asked,
   bound-to-reads.Learnt,
+  is-plain-reads.Asked,
+  is-plain-reads.Learnt,
+  put-over-reads.Asked,
+  put-over-reads.Learnt,
   normalize-attr-steps-below t,
   normalize-attr-steps.Post,
   walked-step-reads.Asked,
   walked-step-reads.Learnt,
 ) (normalize-attr-step-at t) normalize-attr-step.Post
-normalize-attr-step-returns-8 t c = (step-unknown (c .before .before .before .before .before .before .before .before .before .before .before .before .before .before .before .before .args .newer) (c .before .before .before .before .before .before .before .before .before .before .before .before .before .before .before .before .args .list .now) (c .before .before .before .before .before .before .before .before .before .before .before .before .before .before .before .before .args .pool .now) (c .before .before .before .before .before .before .before .before .before .before .before .before .before .before .before .before .args .limit) (c .before .before .before .before .before .before .before .before .before .before .before .before .before .before .before .before .args .depth) (c .before .before .before .before .before .before .before .before .before .before .before .before .before .before .before .before .args .text .now) (c .before .before .before .before .before .before .before .before .before .before .before .before .before .before .before .before .args .at) (c .before .before .before .before .before .before .before .before .before .before .before .before .before .before .before .before .args .openings) (c .before .before .before .before .before .before .before .before .before .before .before .if1 .left) (c .before .before .before .before .before .before .before .before .name-end .result) (c .before .before .before .before .before .before .before .before .before .if2 .left) (c .before .before .before .before .before .before .before .before .name-end .ensures) (omega (arith, c .before .before .before .before .before .before .before .before .name-end .ensures .to, c .before .before .before .before .before .before .before .if3 .left)) (c .before .before .before .before .before .if4 .left) (c .before .before .before .bound-to .result) (c .before .before .before .bound-to .ensures .0) (c .before .enum-told .given .1) (c .stopped4 .ensures), rw (c .stopped4 .ensures) tt)
+normalize-attr-step-returns-8 t c =
+    let inside : c .before .before .before .before .before .before .before .before .before .before .before .before .name-end .result < length (c .before .before .before .before .before .before .before .before .before .before .before .before .before .before .before .before .before .before .before .before .args .text .now) = (omega (arith, c .before .before .before .before .before .before .before .before .before .before .before .before .name-end .ensures .to, c .before .before .before .before .before .before .before .before .before .before .before .if3 .left)) in
+    (step-predefined (c .before .before .before .before .before .before .before .before .before .before .before .before .before .before .before .before .before .before .before .before .args .newer) (c .before .before .before .before .before .before .before .before .before .before .before .before .before .before .before .before .before .before .before .before .args .list .now) (c .before .before .before .before .before .before .before .before .before .before .before .before .before .before .before .before .before .before .before .before .args .pool .now) (c .before .before .before .before .before .before .before .before .before .before .before .before .before .before .before .before .before .before .before .before .args .limit) (c .before .before .before .before .before .before .before .before .before .before .before .before .before .before .before .before .before .before .before .before .args .depth) (c .before .before .before .before .before .before .before .before .before .before .before .before .before .before .before .before .before .before .before .before .args .text .now) (c .before .before .before .before .before .before .before .before .before .before .before .before .before .before .before .before .before .before .before .before .args .at) (c .before .before .before .before .before .before .before .before .before .before .before .before .before .before .before .before .before .before .before .before .args .openings) (c .before .before .before .before .before .before .before .before .before .before .before .before .before .before .before .if1 .left) (c .before .before .before .before .before .before .before .before .before .before .before .before .name-end .result) (c .before .before .before .before .before .before .before .before .before .before .before .before .before .if2 .left) (c .before .before .before .before .before .before .before .before .before .before .before .before .name-end .ensures) inside (c .before .before .before .before .before .before .before .before .before .if4 .left) (c .before .before .before .before .before .before .before .bound-to .result) (c .before .before .before .before .before .before .before .bound-to .ensures .0) (c .before .before .before .before .before .b .given .0 .0) (c .before .before .before .before .before .b .given .1) (c .before .before .byte-step2 .ensures), rw (c .before .before .byte-step2 .ensures .answers) (omega (arith, c .before .before .before .before .before .before .before .before .before .before .before .before .name-end .ensures .from), omega (arith, inside), omega arith, c .before .before .before .before .before .before .before .before .before .before .before .before .before .before .before .before .before .before .before .before .pre .1 .1 .1 .1 .0, omega (arith, c .before .before .before .before .before .before .before .before .before .before .before .before .name-end .ensures .from)))
+
+-- src/lib.rt:217:1
+normalize-attr-step-returns-9 : (t : ℕ) → normalize-attr-step-lts.Need-returns-9 (
+  stopped-reads.Asked,
+  stopped-reads.Learnt,
+  blank-at-reads.Asked,
+  blank-at-reads.Learnt,
+  byte-step-reads.Asked,
+  byte-step-reads.Learnt,
+  name-end-reads.Asked,
+  name-end-reads.Learnt,
+  number-step-reads.Asked,
+  number-step-reads.Learnt,
+  bound-to-reads.Asked,
+  bound-to-reads.Learnt,
+  is-plain-reads.Asked,
+  is-plain-reads.Learnt,
+  put-over-reads.Asked,
+  put-over-reads.Learnt,
+  normalize-attr-steps-below t,
+  normalize-attr-steps.Post,
+  walked-step-reads.Asked,
+  walked-step-reads.Learnt,
+) (normalize-attr-step-at t) normalize-attr-step.Post
+normalize-attr-step-returns-9 t c = (step-unknown (c .before .before .before .before .before .before .before .before .before .before .before .before .before .before .before .before .args .newer) (c .before .before .before .before .before .before .before .before .before .before .before .before .before .before .before .before .args .list .now) (c .before .before .before .before .before .before .before .before .before .before .before .before .before .before .before .before .args .pool .now) (c .before .before .before .before .before .before .before .before .before .before .before .before .before .before .before .before .args .limit) (c .before .before .before .before .before .before .before .before .before .before .before .before .before .before .before .before .args .depth) (c .before .before .before .before .before .before .before .before .before .before .before .before .before .before .before .before .args .text .now) (c .before .before .before .before .before .before .before .before .before .before .before .before .before .before .before .before .args .at) (c .before .before .before .before .before .before .before .before .before .before .before .before .before .before .before .before .args .openings) (c .before .before .before .before .before .before .before .before .before .before .before .if1 .left) (c .before .before .before .before .before .before .before .before .name-end .result) (c .before .before .before .before .before .before .before .before .before .if2 .left) (c .before .before .before .before .before .before .before .before .name-end .ensures) (omega (arith, c .before .before .before .before .before .before .before .before .name-end .ensures .to, c .before .before .before .before .before .before .before .if3 .left)) (c .before .before .before .before .before .if4 .left) (c .before .before .before .bound-to .result) (c .before .before .before .bound-to .ensures .0) (c .before .enum-told .given .1) (c .stopped4 .ensures), rw (c .stopped4 .ensures) tt)
 
 abbrev normalize-attr-steps-Inv-loop : normalize-attr-steps-lts.InvT-loop
 normalize-attr-steps-Inv-loop text newer depth openings limit list pool out₀ at₀ len₀ made₀ out at len made = Progress (attributeHead (ruleFor newer)) (stopAnswer (readingOf (ruleFor newer) list pool limit) depth) text openings out₀ out at len made × (openings ≤ made) × (made ≤ limit) × (len + 262140 * openings ≤ 4 * at + 262140 * made)
@@ -1086,7 +1610,7 @@ normalize-attr-steps-Inv-loop text newer depth openings limit list pool out₀ a
 abbrev normalize-attr-steps-μ-loop : normalize-attr-steps-lts.MeasureT-loop
 normalize-attr-steps-μ-loop text newer depth openings limit list pool out₀ at₀ len₀ made₀ out at len made = length text - at
 
--- src/lib.rt:219:5
+-- src/lib.rt:300:5
 normalize-attr-steps-loop-holds : (t : ℕ) → normalize-attr-steps-lts.Need-loop-holds (
   run-end-reads.Asked,
   run-end-reads.Learnt,
@@ -1103,7 +1627,7 @@ normalize-attr-steps-loop-holds : (t : ℕ) → normalize-attr-steps-lts.Need-lo
     normalize-attr-steps-μ-loop
 normalize-attr-steps-loop-holds t c = (progress-start (attributeHead (ruleFor (c .before .before .before .before .args .newer))) (stopAnswer (readingOf (ruleFor (c .before .before .before .before .args .newer)) (c .before .before .before .before .args .list .now) (c .before .before .before .before .args .pool .now) (c .before .before .before .before .args .limit)) (c .before .before .before .before .args .depth)) (c .before .before .before .before .args .text .now) (c .before .before .before .before .args .openings) (c .before .before .before .before .args .out .now), omega arith, c .before .before .before .before .pre .1 .1 .1 .0, omega arith)
 
--- src/lib.rt:220:13
+-- src/lib.rt:301:13
 normalize-attr-steps-run-end-requires : (t : ℕ) → normalize-attr-steps-lts.Need-run-end-requires (
   run-end-reads.Asked,
   run-end-reads.Learnt,
@@ -1120,7 +1644,7 @@ normalize-attr-steps-run-end-requires : (t : ℕ) → normalize-attr-steps-lts.N
     normalize-attr-steps-μ-loop
 normalize-attr-steps-run-end-requires t c κs = c .loop .inv .0 .inside
 
--- src/lib.rt:221:13
+-- src/lib.rt:302:13
 normalize-attr-steps-least-requires : (t : ℕ) → normalize-attr-steps-lts.Need-least-requires (
   run-end-reads.Asked,
   run-end-reads.Learnt,
@@ -1137,7 +1661,7 @@ normalize-attr-steps-least-requires : (t : ℕ) → normalize-attr-steps-lts.Nee
     normalize-attr-steps-μ-loop
 normalize-attr-steps-least-requires t c κs = tt
 
--- src/lib.rt:222:26
+-- src/lib.rt:303:26
 normalize-attr-steps-sub-put-over : (t : ℕ) → normalize-attr-steps-lts.Need-sub-put-over (
   run-end-reads.Asked,
   run-end-reads.Learnt,
@@ -1154,7 +1678,7 @@ normalize-attr-steps-sub-put-over : (t : ℕ) → normalize-attr-steps-lts.Need-
     normalize-attr-steps-μ-loop
 normalize-attr-steps-sub-put-over t c = c .before .run-end .ensures .run .from
 
--- src/lib.rt:222:26
+-- src/lib.rt:303:26
 normalize-attr-steps-part-put-over-start :
     (t : ℕ) → normalize-attr-steps-lts.Need-part-put-over-start (
       run-end-reads.Asked,
@@ -1172,7 +1696,7 @@ normalize-attr-steps-part-put-over-start :
     normalize-attr-steps-μ-loop
 normalize-attr-steps-part-put-over-start t c = c .before .run-end .ensures .run .from
 
--- src/lib.rt:222:26
+-- src/lib.rt:303:26
 normalize-attr-steps-part-put-over-end : (t : ℕ) → normalize-attr-steps-lts.Need-part-put-over-end (
   run-end-reads.Asked,
   run-end-reads.Learnt,
@@ -1189,7 +1713,7 @@ normalize-attr-steps-part-put-over-end : (t : ℕ) → normalize-attr-steps-lts.
     normalize-attr-steps-μ-loop
 normalize-attr-steps-part-put-over-end t c = c .before .run-end .ensures .run .to
 
--- src/lib.rt:222:42
+-- src/lib.rt:303:42
 normalize-attr-steps-sub-put-over-2 : (t : ℕ) → normalize-attr-steps-lts.Need-sub-put-over-2 (
   run-end-reads.Asked,
   run-end-reads.Learnt,
@@ -1206,7 +1730,7 @@ normalize-attr-steps-sub-put-over-2 : (t : ℕ) → normalize-attr-steps-lts.Nee
     normalize-attr-steps-μ-loop
 normalize-attr-steps-sub-put-over-2 t c = omega (arith, c .before .least .ensures)
 
--- src/lib.rt:222:42
+-- src/lib.rt:303:42
 normalize-attr-steps-part-put-over-start-2 :
     (t : ℕ) → normalize-attr-steps-lts.Need-part-put-over-start-2 (
       run-end-reads.Asked,
@@ -1224,7 +1748,7 @@ normalize-attr-steps-part-put-over-start-2 :
     normalize-attr-steps-μ-loop
 normalize-attr-steps-part-put-over-start-2 t c = omega (arith, c .before .least .ensures)
 
--- src/lib.rt:222:42
+-- src/lib.rt:303:42
 normalize-attr-steps-part-put-over-end-2 :
     (t : ℕ) → normalize-attr-steps-lts.Need-part-put-over-end-2 (
       run-end-reads.Asked,
@@ -1242,7 +1766,7 @@ normalize-attr-steps-part-put-over-end-2 :
     normalize-attr-steps-μ-loop
 normalize-attr-steps-part-put-over-end-2 t c = search needs
 
--- src/lib.rt:222:9
+-- src/lib.rt:303:9
 normalize-attr-steps-put-over-requires : (t : ℕ) → normalize-attr-steps-lts.Need-put-over-requires (
   run-end-reads.Asked,
   run-end-reads.Learnt,
@@ -1259,7 +1783,7 @@ normalize-attr-steps-put-over-requires : (t : ℕ) → normalize-attr-steps-lts.
     normalize-attr-steps-μ-loop
 normalize-attr-steps-put-over-requires t c κs = tt
 
--- src/lib.rt:223:16
+-- src/lib.rt:304:16
 normalize-attr-steps-sub-len : (t : ℕ) → normalize-attr-steps-lts.Need-sub-len (
   run-end-reads.Asked,
   run-end-reads.Learnt,
@@ -1276,7 +1800,7 @@ normalize-attr-steps-sub-len : (t : ℕ) → normalize-attr-steps-lts.Need-sub-l
     normalize-attr-steps-μ-loop
 normalize-attr-steps-sub-len t c = c .before .before .before .before .before .before .run-end .ensures .run .from
 
--- src/lib.rt:223:9
+-- src/lib.rt:304:9
 normalize-attr-steps-add-len : (t : ℕ) → normalize-attr-steps-lts.Need-add-len (
   run-end-reads.Asked,
   run-end-reads.Learnt,
@@ -1293,7 +1817,7 @@ normalize-attr-steps-add-len : (t : ℕ) → normalize-attr-steps-lts.Need-add-l
     normalize-attr-steps-μ-loop
 normalize-attr-steps-add-len t c = omega (arith, c .before .before .before .before .before .before .before .loop .inv .1, c .before .before .before .before .before .before .before .loop .inv .2, c .before .before .before .before .before .before .before .loop .inv .3, c .before .before .before .before .before .before .before .before .before .before .before .before .pre .1 .1 .0, c .before .before .before .before .before .before .before .before .before .before .before .before .pre .1 .1 .1, c .before .before .before .before .before .before .run-end .ensures .run .from, c .before .before .before .before .before .before .run-end .ensures .run .to)
 
--- src/lib.rt:225:13
+-- src/lib.rt:306:13
 normalize-attr-steps-same-length : (t : ℕ) → normalize-attr-steps-lts.Need-same-length (
   run-end-reads.Asked,
   run-end-reads.Learnt,
@@ -1310,7 +1834,7 @@ normalize-attr-steps-same-length : (t : ℕ) → normalize-attr-steps-lts.Need-s
     normalize-attr-steps-μ-loop
 normalize-attr-steps-same-length t c = progress-length (attributeHead (ruleFor (c .before .before .before .before .before .before .before .before .before .before .before .before .before .args .newer))) (stopAnswer (readingOf (ruleFor (c .before .before .before .before .before .before .before .before .before .before .before .before .before .args .newer)) (c .before .before .before .before .before .before .before .before .before .before .before .before .before .args .list .now) (c .before .before .before .before .before .before .before .before .before .before .before .before .before .args .pool .now) (c .before .before .before .before .before .before .before .before .before .before .before .before .before .args .limit)) (c .before .before .before .before .before .before .before .before .before .before .before .before .before .args .depth)) (c .before .before .before .before .before .before .before .before .before .before .before .before .before .args .text .now) (c .before .before .before .before .before .before .before .before .before .before .before .before .before .args .openings) (c .before .before .before .before .before .before .before .before .before .before .before .before .before .args .out .now) (progress-run (attributeHead (ruleFor (c .before .before .before .before .before .before .before .before .before .before .before .before .before .args .newer))) (stopAnswer (readingOf (ruleFor (c .before .before .before .before .before .before .before .before .before .before .before .before .before .args .newer)) (c .before .before .before .before .before .before .before .before .before .before .before .before .before .args .list .now) (c .before .before .before .before .before .before .before .before .before .before .before .before .before .args .pool .now) (c .before .before .before .before .before .before .before .before .before .before .before .before .before .args .limit)) (c .before .before .before .before .before .before .before .before .before .before .before .before .before .args .depth)) (c .before .before .before .before .before .before .before .before .before .before .before .before .before .args .text .now) (c .before .before .before .before .before .before .before .before .before .before .before .before .before .args .openings) (c .before .before .before .before .before .before .before .before .before .before .before .before .before .args .out .now) (c .before .before .before .before .before .before .before .before .loop .inv .0) (c .before .before .before .before .before .before .least .ensures) (stopByte (c .before .before .before .before .before .before .before .before .before .before .before .before .before .args .newer)) (copies (c .before .before .before .before .before .before .before .before .before .before .before .before .before .args .newer)) (c .before .before .before .before .before .before .before .run-end .ensures .run) (c .before .before .before .put-over .ensures))
 
--- src/lib.rt:225:13
+-- src/lib.rt:306:13
 normalize-attr-steps-returns : (t : ℕ) → normalize-attr-steps-lts.Need-returns (
   run-end-reads.Asked,
   run-end-reads.Learnt,
@@ -1330,7 +1854,7 @@ normalize-attr-steps-returns t c = (
   (c .before .before .before .before .before .before .before .before .loop .inv .1, c .before .before .before .before .before .before .before .before .loop .inv .2, omega (arith, c .before .before .before .before .before .before .before .before .loop .inv .3, c .before .before .before .before .before .before .before .run-end .ensures .run .from, c .if1 .taken)),
 )
 
--- src/lib.rt:230:13
+-- src/lib.rt:311:13
 normalize-attr-steps-least-requires-2 : (t : ℕ) → normalize-attr-steps-lts.Need-least-requires-2 (
   run-end-reads.Asked,
   run-end-reads.Learnt,
@@ -1347,7 +1871,7 @@ normalize-attr-steps-least-requires-2 : (t : ℕ) → normalize-attr-steps-lts.N
     normalize-attr-steps-μ-loop
 normalize-attr-steps-least-requires-2 t c κs = tt
 
--- src/lib.rt:240:13
+-- src/lib.rt:321:13
 normalize-attr-steps-sub-normalize-attr-step :
     (t : ℕ) → normalize-attr-steps-lts.Need-sub-normalize-attr-step (
       run-end-reads.Asked,
@@ -1365,7 +1889,7 @@ normalize-attr-steps-sub-normalize-attr-step :
     normalize-attr-steps-μ-loop
 normalize-attr-steps-sub-normalize-attr-step t c = omega (arith, c .least2 .ensures)
 
--- src/lib.rt:240:13
+-- src/lib.rt:321:13
 normalize-attr-steps-part-normalize-attr-step-start :
     (t : ℕ) → normalize-attr-steps-lts.Need-part-normalize-attr-step-start (
       run-end-reads.Asked,
@@ -1383,7 +1907,7 @@ normalize-attr-steps-part-normalize-attr-step-start :
     normalize-attr-steps-μ-loop
 normalize-attr-steps-part-normalize-attr-step-start t c = omega (arith, c .least2 .ensures)
 
--- src/lib.rt:240:13
+-- src/lib.rt:321:13
 normalize-attr-steps-part-normalize-attr-step-end :
     (t : ℕ) → normalize-attr-steps-lts.Need-part-normalize-attr-step-end (
       run-end-reads.Asked,
@@ -1401,7 +1925,7 @@ normalize-attr-steps-part-normalize-attr-step-end :
     normalize-attr-steps-μ-loop
 normalize-attr-steps-part-normalize-attr-step-end t c = search needs
 
--- src/lib.rt:231:15
+-- src/lib.rt:312:15
 normalize-attr-steps-normalize-attr-step-requires :
     (t : ℕ) → normalize-attr-steps-lts.Need-normalize-attr-step-requires (
       run-end-reads.Asked,
@@ -1422,7 +1946,7 @@ normalize-attr-steps-normalize-attr-step-requires t c κs =
     let here : c .before .before .before .before .before .before .before .before .before .run-end .result < length (c .before .before .before .before .before .before .before .before .before .before .before .before .before .before .before .args .text .now) = omega (arith, c .before .before .before .before .before .before .before .before .before .run-end .ensures .run .to, c .before .before .if1 .left) in
     (less, (c .before .before .before .before .before .before .before .before .before .before .before .before .before .before .before .pre .1 .0, ((here, c .before .before .before .before .before .before .before .before .before .before .before .before .before .before .before .pre .1 .1 .0), (c .before .before .before .before .before .before .before .before .before .run-end .ensures .ends here, (c .before .before .before .before .before .before .before .before .before .before .loop .inv .2, c .before .before .before .before .before .before .before .before .before .before .before .before .before .before .before .pre .1 .1 .1 .1)))))
 
--- src/lib.rt:243:21
+-- src/lib.rt:324:21
 normalize-attr-steps-enum-known-next : (t : ℕ) → normalize-attr-steps-lts.Need-enum-known-next (
   run-end-reads.Asked,
   run-end-reads.Learnt,
@@ -1439,7 +1963,7 @@ normalize-attr-steps-enum-known-next : (t : ℕ) → normalize-attr-steps-lts.Ne
     normalize-attr-steps-μ-loop
 normalize-attr-steps-enum-known-next t c = search needs
 
--- src/lib.rt:248:17
+-- src/lib.rt:329:17
 normalize-attr-steps-add-len-2 : (t : ℕ) → normalize-attr-steps-lts.Need-add-len-2 (
   run-end-reads.Asked,
   run-end-reads.Learnt,
@@ -1458,7 +1982,7 @@ normalize-attr-steps-add-len-2 t c =
     let k = subst (CountedStep (length (c .before .before .before .before .before .before .before .before .before .before .before .before .before .before .before .before .before .before .before .before .before .args .text .now)) (c .before .before .before .before .before .before .before .before .before .before .before .before .before .before .before .run-end .result) (c .before .before .before .before .before .before .before .before .before .before .before .before .before .before .before .before .loop .made) (c .before .before .before .before .before .before .before .before .before .before .before .before .before .before .before .before .before .before .before .before .before .args .limit)) (c .before .next .given .1) (c .before .before .before .before .before .normalize-attr-step .ensures .1) in
     omega (arith, c .before .before .before .before .before .before .before .before .before .before .before .before .before .before .before .before .loop .inv .1, c .before .before .before .before .before .before .before .before .before .before .before .before .before .before .before .before .loop .inv .2, c .before .before .before .before .before .before .before .before .before .before .before .before .before .before .before .before .loop .inv .3, k .1, k .2, k .3, k .4, c .before .before .before .before .before .before .before .before .before .before .before .before .before .before .before .before .before .before .before .before .before .pre .1 .1 .0, c .before .before .before .before .before .before .before .before .before .before .before .before .before .before .before .before .before .before .before .before .before .pre .1 .1 .1, c .before .before .before .before .before .before .before .before .before .before .before .before .before .before .before .run-end .ensures .run .from)
 
--- src/lib.rt:219:5
+-- src/lib.rt:300:5
 normalize-attr-steps-loop-less : (t : ℕ) → normalize-attr-steps-lts.Need-loop-less (
   run-end-reads.Asked,
   run-end-reads.Learnt,
@@ -1477,7 +2001,7 @@ normalize-attr-steps-loop-less t c =
     let k = subst (CountedStep (length (c .before .before .before .before .before .before .before .before .before .before .before .before .before .before .before .before .before .before .before .before .before .args .text .now)) (c .before .before .before .before .before .before .before .before .before .before .before .before .before .before .before .run-end .result) (c .before .before .before .before .before .before .before .before .before .before .before .before .before .before .before .before .loop .made) (c .before .before .before .before .before .before .before .before .before .before .before .before .before .before .before .before .before .before .before .before .before .args .limit)) (c .before .next .given .1) (c .before .before .before .before .before .normalize-attr-step .ensures .1) in
     omega (arith, k .0, k .1, c .before .before .before .before .before .before .before .before .before .before .before .before .before .before .before .run-end .ensures .run .from)
 
--- src/lib.rt:219:5
+-- src/lib.rt:300:5
 normalize-attr-steps-loop-again : (t : ℕ) → normalize-attr-steps-lts.Need-loop-again (
   run-end-reads.Asked,
   run-end-reads.Learnt,
@@ -1500,7 +2024,7 @@ normalize-attr-steps-loop-again t c =
       omega (arith, c .before .before .before .before .before .before .before .before .before .before .before .before .before .before .before .before .loop .inv .3, k .4, c .before .before .before .before .before .before .before .before .before .before .before .before .before .before .before .run-end .ensures .run .from),
     )
 
--- src/lib.rt:252:17
+-- src/lib.rt:333:17
 normalize-attr-steps-enum-known-number : (t : ℕ) → normalize-attr-steps-lts.Need-enum-known-number (
   run-end-reads.Asked,
   run-end-reads.Learnt,
@@ -1517,7 +2041,7 @@ normalize-attr-steps-enum-known-number : (t : ℕ) → normalize-attr-steps-lts.
     normalize-attr-steps-μ-loop
 normalize-attr-steps-enum-known-number t c = search needs
 
--- src/lib.rt:256:17
+-- src/lib.rt:337:17
 normalize-attr-steps-same-length-2 : (t : ℕ) → normalize-attr-steps-lts.Need-same-length-2 (
   run-end-reads.Asked,
   run-end-reads.Learnt,
@@ -1535,7 +2059,7 @@ normalize-attr-steps-same-length-2 : (t : ℕ) → normalize-attr-steps-lts.Need
 normalize-attr-steps-same-length-2 t c =
     walked-length (progress-refused (attributeHead (ruleFor (c .before .before .before .before .before .before .before .before .before .before .before .before .before .before .before .before .before .before .before .before .before .args .newer))) (stopAnswer (readingOf (ruleFor (c .before .before .before .before .before .before .before .before .before .before .before .before .before .before .before .before .before .before .before .before .before .args .newer)) (c .before .before .before .before .before .before .before .before .before .before .before .before .before .before .before .before .before .before .before .before .before .args .list .now) (c .before .before .before .before .before .before .before .before .before .before .before .before .before .before .before .before .before .before .before .before .before .args .pool .now) (c .before .before .before .before .before .before .before .before .before .before .before .before .before .before .before .before .before .before .before .before .before .args .limit)) (c .before .before .before .before .before .before .before .before .before .before .before .before .before .before .before .before .before .before .before .before .before .args .depth)) (c .before .before .before .before .before .before .before .before .before .before .before .before .before .before .before .before .before .before .before .before .before .args .text .now) (c .before .before .before .before .before .before .before .before .before .before .before .before .before .before .before .before .before .before .before .before .before .args .openings) (c .before .before .before .before .before .before .before .before .before .before .before .before .before .before .before .before .before .before .before .before .before .args .out .now) (progress-run (attributeHead (ruleFor (c .before .before .before .before .before .before .before .before .before .before .before .before .before .before .before .before .before .before .before .before .before .args .newer))) (stopAnswer (readingOf (ruleFor (c .before .before .before .before .before .before .before .before .before .before .before .before .before .before .before .before .before .before .before .before .before .args .newer)) (c .before .before .before .before .before .before .before .before .before .before .before .before .before .before .before .before .before .before .before .before .before .args .list .now) (c .before .before .before .before .before .before .before .before .before .before .before .before .before .before .before .before .before .before .before .before .before .args .pool .now) (c .before .before .before .before .before .before .before .before .before .before .before .before .before .before .before .before .before .before .before .before .before .args .limit)) (c .before .before .before .before .before .before .before .before .before .before .before .before .before .before .before .before .before .before .before .before .before .args .depth)) (c .before .before .before .before .before .before .before .before .before .before .before .before .before .before .before .before .before .before .before .before .before .args .text .now) (c .before .before .before .before .before .before .before .before .before .before .before .before .before .before .before .before .before .before .before .before .before .args .openings) (c .before .before .before .before .before .before .before .before .before .before .before .before .before .before .before .before .before .before .before .before .before .args .out .now) (c .before .before .before .before .before .before .before .before .before .before .before .before .before .before .before .before .loop .inv .0) (c .before .before .before .before .before .before .before .before .before .before .before .before .before .before .least .ensures) (stopByte (c .before .before .before .before .before .before .before .before .before .before .before .before .before .before .before .before .before .before .before .before .before .args .newer)) (copies (c .before .before .before .before .before .before .before .before .before .before .before .before .before .before .before .before .before .before .before .before .before .args .newer)) (c .before .before .before .before .before .before .before .before .before .before .before .before .before .before .before .run-end .ensures .run) (c .before .before .before .before .before .before .before .before .before .before .before .put-over .ensures)) (c .before .before .before .before .before .before .before .least2 .ensures) (omega (arith, c .before .before .before .before .before .before .before .before .before .before .before .before .before .before .before .run-end .ensures .run .to, c .before .before .before .before .before .before .before .before .if1 .left)) (stepped-told (c .before .number .given .1) (c .before .before .before .before .before .normalize-attr-step .ensures .0)))
 
--- src/lib.rt:256:17
+-- src/lib.rt:337:17
 normalize-attr-steps-returns-2 : (t : ℕ) → normalize-attr-steps-lts.Need-returns-2 (
   run-end-reads.Asked,
   run-end-reads.Learnt,
@@ -1568,6 +2092,10 @@ pub +normalize-attr-step+normalize-attr-steps-spec : {M : Type 1} → statement 
       number-step-reads.Learnt,
       bound-to-reads.Asked,
       bound-to-reads.Learnt,
+      is-plain-reads.Asked,
+      is-plain-reads.Learnt,
+      put-over-reads.Asked,
+      put-over-reads.Learnt,
       normalize-attr-steps-below t,
       normalize-attr-steps.Post,
       walked-step-reads.Asked,
@@ -1603,6 +2131,19 @@ pub +normalize-attr-step+normalize-attr-steps-spec : {M : Type 1} → statement 
     (normalize-attr-step-enum-known-start t)
     (normalize-attr-step-stopped-requires-3 t)
     (normalize-attr-step-returns-5 t)
+    (normalize-attr-step-sub-is-plain t)
+    (normalize-attr-step-part-is-plain-start t)
+    (normalize-attr-step-part-is-plain-end t)
+    (normalize-attr-step-is-plain-requires t)
+    (normalize-attr-step-sub-put-over t)
+    (normalize-attr-step-part-put-over-start t)
+    (normalize-attr-step-part-put-over-end t)
+    (normalize-attr-step-put-over-requires t)
+    (normalize-attr-step-add-t46 t)
+    (normalize-attr-step-sub-t51 t)
+    (normalize-attr-step-add-t52 t)
+    (normalize-attr-step-same-length-3 t)
+    (normalize-attr-step-returns-6 t)
     (normalize-attr-step-sub-normalize-attr-steps t)
     (normalize-attr-step-part-normalize-attr-steps-start t)
     (normalize-attr-step-part-normalize-attr-steps-end t)
@@ -1616,11 +2157,11 @@ pub +normalize-attr-step+normalize-attr-steps-spec : {M : Type 1} → statement 
     (normalize-attr-step-byte-step-requires-2 t)
     (normalize-attr-step-enum-told t)
     (normalize-attr-step-stopped-requires-4 t)
-    (normalize-attr-step-same-length-3 t)
-    (normalize-attr-step-returns-6 t)
     (normalize-attr-step-same-length-4 t)
     (normalize-attr-step-returns-7 t)
-    (normalize-attr-step-returns-8 t))
+    (normalize-attr-step-same-length-5 t)
+    (normalize-attr-step-returns-8 t)
+    (normalize-attr-step-returns-9 t))
     λ t. normalize-attr-steps-lts.spec (
       run-end-reads.Asked,
       run-end-reads.Learnt,
