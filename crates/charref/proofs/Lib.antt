@@ -2,3 +2,4 @@ pub mod Encoding
 pub mod Numbers
 mod Examples
 pub mod Ascii
+pub mod Reading

@@ -1,1 +1,2 @@
 pub mod CharRef
+pub mod Reading

@@ -1,9 +1,11 @@
 // Character numbers, the text after `#` of a reference, and the UTF-8 of a character.
 ghost use mathlib.Core.Path.{_≡_};
+ghost use mathlib.Core.Logic.{_≢_};
 ghost use Prim.Native.Nat.{ℕ, _≤_};
 ghost use mathlib.Core.List.{_++_};
 ghost use lib.ListN.{length, drop};
 ghost use Rattle.charref.specs.CharRef.{digitValue, numberFrom, small, inBase, judge, charNumber, anyCharacter, numberAnswer, encode};
+ghost use Rattle.charref.specs.Reading.{Written, Quickly};
 use text::Answer;
 
 // What the digits write: a value of 32 bits, or what refuses them, 12 or 13.
@@ -20,6 +22,12 @@ pub enum CharNumber {
     InvalidNumber,
     InvalidCodepoint(u32),
     IllegalCharacter,
+}
+
+// A character, and the `;` after its digits; where c is 0 nothing is said.
+pub struct Quick {
+    pub c: u32,
+    pub end: usize,
 }
 
 // 16 where the byte is no digit of base 10 or 16.
@@ -136,6 +144,48 @@ pub fn parse_number(text: &[u8]) -> CharNumber
         return judge(from_str_radix(&text[1..], 16));
     }
     judge(from_str_radix(text, 10))
+}
+
+// Reads digits up to the `;`. Leaves to `parse_number` whatever is no character below the surrogates.
+fn quick_digits(text: &[u8], from: usize, base: u64) -> Quick
+    requires { ⌜ from ≤ length (now text) ⌝ }
+    requires { ⌜ (1 ≤ base) × (base ≤ 16) ⌝ }
+    ensures { λ r. ⌜ (r .c ≢ 0 → Written base (now (text .entry)) from r) ⌝ }
+{
+    let mut value: u64 = 0;
+    let mut i = from;
+    while i < text.len() {
+        let b = text[i];
+        if b == b';' {
+            return Quick {
+                c: value as u32,
+                end: i,
+            };
+        }
+        let d = digit(b);
+        if base <= d {
+            return Quick { c: 0, end: i };
+        }
+        value = base * value + d;
+        if 0xD7FF < value {
+            return Quick { c: 0, end: i };
+        }
+        i += 1;
+    }
+    Quick { c: 0, end: i }
+}
+
+// The number whose text after `#` starts at `from`.
+pub fn quick_number(text: &[u8], from: usize) -> Quick
+    requires { ⌜ from ≤ length (now text) ⌝ }
+    ensures { λ r. ⌜ Quickly (now (text .entry)) from r ⌝ }
+{
+    if from < text.len() {
+        if text[from] == b'x' {
+            return quick_digits(text, from + 1, 16);
+        }
+    }
+    quick_digits(text, from, 10)
 }
 
 // Document 01's number and values.
