@@ -3,14 +3,15 @@ use mathlib.Core.Path.{_≡_, refl, sym, ap, _∙_}
 use mathlib.Core.Logic.{_≢_}
 use mathlib.Core.Bool.{Bool, true, false, _&&_}
 use mathlib.Core.List.{List, [], _∷_, _++_, append-nil, append-assoc}
-use Prim.Native.Nat.{ℕ, suc, _+_, _-_, _≤_, _<_}
+use Prim.Native.Nat.{ℕ, zero, suc, _+_, _-_, _≤_, _<_}
 use native.Mathlib.Omega.{arith}
 use native.Mathlib.Nat.{le-refl}
 use native.Mathlib.Numerals.{add-one}
-use lib.Dec.{eqb}
+use lib.Dec.{eqb, ltb}
 use lib.ListN.{length, getD, take, drop, length-drop, drop-of-length-le}
 use lib.Seq.{take-suc, drop-cons, getD-drop}
-use borrow.Author.Tests.{eq-eqb, ne-eqb}
+use borrow.Author.Tests.{eq-eqb, ne-eqb, ltb-true, ltb-false}
+use Rattle.charref.specs.Reading.{Closed}
 use Rattle.tokens.specs.Tokens.{Name, ended, endless, longer, nameAt}
 use Rattle.tokens.specs.Walking.{NameEnd}
 
@@ -105,3 +106,41 @@ module _ (inner : Bool) (text : List ℕ) where
                   ∙ joined-byte (take (i - from) (drop from text)) (getD text i 0) (nameAt inner (drop (i + 1) text))
                   ∙ rw (n, t);
             }
+
+-- ---- a name whose `;` is known
+
+no-amp : (inner : Bool) (b : ℕ) → b ≢ 38 → (inner && eqb b 38) ≡ false
+no-amp false b h = refl
+no-amp true b h = ne-eqb b 38 h
+
+module _ (inner : Bool) (text : List ℕ) where
+  pub closed-name : {from e : ℕ} → Closed text from e → NameEnd inner text from e
+  closed-name {from} {e} d =
+      let k : from + (e - from) ≡ e = omega (arith, d .past) in
+      let p : Passed inner text from e = rw k at (go (e - from) (omega (arith, d .past))) in
+      passed-end inner text p (d .inside) (d .semicolon)
+    where
+      go : (n : ℕ) → from + n ≤ e → Passed inner text from (from + n)
+      go zero h =
+          let z : from + 0 ≡ from = omega arith in
+          rw z (passed-start inner text from (omega (arith, d .past, d .inside)))
+      go (suc n) h =
+          let b = d .none (from + n) (omega arith) (omega arith) in
+          let z : from + suc n ≡ from + n + 1 = omega arith in
+          rw z (passed-byte inner text (go n (omega arith)) (omega (arith, d .inside)) (b .0) (no-amp inner (getD text (from + n) 0) (b .1)))
+
+  -- with the `#` in front of the number
+  pub closed-reference : {start e : ℕ} → getD text start 0 ≡ 35 → Closed text (start + 1) e → NameEnd inner text start e
+  closed-reference {start} {e} b d =
+      closed-name (record {
+        past = omega (arith, d .past);
+        inside = d .inside;
+        semicolon = d .semicolon;
+        none = λ k g l. go k (ltb start k) refl g l;
+      })
+    where
+      go : (k : ℕ) (t : Bool) → ltb start k ≡ t → start ≤ k → k < e → (getD text k 0 ≢ 59) × (getD text k 0 ≢ 38)
+      go k true q g l = d .none k (omega (arith, ltb-true start k q)) l
+      go k false q g l =
+          let z : k ≡ start = omega (arith, ltb-false start k q) in
+          rw z ((λ y. absurd (omega (arith, b, y))), λ y. absurd (omega (arith, b, y)))

@@ -14,17 +14,20 @@ use Rattle.charref.specs.declared.CharNumber.{CharNumber}
 use Rattle.charref.specs.declared.CharNumber.the-variants.{Char, UnexpectedSign, InvalidNumber, InvalidCodepoint, IllegalCharacter}
 use Rattle.charref.proofs.Encoding.{encode-at-most}
 use Rattle.charref.proofs.CharNumber.{the-type}
-use Rattle.output.specs.Over.{over}
 use Rattle.tokens.specs.Outcome.{Outcome, done, refused, numbered, numberOutcome}
 use Rattle.tokens.specs.Walking.{Stepped, handedOn}
 use Rattle.tokens.specs.declared.Step.{Step}
-use Rattle.tokens.specs.declared.Step.the-variants.{Next}
+
+pub number-done : (digits : List ℕ) (openings : ℕ) {c : ℕ} → charNumber anyCharacter digits ≡ Char c
+    → numberOutcome anyCharacter digits openings ≡ done (encode c) openings
+unfolding numberOutcome
+number-done digits openings e = rw e
 
 module _ (digits : List ℕ) (next openings : ℕ) where
-  pub number-written : {c len : ℕ} {old new : List ℕ} → charNumber anyCharacter digits ≡ Char c → len ≡ length (encode c) → new ≡ over (encode c) old
-      → Stepped next (numberOutcome anyCharacter digits openings) old new (Next next len openings)
-  unfolding numberOutcome
-  number-written e q w = record { answers = rw (e, q); writes = rw e w }
+  -- the step at a character is that of its reference
+  pub number-written : {c : ℕ} {old new : List ℕ} {r : Step} → charNumber anyCharacter digits ≡ Char c
+      → Stepped next (done (encode c) openings) old new r → Stepped next (numberOutcome anyCharacter digits openings) old new r
+  number-written e s = rw (number-done digits openings e) s
 
   -- every case but the first is a refusal
   handed-on : (n : CharNumber) → OneOf (1 ∷ 2 ∷ 3 ∷ 4 ∷ []) (tagOf the-type n) → (old : List ℕ)

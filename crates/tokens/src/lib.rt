@@ -4,7 +4,7 @@ ghost use Prim.Native.Nat.{_≤_, _<_};
 ghost use lib.ListN.{length};
 ghost use Rattle.output.specs.Over.{over};
 ghost use Rattle.charref.specs.CharRef.{anyCharacter, encode};
-ghost use Rattle.tokens.specs.Outcome.{numberOutcome};
+ghost use Rattle.tokens.specs.Outcome.{done, numberOutcome};
 ghost use Rattle.tokens.specs.Walking.{NameEnd, Stepped, handedOn};
 use charref::CharNumber;
 use text::Answer;
@@ -89,6 +89,19 @@ fn handed(a: Answer) -> Step
     }
 }
 
+// A character whose reference ends before `next`.
+pub fn char_step(c: u32, next: usize, openings: u64, out: &mut [u8]) -> Step
+    requires { ⌜ c ≤ 1114111 ⌝ }
+    ensures { λ r. ⌜ Stepped next (done (encode c) openings) (now (out .entry)) (now (out .exit)) r ⌝ }
+{
+    let written = put_char(c, out);
+    Step::Next {
+        at: next,
+        len: written,
+        openings,
+    }
+}
+
 // A character reference with the text after `#`, at whose end is `next`.
 pub fn number_step(digits: &[u8], next: usize, openings: u64, out: &mut [u8]) -> Step
     ensures { λ r. ⌜ Stepped next (numberOutcome anyCharacter (now (digits .entry)) openings) (now (out .entry)) (now (out .exit)) r ⌝ }
@@ -102,10 +115,5 @@ pub fn number_step(digits: &[u8], next: usize, openings: u64, out: &mut [u8]) ->
     let CharNumber::Char(c) = n else {
         return handed(charref::answer_of(n));
     };
-    let written = put_char(c, out);
-    Step::Next {
-        at: next,
-        len: written,
-        openings,
-    }
+    char_step(c, next, openings, out)
 }
