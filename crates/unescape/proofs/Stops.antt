@@ -9,7 +9,9 @@ use native.Mathlib.Numerals.{add-one}
 use lib.ListN.{length, getD, take, drop, set, length-drop}
 use lib.Seq.{length-take-le}
 use borrow.Author.Tests.{eq-eqb}
-use Rattle.charref.specs.CharRef.{anyCharacter}
+use Rattle.charref.specs.CharRef.{anyCharacter, encode}
+use Rattle.charref.specs.Reading.{Found}
+use Rattle.charref.specs.declared.Quick.{Quick}
 use Rattle.entity.specs.Binding.{Bound, boundTo, Lies}
 use Rattle.entity.specs.declared.Binding.the-variants.{Text, Predefined, Unknown}
 use Rattle.output.specs.Over.{over}
@@ -20,7 +22,8 @@ use Rattle.tokens.specs.Walking.{Copies, NameEnd, headAt, Stepped}
 use Rattle.tokens.specs.declared.Step.{Step}
 use Rattle.tokens.specs.declared.Step.the-variants.{Next, Stopped}
 use Rattle.tokens.proofs.Progress.{stepped-at}
-use Rattle.tokens.proofs.Numbers.{Small, number-small}
+use Rattle.tokens.proofs.Numbers.{Small, number-small, number-written}
+use Rattle.tokens.proofs.Names.{closed-reference}
 use Rattle.tokens.proofs.References.{reference, reference-none, reference-number, reference-named}
 use Rattle.unescape.specs.Unescape.{textHead, copied, replaced}
 use Rattle.unescape.specs.Steps.{isAmp, Short, Near, Named, Referred}
@@ -109,3 +112,10 @@ module _ (bind : List ℕ → Bound) (text : List ℕ) (i e : ℕ) (amp : getD t
           near-of text (copied i (take (e - (i + 1)) (drop (i + 1) text)) (bind (take (e - (i + 1)) (drop (i + 1) text))) 0) (s .step) (s .short)
           (omega (arith, n .from)) (omega arith);
     }
+
+-- a character that is found at once
+pub referred-char : (bind : List ℕ → Bound) (text : List ℕ) (i : ℕ) (q : Quick) {old new : List ℕ} {r : Step} → getD text i 0 ≡ 38 → getD text (i + 1) 0 ≡ 35
+    → Found text (i + 1 + 1) q → Stepped (q .end + 1) (done (encode (q .c)) 0) old new r → Referred bind text i old new r
+referred-char bind text i q amp b f s =
+    referred-number bind text i (q .end) amp (closed-reference true text b (f .closed)) (f .closed .inside) b
+    (number-written (take (q .end - (i + 1 + 1)) (drop (i + 1 + 1) text)) (q .end + 1) 0 (f .character) s)

@@ -112,6 +112,16 @@ fn unescape_step(text: &[u8], i: usize, list: &[u8], pool: &[u8], out: &mut [u8]
     ensures { λ r. ⌜ Referred (binding (now (list .entry)) (now (pool .entry))) (now (text .entry)) i (now (out .entry)) (now (out .exit)) r ⌝ }
 {
     let start = i + 1;
+    // Digits end at the `;` by themselves, so that most numbers need no search for it.
+    if start < text.len() {
+        if text[start] == b'#' {
+            let quick = charref::quick_number(text, start + 1);
+            let c = quick.c;
+            if c != 0 {
+                return tokens::char_step(c, quick.end + 1, 0, out);
+            }
+        }
+    }
     let end = tokens::name_end(text, start, true);
     if end == text.len() {
         return Step::Stopped {
