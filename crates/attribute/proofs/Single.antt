@@ -15,7 +15,9 @@ use Rattle.text.specs.Version.{Rule}
 use Rattle.text.specs.declared.Answer.{Answer}
 use Rattle.text.specs.declared.Answer.the-variants.{Done, Refused}
 use Rattle.text.proofs.Bytes.{pick-by}
-use Rattle.charref.specs.CharRef.{anyCharacter}
+use Rattle.charref.specs.CharRef.{anyCharacter, encode}
+use Rattle.charref.specs.Reading.{Found}
+use Rattle.charref.specs.declared.Quick.{Quick}
 use Rattle.eols.specs.Stops.{ruleFor}
 use Rattle.eols.specs.declared.Step.{Step as Blanked}
 use Rattle.entity.specs.Table.{Body, inside, Declaration, nameOf, part, declarations}
@@ -31,7 +33,8 @@ use Rattle.tokens.specs.Outcome.{Outcome, done, refused, prepend, run, produced
 use Rattle.tokens.specs.Walking.{NameEnd, headAt, nextAt, outcomeOf, stepOf, Stepped, Walked}
 use Rattle.tokens.specs.declared.Step.{Step}
 use Rattle.tokens.specs.declared.Step.the-variants.{Next, Stopped}
-use Rattle.tokens.proofs.Numbers.{Small, number-small}
+use Rattle.tokens.proofs.Names.{closed-reference}
+use Rattle.tokens.proofs.Numbers.{Small, number-small, number-written}
 use Rattle.tokens.proofs.Progress.{run-over, run-plain}
 use Rattle.tokens.proofs.References.{reference-none, reference-number, reference-named, name-size, digits-from}
 use Rattle.attribute.specs.Heads.{attributeHead}
@@ -341,3 +344,13 @@ module _ (newer : Bool) (list pool : List ℕ) (limit depth : ℕ) (t : List ℕ
               (at-predefined newer setting any depth deep t at n end amp e h b (binding list pool called) bound-is pool c (sym (ap (boundTo pool) k) ∙ same)
               (λ m q. walk-predefined setting newer list pool called (depth - 1) c n m q))
               s
+
+    -- a character that is found at once
+    pub step-char : (q : Quick) → getD t at 0 ≡ 38 → getD t (at + 1) 0 ≡ 35 → Found t (at + 1 + 1) q → n ≤ limit → {old new : List ℕ} {r : Step}
+        → Stepped (q .end + 1) (done (encode (q .c)) n) old new r → Steps old new r × CountedStep (length t) at n limit r
+    step-char q amp b f l {old} {new} {r} s =
+        let digits = take (q .end - (at + 1 + 1)) (drop (at + 1 + 1) t) in
+        let p : Stepped (q .end + 1) (numberOutcome anyCharacter digits n) old new r = number-written digits (q .end + 1) n (f .character) s in (
+          step-number (q .end) amp (closed-reference false t b (f .closed)) (f .closed .inside) b p,
+          counted-number (length t) at n limit (q .end) digits old new r (omega (arith, f .closed .past)) (f .closed .inside) l p,
+        )

@@ -243,6 +243,16 @@ fn normalize_attr_step(
         return byte_step(blank.byte, at + blank.width, openings, out);
     }
     let from = at + 1;
+    // Digits end at the `;` by themselves, so that most numbers need no search for it.
+    if from < text.len() {
+        if text[from] == b'#' {
+            let quick = charref::quick_number(text, from + 1);
+            let c = quick.c;
+            if c != 0 {
+                return tokens::char_step(c, quick.end + 1, openings, out);
+            }
+        }
+    }
     let end = tokens::name_end(text, from, false);
     if end == text.len() {
         return stopped(10, at, end);

@@ -1,25 +1,19 @@
+use Rattle.attribute.proofs.Single.{walk-run, counted-number, counted-walked, step-zero, step-blank, step-none, step-number, step-char, step-limit, step-text, step-unknown, step-predefined, stepped-told, walked-as, stepped-length, step-plain}
 use mathlib.Core.Bool.{false}
-use mathlib.Core.List.{List, [], _∷_}
-use Rattle.output.specs.Over.{over}
-use Rattle.tokens.specs.Walking.{Walked}
 use Rattle.output.proofs.Clip.{length-over}
 use lib.Seq.{length-take-le}
 use Rattle.tokens.proofs.References.{digits-from}
-use mathlib.Core.Path.{_≡_, refl, sym, ap, _∙_, subst}
+use mathlib.Core.Path.{_≡_, ap, _∙_, subst}
 use native.Mathlib.Omega.{arith}
-use lib.ListN.{length, getD, take, drop, length-take, length-drop}
+use lib.ListN.{length, take, drop, length-take, length-drop}
 use borrow.Author.Needs.{needs}
-use Rattle.text.specs.Version.{Rule}
 use Rattle.eols.specs.Stops.{ruleFor}
-use Rattle.entity.specs.Binding.{binding, Lies}
-use Rattle.tokens.specs.Tokens.{tokens}
-use Rattle.tokens.specs.Outcome.{done, Outcome}
+use Rattle.entity.specs.Binding.{Lies}
 use Rattle.attribute.specs.Heads.{attributeHead}
-use Rattle.attribute.specs.Walk.{Settings, walk, reading, readingOf}
-use Rattle.attribute.specs.Steps.{stopByte, stopAnswer, outcomeAt, Counted, CountedStep}
+use Rattle.attribute.specs.Walk.{readingOf}
+use Rattle.attribute.specs.Steps.{stopByte, stopAnswer, Counted, CountedStep}
 use Rattle.tokens.proofs.Progress.{Progress, progress-start, progress-length, progress-end, progress-run, progress-step, progress-refused, walked-length}
 use Rattle.attribute.proofs.Stops.{copies}
-use Rattle.attribute.proofs.Single.{stepped-as, stepped-refused, stepped-walked, walk-run, stop-deeper, at-zero, at-none, next-offset, at-number, at-limit, at-text, at-unknown, at-predefined, walk-predefined, counted-number, counted-walked, step-zero, step-blank, step-none, step-number, step-limit, step-text, step-unknown, step-predefined, stepped-told, walked-as, stepped-length, step-plain}
 use Prim.Native.Nat.{ℕ, _<_, _+_, _-_, _*_, _≤_}
 use borrow.Fn.Kinds.{In}
 use borrow.Fn.PlainCycle.{Measures, is, falls, and}
@@ -36,8 +30,10 @@ use Rattle.attribute.proofs.is_plain.Reads as is-plain-reads
 use Rattle.attribute.proofs.run_end.Reads as run-end-reads
 use Rattle.attribute.proofs.stopped.Reads as stopped-reads
 use Rattle.attribute.proofs.walked_step.Reads as walked-step-reads
+use Rattle.charref.proofs.quick_number.Reads as quick-number-reads
 use Rattle.output.proofs.least.Reads as least-reads
 use Rattle.output.proofs.put_over.Reads as put-over-reads
+use Rattle.tokens.proofs.char_step.Reads as char-step-reads
 use Rattle.tokens.proofs.name_end.Reads as name-end-reads
 use Rattle.tokens.proofs.number_step.Reads as number-step-reads
 use Rattle.attribute.proofs.+normalize_attr_step+normalize_attr_steps.{statement}
@@ -81,7 +77,6 @@ normalize-attr-steps-below t =
     (falls 4 normalize-attr-steps-kinds.ps _<_ μ-normalize-attr-steps t)
     normalize-attr-steps.Pre
 
--- src/lib.rt:236:9
 normalize-attr-step-stopped-requires : (t : ℕ) → normalize-attr-step-lts.Need-stopped-requires (
   stopped-reads.Asked,
   stopped-reads.Learnt,
@@ -89,6 +84,10 @@ normalize-attr-step-stopped-requires : (t : ℕ) → normalize-attr-step-lts.Nee
   blank-at-reads.Learnt,
   byte-step-reads.Asked,
   byte-step-reads.Learnt,
+  quick-number-reads.Asked,
+  quick-number-reads.Learnt,
+  char-step-reads.Asked,
+  char-step-reads.Learnt,
   name-end-reads.Asked,
   name-end-reads.Learnt,
   number-step-reads.Asked,
@@ -106,7 +105,6 @@ normalize-attr-step-stopped-requires : (t : ℕ) → normalize-attr-step-lts.Nee
 ) (normalize-attr-step-at t) normalize-attr-step.Post
 normalize-attr-step-stopped-requires t c κs = tt
 
--- src/lib.rt:236:9
 normalize-attr-step-returns : (t : ℕ) → normalize-attr-step-lts.Need-returns (
   stopped-reads.Asked,
   stopped-reads.Learnt,
@@ -114,6 +112,10 @@ normalize-attr-step-returns : (t : ℕ) → normalize-attr-step-lts.Need-returns
   blank-at-reads.Learnt,
   byte-step-reads.Asked,
   byte-step-reads.Learnt,
+  quick-number-reads.Asked,
+  quick-number-reads.Learnt,
+  char-step-reads.Asked,
+  char-step-reads.Learnt,
   name-end-reads.Asked,
   name-end-reads.Learnt,
   number-step-reads.Asked,
@@ -131,7 +133,6 @@ normalize-attr-step-returns : (t : ℕ) → normalize-attr-step-lts.Need-returns
 ) (normalize-attr-step-at t) normalize-attr-step.Post
 normalize-attr-step-returns t c = (step-zero (c .before .before .before .before .before .before .args .newer) (c .before .before .before .before .before .before .args .list .now) (c .before .before .before .before .before .before .args .pool .now) (c .before .before .before .before .before .before .args .limit) (c .before .before .before .before .before .before .args .depth) (c .before .before .before .before .before .before .args .text .now) (c .before .before .before .before .before .before .args .at) (c .before .before .before .before .before .before .args .openings) (c .before .if1 .taken) (c .before .before .before .before .before .before .pre .1 .1 .1 .0) (c .stopped .ensures), rw (c .stopped .ensures) tt)
 
--- src/lib.rt:238:8
 normalize-attr-step-shared-slice-read-if2 :
     (t : ℕ) → normalize-attr-step-lts.Need-shared-slice-read-if2 (
       stopped-reads.Asked,
@@ -140,6 +141,10 @@ normalize-attr-step-shared-slice-read-if2 :
       blank-at-reads.Learnt,
       byte-step-reads.Asked,
       byte-step-reads.Learnt,
+      quick-number-reads.Asked,
+      quick-number-reads.Learnt,
+      char-step-reads.Asked,
+      char-step-reads.Learnt,
       name-end-reads.Asked,
       name-end-reads.Learnt,
       number-step-reads.Asked,
@@ -157,7 +162,6 @@ normalize-attr-step-shared-slice-read-if2 :
     ) (normalize-attr-step-at t) normalize-attr-step.Post
 normalize-attr-step-shared-slice-read-if2 t c = c .before .before .before .before .before .before .pre .1 .1 .0 .0
 
--- src/lib.rt:239:13
 normalize-attr-step-blank-at-requires : (t : ℕ) → normalize-attr-step-lts.Need-blank-at-requires (
   stopped-reads.Asked,
   stopped-reads.Learnt,
@@ -165,6 +169,10 @@ normalize-attr-step-blank-at-requires : (t : ℕ) → normalize-attr-step-lts.Ne
   blank-at-reads.Learnt,
   byte-step-reads.Asked,
   byte-step-reads.Learnt,
+  quick-number-reads.Asked,
+  quick-number-reads.Learnt,
+  char-step-reads.Asked,
+  char-step-reads.Learnt,
   name-end-reads.Asked,
   name-end-reads.Learnt,
   number-step-reads.Asked,
@@ -182,7 +190,6 @@ normalize-attr-step-blank-at-requires : (t : ℕ) → normalize-attr-step-lts.Ne
 ) (normalize-attr-step-at t) normalize-attr-step.Post
 normalize-attr-step-blank-at-requires t c κs = (c .before .before .before .before .before .before .before .pre .1 .1 .0 .0, (c .before .before .before .before .before .before .before .pre .1 .1 .1 .0, c .if2 .taken))
 
--- src/lib.rt:240:38
 normalize-attr-step-add-byte-step : (t : ℕ) → normalize-attr-step-lts.Need-add-byte-step (
   stopped-reads.Asked,
   stopped-reads.Learnt,
@@ -190,6 +197,10 @@ normalize-attr-step-add-byte-step : (t : ℕ) → normalize-attr-step-lts.Need-a
   blank-at-reads.Learnt,
   byte-step-reads.Asked,
   byte-step-reads.Learnt,
+  quick-number-reads.Asked,
+  quick-number-reads.Learnt,
+  char-step-reads.Asked,
+  char-step-reads.Learnt,
   name-end-reads.Asked,
   name-end-reads.Learnt,
   number-step-reads.Asked,
@@ -207,7 +218,6 @@ normalize-attr-step-add-byte-step : (t : ℕ) → normalize-attr-step-lts.Need-a
 ) (normalize-attr-step-at t) normalize-attr-step.Post
 normalize-attr-step-add-byte-step t c = omega (arith, c .before .blank-at .ensures .inside, c .before .before .before .before .before .before .before .before .before .pre .1 .1 .0 .1)
 
--- src/lib.rt:240:9
 normalize-attr-step-byte-step-requires : (t : ℕ) → normalize-attr-step-lts.Need-byte-step-requires (
   stopped-reads.Asked,
   stopped-reads.Learnt,
@@ -215,6 +225,10 @@ normalize-attr-step-byte-step-requires : (t : ℕ) → normalize-attr-step-lts.N
   blank-at-reads.Learnt,
   byte-step-reads.Asked,
   byte-step-reads.Learnt,
+  quick-number-reads.Asked,
+  quick-number-reads.Learnt,
+  char-step-reads.Asked,
+  char-step-reads.Learnt,
   name-end-reads.Asked,
   name-end-reads.Learnt,
   number-step-reads.Asked,
@@ -232,7 +246,6 @@ normalize-attr-step-byte-step-requires : (t : ℕ) → normalize-attr-step-lts.N
 ) (normalize-attr-step-at t) normalize-attr-step.Post
 normalize-attr-step-byte-step-requires t c κs = tt
 
--- src/lib.rt:240:9
 normalize-attr-step-same-length : (t : ℕ) → normalize-attr-step-lts.Need-same-length (
   stopped-reads.Asked,
   stopped-reads.Learnt,
@@ -240,6 +253,10 @@ normalize-attr-step-same-length : (t : ℕ) → normalize-attr-step-lts.Need-sam
   blank-at-reads.Learnt,
   byte-step-reads.Asked,
   byte-step-reads.Learnt,
+  quick-number-reads.Asked,
+  quick-number-reads.Learnt,
+  char-step-reads.Asked,
+  char-step-reads.Learnt,
   name-end-reads.Asked,
   name-end-reads.Learnt,
   number-step-reads.Asked,
@@ -257,7 +274,6 @@ normalize-attr-step-same-length : (t : ℕ) → normalize-attr-step-lts.Need-sam
 ) (normalize-attr-step-at t) normalize-attr-step.Post
 normalize-attr-step-same-length t c = stepped-length (c .before .before .byte-step .ensures)
 
--- src/lib.rt:240:9
 normalize-attr-step-returns-2 : (t : ℕ) → normalize-attr-step-lts.Need-returns-2 (
   stopped-reads.Asked,
   stopped-reads.Learnt,
@@ -265,6 +281,10 @@ normalize-attr-step-returns-2 : (t : ℕ) → normalize-attr-step-lts.Need-retur
   blank-at-reads.Learnt,
   byte-step-reads.Asked,
   byte-step-reads.Learnt,
+  quick-number-reads.Asked,
+  quick-number-reads.Learnt,
+  char-step-reads.Asked,
+  char-step-reads.Learnt,
   name-end-reads.Asked,
   name-end-reads.Learnt,
   number-step-reads.Asked,
@@ -282,7 +302,6 @@ normalize-attr-step-returns-2 : (t : ℕ) → normalize-attr-step-lts.Need-retur
 ) (normalize-attr-step-at t) normalize-attr-step.Post
 normalize-attr-step-returns-2 t c = (step-blank (c .before .before .before .before .before .before .before .before .before .before .before .before .before .args .newer) (c .before .before .before .before .before .before .before .before .before .before .before .before .before .args .list .now) (c .before .before .before .before .before .before .before .before .before .before .before .before .before .args .pool .now) (c .before .before .before .before .before .before .before .before .before .before .before .before .before .args .limit) (c .before .before .before .before .before .before .before .before .before .before .before .before .before .args .depth) (c .before .before .before .before .before .before .before .before .before .before .before .before .before .args .text .now) (c .before .before .before .before .before .before .before .before .before .before .before .before .before .args .at) (c .before .before .before .before .before .before .before .before .before .before .before .before .before .args .openings) (c .before .before .before .before .before .before .before .before .if1 .left) (c .before .before .before .before .before .blank-at .ensures) (c .before .before .byte-step .ensures), rw (c .before .before .byte-step .ensures .answers) (omega (arith, c .before .before .before .before .before .blank-at .ensures .some), c .before .before .before .before .before .blank-at .ensures .inside, omega arith, c .before .before .before .before .before .before .before .before .before .before .before .before .before .pre .1 .1 .1 .1 .0, omega (arith, c .before .before .before .before .before .blank-at .ensures .some)))
 
--- src/lib.rt:242:16
 normalize-attr-step-add-from : (t : ℕ) → normalize-attr-step-lts.Need-add-from (
   stopped-reads.Asked,
   stopped-reads.Learnt,
@@ -290,6 +309,10 @@ normalize-attr-step-add-from : (t : ℕ) → normalize-attr-step-lts.Need-add-fr
   blank-at-reads.Learnt,
   byte-step-reads.Asked,
   byte-step-reads.Learnt,
+  quick-number-reads.Asked,
+  quick-number-reads.Learnt,
+  char-step-reads.Asked,
+  char-step-reads.Learnt,
   name-end-reads.Asked,
   name-end-reads.Learnt,
   number-step-reads.Asked,
@@ -307,14 +330,46 @@ normalize-attr-step-add-from : (t : ℕ) → normalize-attr-step-lts.Need-add-fr
 ) (normalize-attr-step-at t) normalize-attr-step.Post
 normalize-attr-step-add-from t c = omega (arith, c .before .before .before .before .before .before .before .pre .1 .1 .0)
 
--- src/lib.rt:243:9
-normalize-attr-step-name-end-requires : (t : ℕ) → normalize-attr-step-lts.Need-name-end-requires (
+normalize-attr-step-shared-slice-read-if4 :
+    (t : ℕ) → normalize-attr-step-lts.Need-shared-slice-read-if4 (
+      stopped-reads.Asked,
+      stopped-reads.Learnt,
+      blank-at-reads.Asked,
+      blank-at-reads.Learnt,
+      byte-step-reads.Asked,
+      byte-step-reads.Learnt,
+      quick-number-reads.Asked,
+      quick-number-reads.Learnt,
+      char-step-reads.Asked,
+      char-step-reads.Learnt,
+      name-end-reads.Asked,
+      name-end-reads.Learnt,
+      number-step-reads.Asked,
+      number-step-reads.Learnt,
+      bound-to-reads.Asked,
+      bound-to-reads.Learnt,
+      is-plain-reads.Asked,
+      is-plain-reads.Learnt,
+      put-over-reads.Asked,
+      put-over-reads.Learnt,
+      normalize-attr-steps-below t,
+      normalize-attr-steps.Post,
+      walked-step-reads.Asked,
+      walked-step-reads.Learnt,
+    ) (normalize-attr-step-at t) normalize-attr-step.Post
+normalize-attr-step-shared-slice-read-if4 t c = c .before .if3 .taken
+
+normalize-attr-step-add-quick-number : (t : ℕ) → normalize-attr-step-lts.Need-add-quick-number (
   stopped-reads.Asked,
   stopped-reads.Learnt,
   blank-at-reads.Asked,
   blank-at-reads.Learnt,
   byte-step-reads.Asked,
   byte-step-reads.Learnt,
+  quick-number-reads.Asked,
+  quick-number-reads.Learnt,
+  char-step-reads.Asked,
+  char-step-reads.Learnt,
   name-end-reads.Asked,
   name-end-reads.Learnt,
   number-step-reads.Asked,
@@ -330,9 +385,178 @@ normalize-attr-step-name-end-requires : (t : ℕ) → normalize-attr-step-lts.Ne
   walked-step-reads.Asked,
   walked-step-reads.Learnt,
 ) (normalize-attr-step-at t) normalize-attr-step.Post
-normalize-attr-step-name-end-requires t c κs = omega (arith, c .before .before .before .before .before .before .before .pre .1 .1 .0)
+normalize-attr-step-add-quick-number t c = omega (arith, c .before .before .before .before .before .before .before .before .before .before .pre .1 .1 .0)
 
--- src/lib.rt:245:9
+normalize-attr-step-quick-number-requires :
+    (t : ℕ) → normalize-attr-step-lts.Need-quick-number-requires (
+      stopped-reads.Asked,
+      stopped-reads.Learnt,
+      blank-at-reads.Asked,
+      blank-at-reads.Learnt,
+      byte-step-reads.Asked,
+      byte-step-reads.Learnt,
+      quick-number-reads.Asked,
+      quick-number-reads.Learnt,
+      char-step-reads.Asked,
+      char-step-reads.Learnt,
+      name-end-reads.Asked,
+      name-end-reads.Learnt,
+      number-step-reads.Asked,
+      number-step-reads.Learnt,
+      bound-to-reads.Asked,
+      bound-to-reads.Learnt,
+      is-plain-reads.Asked,
+      is-plain-reads.Learnt,
+      put-over-reads.Asked,
+      put-over-reads.Learnt,
+      normalize-attr-steps-below t,
+      normalize-attr-steps.Post,
+      walked-step-reads.Asked,
+      walked-step-reads.Learnt,
+    ) (normalize-attr-step-at t) normalize-attr-step.Post
+normalize-attr-step-quick-number-requires t c κs = omega (arith, c .before .before .if3 .taken)
+
+normalize-attr-step-add-char-step : (t : ℕ) → normalize-attr-step-lts.Need-add-char-step (
+  stopped-reads.Asked,
+  stopped-reads.Learnt,
+  blank-at-reads.Asked,
+  blank-at-reads.Learnt,
+  byte-step-reads.Asked,
+  byte-step-reads.Learnt,
+  quick-number-reads.Asked,
+  quick-number-reads.Learnt,
+  char-step-reads.Asked,
+  char-step-reads.Learnt,
+  name-end-reads.Asked,
+  name-end-reads.Learnt,
+  number-step-reads.Asked,
+  number-step-reads.Learnt,
+  bound-to-reads.Asked,
+  bound-to-reads.Learnt,
+  is-plain-reads.Asked,
+  is-plain-reads.Learnt,
+  put-over-reads.Asked,
+  put-over-reads.Learnt,
+  normalize-attr-steps-below t,
+  normalize-attr-steps.Post,
+  walked-step-reads.Asked,
+  walked-step-reads.Learnt,
+) (normalize-attr-step-at t) normalize-attr-step.Post
+normalize-attr-step-add-char-step t c = omega (arith, c .before .before .before .before .before .before .before .before .before .before .before .before .before .pre .1 .1 .0, c .before .before .quick-number .ensures (c .before .if5 .taken) .closed .inside)
+
+normalize-attr-step-char-step-requires : (t : ℕ) → normalize-attr-step-lts.Need-char-step-requires (
+  stopped-reads.Asked,
+  stopped-reads.Learnt,
+  blank-at-reads.Asked,
+  blank-at-reads.Learnt,
+  byte-step-reads.Asked,
+  byte-step-reads.Learnt,
+  quick-number-reads.Asked,
+  quick-number-reads.Learnt,
+  char-step-reads.Asked,
+  char-step-reads.Learnt,
+  name-end-reads.Asked,
+  name-end-reads.Learnt,
+  number-step-reads.Asked,
+  number-step-reads.Learnt,
+  bound-to-reads.Asked,
+  bound-to-reads.Learnt,
+  is-plain-reads.Asked,
+  is-plain-reads.Learnt,
+  put-over-reads.Asked,
+  put-over-reads.Learnt,
+  normalize-attr-steps-below t,
+  normalize-attr-steps.Post,
+  walked-step-reads.Asked,
+  walked-step-reads.Learnt,
+) (normalize-attr-step-at t) normalize-attr-step.Post
+normalize-attr-step-char-step-requires t c κs = omega (arith, c .before .before .before .quick-number .ensures (c .before .before .if5 .taken) .low)
+
+normalize-attr-step-same-length-2 : (t : ℕ) → normalize-attr-step-lts.Need-same-length-2 (
+  stopped-reads.Asked,
+  stopped-reads.Learnt,
+  blank-at-reads.Asked,
+  blank-at-reads.Learnt,
+  byte-step-reads.Asked,
+  byte-step-reads.Learnt,
+  quick-number-reads.Asked,
+  quick-number-reads.Learnt,
+  char-step-reads.Asked,
+  char-step-reads.Learnt,
+  name-end-reads.Asked,
+  name-end-reads.Learnt,
+  number-step-reads.Asked,
+  number-step-reads.Learnt,
+  bound-to-reads.Asked,
+  bound-to-reads.Learnt,
+  is-plain-reads.Asked,
+  is-plain-reads.Learnt,
+  put-over-reads.Asked,
+  put-over-reads.Learnt,
+  normalize-attr-steps-below t,
+  normalize-attr-steps.Post,
+  walked-step-reads.Asked,
+  walked-step-reads.Learnt,
+) (normalize-attr-step-at t) normalize-attr-step.Post
+normalize-attr-step-same-length-2 t c = stepped-length (c .before .before .char-step .ensures)
+
+normalize-attr-step-returns-3 : (t : ℕ) → normalize-attr-step-lts.Need-returns-3 (
+  stopped-reads.Asked,
+  stopped-reads.Learnt,
+  blank-at-reads.Asked,
+  blank-at-reads.Learnt,
+  byte-step-reads.Asked,
+  byte-step-reads.Learnt,
+  quick-number-reads.Asked,
+  quick-number-reads.Learnt,
+  char-step-reads.Asked,
+  char-step-reads.Learnt,
+  name-end-reads.Asked,
+  name-end-reads.Learnt,
+  number-step-reads.Asked,
+  number-step-reads.Learnt,
+  bound-to-reads.Asked,
+  bound-to-reads.Learnt,
+  is-plain-reads.Asked,
+  is-plain-reads.Learnt,
+  put-over-reads.Asked,
+  put-over-reads.Learnt,
+  normalize-attr-steps-below t,
+  normalize-attr-steps.Post,
+  walked-step-reads.Asked,
+  walked-step-reads.Learnt,
+) (normalize-attr-step-at t) normalize-attr-step.Post
+normalize-attr-step-returns-3 t c =
+    step-char (c .before .before .before .before .before .before .before .before .before .before .before .before .before .before .before .before .before .args .newer) (c .before .before .before .before .before .before .before .before .before .before .before .before .before .before .before .before .before .args .list .now) (c .before .before .before .before .before .before .before .before .before .before .before .before .before .before .before .before .before .args .pool .now) (c .before .before .before .before .before .before .before .before .before .before .before .before .before .before .before .before .before .args .limit) (c .before .before .before .before .before .before .before .before .before .before .before .before .before .before .before .before .before .args .depth) (c .before .before .before .before .before .before .before .before .before .before .before .before .before .before .before .before .before .args .text .now) (c .before .before .before .before .before .before .before .before .before .before .before .before .before .before .before .before .before .args .at) (c .before .before .before .before .before .before .before .before .before .before .before .before .before .before .before .before .before .args .openings) (c .before .before .before .before .before .before .before .before .before .before .before .before .if1 .left) (c .before .before .before .before .before .before .quick-number .result) (c .before .before .before .before .before .before .before .before .before .before .if2 .left) (c .before .before .before .before .before .before .before .if4 .taken) (c .before .before .before .before .before .before .quick-number .ensures (c .before .before .before .before .before .if5 .taken)) (c .before .before .before .before .before .before .before .before .before .before .before .before .before .before .before .before .before .pre .1 .1 .1 .1 .0) (c .before .before .char-step .ensures)
+
+normalize-attr-step-name-end-requires : (t : ℕ) → normalize-attr-step-lts.Need-name-end-requires (
+  stopped-reads.Asked,
+  stopped-reads.Learnt,
+  blank-at-reads.Asked,
+  blank-at-reads.Learnt,
+  byte-step-reads.Asked,
+  byte-step-reads.Learnt,
+  quick-number-reads.Asked,
+  quick-number-reads.Learnt,
+  char-step-reads.Asked,
+  char-step-reads.Learnt,
+  name-end-reads.Asked,
+  name-end-reads.Learnt,
+  number-step-reads.Asked,
+  number-step-reads.Learnt,
+  bound-to-reads.Asked,
+  bound-to-reads.Learnt,
+  is-plain-reads.Asked,
+  is-plain-reads.Learnt,
+  put-over-reads.Asked,
+  put-over-reads.Learnt,
+  normalize-attr-steps-below t,
+  normalize-attr-steps.Post,
+  walked-step-reads.Asked,
+  walked-step-reads.Learnt,
+) (normalize-attr-step-at t) normalize-attr-step.Post
+normalize-attr-step-name-end-requires t c κs = omega (arith, c .before .before .before .before .before .before .before .before .pre .1 .1 .0)
+
 normalize-attr-step-stopped-requires-2 : (t : ℕ) → normalize-attr-step-lts.Need-stopped-requires-2 (
   stopped-reads.Asked,
   stopped-reads.Learnt,
@@ -340,6 +564,10 @@ normalize-attr-step-stopped-requires-2 : (t : ℕ) → normalize-attr-step-lts.N
   blank-at-reads.Learnt,
   byte-step-reads.Asked,
   byte-step-reads.Learnt,
+  quick-number-reads.Asked,
+  quick-number-reads.Learnt,
+  char-step-reads.Asked,
+  char-step-reads.Learnt,
   name-end-reads.Asked,
   name-end-reads.Learnt,
   number-step-reads.Asked,
@@ -357,14 +585,17 @@ normalize-attr-step-stopped-requires-2 : (t : ℕ) → normalize-attr-step-lts.N
 ) (normalize-attr-step-at t) normalize-attr-step.Post
 normalize-attr-step-stopped-requires-2 t c κs = tt
 
--- src/lib.rt:245:9
-normalize-attr-step-returns-3 : (t : ℕ) → normalize-attr-step-lts.Need-returns-3 (
+normalize-attr-step-returns-4 : (t : ℕ) → normalize-attr-step-lts.Need-returns-4 (
   stopped-reads.Asked,
   stopped-reads.Learnt,
   blank-at-reads.Asked,
   blank-at-reads.Learnt,
   byte-step-reads.Asked,
   byte-step-reads.Learnt,
+  quick-number-reads.Asked,
+  quick-number-reads.Learnt,
+  char-step-reads.Asked,
+  char-step-reads.Learnt,
   name-end-reads.Asked,
   name-end-reads.Learnt,
   number-step-reads.Asked,
@@ -380,17 +611,20 @@ normalize-attr-step-returns-3 : (t : ℕ) → normalize-attr-step-lts.Need-retur
   walked-step-reads.Asked,
   walked-step-reads.Learnt,
 ) (normalize-attr-step-at t) normalize-attr-step.Post
-normalize-attr-step-returns-3 t c = (step-none (c .before .before .before .before .before .before .before .before .before .before .args .newer) (c .before .before .before .before .before .before .before .before .before .before .args .list .now) (c .before .before .before .before .before .before .before .before .before .before .args .pool .now) (c .before .before .before .before .before .before .before .before .before .before .args .limit) (c .before .before .before .before .before .before .before .before .before .before .args .depth) (c .before .before .before .before .before .before .before .before .before .before .args .text .now) (c .before .before .before .before .before .before .before .before .before .before .args .at) (c .before .before .before .before .before .before .before .before .before .before .args .openings) (c .before .before .before .before .before .if1 .left) (c .before .before .name-end .result) (c .before .before .before .if2 .left) (c .before .before .name-end .ensures) (c .before .if3 .taken) (c .stopped2 .ensures), rw (c .stopped2 .ensures) tt)
+normalize-attr-step-returns-4 t c = (step-none (c .before .before .before .before .before .before .before .before .before .before .before .args .newer) (c .before .before .before .before .before .before .before .before .before .before .before .args .list .now) (c .before .before .before .before .before .before .before .before .before .before .before .args .pool .now) (c .before .before .before .before .before .before .before .before .before .before .before .args .limit) (c .before .before .before .before .before .before .before .before .before .before .before .args .depth) (c .before .before .before .before .before .before .before .before .before .before .before .args .text .now) (c .before .before .before .before .before .before .before .before .before .before .before .args .at) (c .before .before .before .before .before .before .before .before .before .before .before .args .openings) (c .before .before .before .before .before .before .if1 .left) (c .before .before .name-end .result) (c .before .before .before .before .if2 .left) (c .before .before .name-end .ensures) (c .before .if6 .taken) (c .stopped2 .ensures), rw (c .stopped2 .ensures) tt)
 
--- src/lib.rt:247:8
-normalize-attr-step-shared-slice-read-if4 :
-    (t : ℕ) → normalize-attr-step-lts.Need-shared-slice-read-if4 (
+normalize-attr-step-shared-slice-read-if7 :
+    (t : ℕ) → normalize-attr-step-lts.Need-shared-slice-read-if7 (
       stopped-reads.Asked,
       stopped-reads.Learnt,
       blank-at-reads.Asked,
       blank-at-reads.Learnt,
       byte-step-reads.Asked,
       byte-step-reads.Learnt,
+      quick-number-reads.Asked,
+      quick-number-reads.Learnt,
+      char-step-reads.Asked,
+      char-step-reads.Learnt,
       name-end-reads.Asked,
       name-end-reads.Learnt,
       number-step-reads.Asked,
@@ -406,9 +640,8 @@ normalize-attr-step-shared-slice-read-if4 :
       walked-step-reads.Asked,
       walked-step-reads.Learnt,
     ) (normalize-attr-step-at t) normalize-attr-step.Post
-normalize-attr-step-shared-slice-read-if4 t c = omega (arith, c .before .before .name-end .ensures .from, c .before .before .name-end .ensures .to, c .before .if3 .left)
+normalize-attr-step-shared-slice-read-if7 t c = omega (arith, c .before .before .name-end .ensures .from, c .before .before .name-end .ensures .to, c .before .if6 .left)
 
--- src/lib.rt:248:42
 normalize-attr-step-add-number-step : (t : ℕ) → normalize-attr-step-lts.Need-add-number-step (
   stopped-reads.Asked,
   stopped-reads.Learnt,
@@ -416,6 +649,10 @@ normalize-attr-step-add-number-step : (t : ℕ) → normalize-attr-step-lts.Need
   blank-at-reads.Learnt,
   byte-step-reads.Asked,
   byte-step-reads.Learnt,
+  quick-number-reads.Asked,
+  quick-number-reads.Learnt,
+  char-step-reads.Asked,
+  char-step-reads.Learnt,
   name-end-reads.Asked,
   name-end-reads.Learnt,
   number-step-reads.Asked,
@@ -431,9 +668,8 @@ normalize-attr-step-add-number-step : (t : ℕ) → normalize-attr-step-lts.Need
   walked-step-reads.Asked,
   walked-step-reads.Learnt,
 ) (normalize-attr-step-at t) normalize-attr-step.Post
-normalize-attr-step-add-number-step t c = omega (arith, c .before .before .before .before .before .before .before .before .before .before .before .pre .1 .1 .0)
+normalize-attr-step-add-number-step t c = omega (arith, c .before .before .before .before .before .before .before .before .before .before .before .before .pre .1 .1 .0)
 
--- src/lib.rt:248:36
 normalize-attr-step-sub-number-step : (t : ℕ) → normalize-attr-step-lts.Need-sub-number-step (
   stopped-reads.Asked,
   stopped-reads.Learnt,
@@ -441,6 +677,10 @@ normalize-attr-step-sub-number-step : (t : ℕ) → normalize-attr-step-lts.Need
   blank-at-reads.Learnt,
   byte-step-reads.Asked,
   byte-step-reads.Learnt,
+  quick-number-reads.Asked,
+  quick-number-reads.Learnt,
+  char-step-reads.Asked,
+  char-step-reads.Learnt,
   name-end-reads.Asked,
   name-end-reads.Learnt,
   number-step-reads.Asked,
@@ -456,9 +696,8 @@ normalize-attr-step-sub-number-step : (t : ℕ) → normalize-attr-step-lts.Need
   walked-step-reads.Asked,
   walked-step-reads.Learnt,
 ) (normalize-attr-step-at t) normalize-attr-step.Post
-normalize-attr-step-sub-number-step t c = digits-from false (c .before .before .before .before .before .before .before .before .before .before .before .args .text .now) (c .before .before .before .before .before .before .before .before .before .before .before .args .at) (c .before .before .before .name-end .result) (c .before .before .before .name-end .ensures) (omega (arith, c .before .before .before .name-end .ensures .to, c .before .before .if3 .left)) (c .if4 .taken)
+normalize-attr-step-sub-number-step t c = digits-from false (c .before .before .before .before .before .before .before .before .before .before .before .before .args .text .now) (c .before .before .before .before .before .before .before .before .before .before .before .before .args .at) (c .before .before .before .name-end .result) (c .before .before .before .name-end .ensures) (omega (arith, c .before .before .before .name-end .ensures .to, c .before .before .if6 .left)) (c .if7 .taken)
 
--- src/lib.rt:248:36
 normalize-attr-step-part-number-step-start :
     (t : ℕ) → normalize-attr-step-lts.Need-part-number-step-start (
       stopped-reads.Asked,
@@ -467,6 +706,10 @@ normalize-attr-step-part-number-step-start :
       blank-at-reads.Learnt,
       byte-step-reads.Asked,
       byte-step-reads.Learnt,
+      quick-number-reads.Asked,
+      quick-number-reads.Learnt,
+      char-step-reads.Asked,
+      char-step-reads.Learnt,
       name-end-reads.Asked,
       name-end-reads.Learnt,
       number-step-reads.Asked,
@@ -482,9 +725,8 @@ normalize-attr-step-part-number-step-start :
       walked-step-reads.Asked,
       walked-step-reads.Learnt,
     ) (normalize-attr-step-at t) normalize-attr-step.Post
-normalize-attr-step-part-number-step-start t c = digits-from false (c .before .before .before .before .before .before .before .before .before .before .before .args .text .now) (c .before .before .before .before .before .before .before .before .before .before .before .args .at) (c .before .before .before .name-end .result) (c .before .before .before .name-end .ensures) (omega (arith, c .before .before .before .name-end .ensures .to, c .before .before .if3 .left)) (c .if4 .taken)
+normalize-attr-step-part-number-step-start t c = digits-from false (c .before .before .before .before .before .before .before .before .before .before .before .before .args .text .now) (c .before .before .before .before .before .before .before .before .before .before .before .before .args .at) (c .before .before .before .name-end .result) (c .before .before .before .name-end .ensures) (omega (arith, c .before .before .before .name-end .ensures .to, c .before .before .if6 .left)) (c .if7 .taken)
 
--- src/lib.rt:248:36
 normalize-attr-step-part-number-step-end :
     (t : ℕ) → normalize-attr-step-lts.Need-part-number-step-end (
       stopped-reads.Asked,
@@ -493,6 +735,10 @@ normalize-attr-step-part-number-step-end :
       blank-at-reads.Learnt,
       byte-step-reads.Asked,
       byte-step-reads.Learnt,
+      quick-number-reads.Asked,
+      quick-number-reads.Learnt,
+      char-step-reads.Asked,
+      char-step-reads.Learnt,
       name-end-reads.Asked,
       name-end-reads.Learnt,
       number-step-reads.Asked,
@@ -510,7 +756,6 @@ normalize-attr-step-part-number-step-end :
     ) (normalize-attr-step-at t) normalize-attr-step.Post
 normalize-attr-step-part-number-step-end t c = c .before .before .before .name-end .ensures .to
 
--- src/lib.rt:248:58
 normalize-attr-step-add-number-step-2 : (t : ℕ) → normalize-attr-step-lts.Need-add-number-step-2 (
   stopped-reads.Asked,
   stopped-reads.Learnt,
@@ -518,6 +763,10 @@ normalize-attr-step-add-number-step-2 : (t : ℕ) → normalize-attr-step-lts.Ne
   blank-at-reads.Learnt,
   byte-step-reads.Asked,
   byte-step-reads.Learnt,
+  quick-number-reads.Asked,
+  quick-number-reads.Learnt,
+  char-step-reads.Asked,
+  char-step-reads.Learnt,
   name-end-reads.Asked,
   name-end-reads.Learnt,
   number-step-reads.Asked,
@@ -533,9 +782,8 @@ normalize-attr-step-add-number-step-2 : (t : ℕ) → normalize-attr-step-lts.Ne
   walked-step-reads.Asked,
   walked-step-reads.Learnt,
 ) (normalize-attr-step-at t) normalize-attr-step.Post
-normalize-attr-step-add-number-step-2 t c = omega (arith, c .before .before .before .before .before .before .before .before .before .before .before .before .pre .1 .1 .0, c .before .before .before .before .name-end .ensures .to)
+normalize-attr-step-add-number-step-2 t c = omega (arith, c .before .before .before .before .before .before .before .before .before .before .before .before .before .pre .1 .1 .0, c .before .before .before .before .name-end .ensures .to)
 
--- src/lib.rt:248:9
 normalize-attr-step-number-step-requires :
     (t : ℕ) → normalize-attr-step-lts.Need-number-step-requires (
       stopped-reads.Asked,
@@ -544,6 +792,10 @@ normalize-attr-step-number-step-requires :
       blank-at-reads.Learnt,
       byte-step-reads.Asked,
       byte-step-reads.Learnt,
+      quick-number-reads.Asked,
+      quick-number-reads.Learnt,
+      char-step-reads.Asked,
+      char-step-reads.Learnt,
       name-end-reads.Asked,
       name-end-reads.Learnt,
       number-step-reads.Asked,
@@ -561,14 +813,17 @@ normalize-attr-step-number-step-requires :
     ) (normalize-attr-step-at t) normalize-attr-step.Post
 normalize-attr-step-number-step-requires t c κs = tt
 
--- src/lib.rt:248:9
-normalize-attr-step-same-length-2 : (t : ℕ) → normalize-attr-step-lts.Need-same-length-2 (
+normalize-attr-step-same-length-3 : (t : ℕ) → normalize-attr-step-lts.Need-same-length-3 (
   stopped-reads.Asked,
   stopped-reads.Learnt,
   blank-at-reads.Asked,
   blank-at-reads.Learnt,
   byte-step-reads.Asked,
   byte-step-reads.Learnt,
+  quick-number-reads.Asked,
+  quick-number-reads.Learnt,
+  char-step-reads.Asked,
+  char-step-reads.Learnt,
   name-end-reads.Asked,
   name-end-reads.Learnt,
   number-step-reads.Asked,
@@ -584,16 +839,19 @@ normalize-attr-step-same-length-2 : (t : ℕ) → normalize-attr-step-lts.Need-s
   walked-step-reads.Asked,
   walked-step-reads.Learnt,
 ) (normalize-attr-step-at t) normalize-attr-step.Post
-normalize-attr-step-same-length-2 t c = stepped-length (c .before .before .number-step .ensures)
+normalize-attr-step-same-length-3 t c = stepped-length (c .before .before .number-step .ensures)
 
--- src/lib.rt:248:9
-normalize-attr-step-returns-4 : (t : ℕ) → normalize-attr-step-lts.Need-returns-4 (
+normalize-attr-step-returns-5 : (t : ℕ) → normalize-attr-step-lts.Need-returns-5 (
   stopped-reads.Asked,
   stopped-reads.Learnt,
   blank-at-reads.Asked,
   blank-at-reads.Learnt,
   byte-step-reads.Asked,
   byte-step-reads.Learnt,
+  quick-number-reads.Asked,
+  quick-number-reads.Learnt,
+  char-step-reads.Asked,
+  char-step-reads.Learnt,
   name-end-reads.Asked,
   name-end-reads.Learnt,
   number-step-reads.Asked,
@@ -609,11 +867,10 @@ normalize-attr-step-returns-4 : (t : ℕ) → normalize-attr-step-lts.Need-retur
   walked-step-reads.Asked,
   walked-step-reads.Learnt,
 ) (normalize-attr-step-at t) normalize-attr-step.Post
-normalize-attr-step-returns-4 t c =
-    let inside : c .before .before .before .before .before .before .before .before .name-end .result < length (c .before .before .before .before .before .before .before .before .before .before .before .before .before .before .before .before .args .text .now) = (omega (arith, c .before .before .before .before .before .before .before .before .name-end .ensures .to, c .before .before .before .before .before .before .before .if3 .left)) in
-    (step-number (c .before .before .before .before .before .before .before .before .before .before .before .before .before .before .before .before .args .newer) (c .before .before .before .before .before .before .before .before .before .before .before .before .before .before .before .before .args .list .now) (c .before .before .before .before .before .before .before .before .before .before .before .before .before .before .before .before .args .pool .now) (c .before .before .before .before .before .before .before .before .before .before .before .before .before .before .before .before .args .limit) (c .before .before .before .before .before .before .before .before .before .before .before .before .before .before .before .before .args .depth) (c .before .before .before .before .before .before .before .before .before .before .before .before .before .before .before .before .args .text .now) (c .before .before .before .before .before .before .before .before .before .before .before .before .before .before .before .before .args .at) (c .before .before .before .before .before .before .before .before .before .before .before .before .before .before .before .before .args .openings) (c .before .before .before .before .before .before .before .before .before .before .before .if1 .left) (c .before .before .before .before .before .before .before .before .name-end .result) (c .before .before .before .before .before .before .before .before .before .if2 .left) (c .before .before .before .before .before .before .before .before .name-end .ensures) inside (c .before .before .before .before .before .if4 .taken) (c .before .before .number-step .ensures), counted-number (length (c .before .before .before .before .before .before .before .before .before .before .before .before .before .before .before .before .args .text .now)) (c .before .before .before .before .before .before .before .before .before .before .before .before .before .before .before .before .args .at) (c .before .before .before .before .before .before .before .before .before .before .before .before .before .before .before .before .args .openings) (c .before .before .before .before .before .before .before .before .before .before .before .before .before .before .before .before .args .limit) (c .before .before .before .before .before .before .before .before .name-end .result) _ _ _ _ (omega (arith, c .before .before .before .before .before .before .before .before .name-end .ensures .from)) inside (c .before .before .before .before .before .before .before .before .before .before .before .before .before .before .before .before .pre .1 .1 .1 .1 .0) (c .before .before .number-step .ensures))
+normalize-attr-step-returns-5 t c =
+    let inside : c .before .before .before .before .before .before .before .before .name-end .result < length (c .before .before .before .before .before .before .before .before .before .before .before .before .before .before .before .before .before .args .text .now) = (omega (arith, c .before .before .before .before .before .before .before .before .name-end .ensures .to, c .before .before .before .before .before .before .before .if6 .left)) in
+    (step-number (c .before .before .before .before .before .before .before .before .before .before .before .before .before .before .before .before .before .args .newer) (c .before .before .before .before .before .before .before .before .before .before .before .before .before .before .before .before .before .args .list .now) (c .before .before .before .before .before .before .before .before .before .before .before .before .before .before .before .before .before .args .pool .now) (c .before .before .before .before .before .before .before .before .before .before .before .before .before .before .before .before .before .args .limit) (c .before .before .before .before .before .before .before .before .before .before .before .before .before .before .before .before .before .args .depth) (c .before .before .before .before .before .before .before .before .before .before .before .before .before .before .before .before .before .args .text .now) (c .before .before .before .before .before .before .before .before .before .before .before .before .before .before .before .before .before .args .at) (c .before .before .before .before .before .before .before .before .before .before .before .before .before .before .before .before .before .args .openings) (c .before .before .before .before .before .before .before .before .before .before .before .before .if1 .left) (c .before .before .before .before .before .before .before .before .name-end .result) (c .before .before .before .before .before .before .before .before .before .before .if2 .left) (c .before .before .before .before .before .before .before .before .name-end .ensures) inside (c .before .before .before .before .before .if7 .taken) (c .before .before .number-step .ensures), counted-number (length (c .before .before .before .before .before .before .before .before .before .before .before .before .before .before .before .before .before .args .text .now)) (c .before .before .before .before .before .before .before .before .before .before .before .before .before .before .before .before .before .args .at) (c .before .before .before .before .before .before .before .before .before .before .before .before .before .before .before .before .before .args .openings) (c .before .before .before .before .before .before .before .before .before .before .before .before .before .before .before .before .before .args .limit) (c .before .before .before .before .before .before .before .before .name-end .result) _ _ _ _ (omega (arith, c .before .before .before .before .before .before .before .before .name-end .ensures .from)) inside (c .before .before .before .before .before .before .before .before .before .before .before .before .before .before .before .before .before .pre .1 .1 .1 .1 .0) (c .before .before .number-step .ensures))
 
--- src/lib.rt:250:20
 normalize-attr-step-sub-bound-to : (t : ℕ) → normalize-attr-step-lts.Need-sub-bound-to (
   stopped-reads.Asked,
   stopped-reads.Learnt,
@@ -621,6 +878,10 @@ normalize-attr-step-sub-bound-to : (t : ℕ) → normalize-attr-step-lts.Need-su
   blank-at-reads.Learnt,
   byte-step-reads.Asked,
   byte-step-reads.Learnt,
+  quick-number-reads.Asked,
+  quick-number-reads.Learnt,
+  char-step-reads.Asked,
+  char-step-reads.Learnt,
   name-end-reads.Asked,
   name-end-reads.Learnt,
   number-step-reads.Asked,
@@ -638,7 +899,6 @@ normalize-attr-step-sub-bound-to : (t : ℕ) → normalize-attr-step-lts.Need-su
 ) (normalize-attr-step-at t) normalize-attr-step.Post
 normalize-attr-step-sub-bound-to t c = c .before .before .before .name-end .ensures .from
 
--- src/lib.rt:250:20
 normalize-attr-step-part-bound-to-start :
     (t : ℕ) → normalize-attr-step-lts.Need-part-bound-to-start (
       stopped-reads.Asked,
@@ -647,6 +907,10 @@ normalize-attr-step-part-bound-to-start :
       blank-at-reads.Learnt,
       byte-step-reads.Asked,
       byte-step-reads.Learnt,
+      quick-number-reads.Asked,
+      quick-number-reads.Learnt,
+      char-step-reads.Asked,
+      char-step-reads.Learnt,
       name-end-reads.Asked,
       name-end-reads.Learnt,
       number-step-reads.Asked,
@@ -664,7 +928,6 @@ normalize-attr-step-part-bound-to-start :
     ) (normalize-attr-step-at t) normalize-attr-step.Post
 normalize-attr-step-part-bound-to-start t c = c .before .before .before .name-end .ensures .from
 
--- src/lib.rt:250:20
 normalize-attr-step-part-bound-to-end : (t : ℕ) → normalize-attr-step-lts.Need-part-bound-to-end (
   stopped-reads.Asked,
   stopped-reads.Learnt,
@@ -672,6 +935,10 @@ normalize-attr-step-part-bound-to-end : (t : ℕ) → normalize-attr-step-lts.Ne
   blank-at-reads.Learnt,
   byte-step-reads.Asked,
   byte-step-reads.Learnt,
+  quick-number-reads.Asked,
+  quick-number-reads.Learnt,
+  char-step-reads.Asked,
+  char-step-reads.Learnt,
   name-end-reads.Asked,
   name-end-reads.Learnt,
   number-step-reads.Asked,
@@ -689,7 +956,6 @@ normalize-attr-step-part-bound-to-end : (t : ℕ) → normalize-attr-step-lts.Ne
 ) (normalize-attr-step-at t) normalize-attr-step.Post
 normalize-attr-step-part-bound-to-end t c = c .before .before .before .name-end .ensures .to
 
--- src/lib.rt:250:11
 normalize-attr-step-bound-to-requires : (t : ℕ) → normalize-attr-step-lts.Need-bound-to-requires (
   stopped-reads.Asked,
   stopped-reads.Learnt,
@@ -697,6 +963,10 @@ normalize-attr-step-bound-to-requires : (t : ℕ) → normalize-attr-step-lts.Ne
   blank-at-reads.Learnt,
   byte-step-reads.Asked,
   byte-step-reads.Learnt,
+  quick-number-reads.Asked,
+  quick-number-reads.Learnt,
+  char-step-reads.Asked,
+  char-step-reads.Learnt,
   name-end-reads.Asked,
   name-end-reads.Learnt,
   number-step-reads.Asked,
@@ -712,9 +982,8 @@ normalize-attr-step-bound-to-requires : (t : ℕ) → normalize-attr-step-lts.Ne
   walked-step-reads.Asked,
   walked-step-reads.Learnt,
 ) (normalize-attr-step-at t) normalize-attr-step.Post
-normalize-attr-step-bound-to-requires t c κs = c .before .before .before .before .before .before .before .before .before .before .before .before .pre .1 .0
+normalize-attr-step-bound-to-requires t c κs = c .before .before .before .before .before .before .before .before .before .before .before .before .before .pre .1 .0
 
--- src/lib.rt:251:25
 normalize-attr-step-enum-known-start : (t : ℕ) → normalize-attr-step-lts.Need-enum-known-start (
   stopped-reads.Asked,
   stopped-reads.Learnt,
@@ -722,6 +991,10 @@ normalize-attr-step-enum-known-start : (t : ℕ) → normalize-attr-step-lts.Nee
   blank-at-reads.Learnt,
   byte-step-reads.Asked,
   byte-step-reads.Learnt,
+  quick-number-reads.Asked,
+  quick-number-reads.Learnt,
+  char-step-reads.Asked,
+  char-step-reads.Learnt,
   name-end-reads.Asked,
   name-end-reads.Learnt,
   number-step-reads.Asked,
@@ -739,7 +1012,6 @@ normalize-attr-step-enum-known-start : (t : ℕ) → normalize-attr-step-lts.Nee
 ) (normalize-attr-step-at t) normalize-attr-step.Post
 normalize-attr-step-enum-known-start t c = search needs
 
--- src/lib.rt:253:17
 normalize-attr-step-stopped-requires-3 : (t : ℕ) → normalize-attr-step-lts.Need-stopped-requires-3 (
   stopped-reads.Asked,
   stopped-reads.Learnt,
@@ -747,6 +1019,10 @@ normalize-attr-step-stopped-requires-3 : (t : ℕ) → normalize-attr-step-lts.N
   blank-at-reads.Learnt,
   byte-step-reads.Asked,
   byte-step-reads.Learnt,
+  quick-number-reads.Asked,
+  quick-number-reads.Learnt,
+  char-step-reads.Asked,
+  char-step-reads.Learnt,
   name-end-reads.Asked,
   name-end-reads.Learnt,
   number-step-reads.Asked,
@@ -764,14 +1040,17 @@ normalize-attr-step-stopped-requires-3 : (t : ℕ) → normalize-attr-step-lts.N
 ) (normalize-attr-step-at t) normalize-attr-step.Post
 normalize-attr-step-stopped-requires-3 t c κs = tt
 
--- src/lib.rt:253:17
-normalize-attr-step-returns-5 : (t : ℕ) → normalize-attr-step-lts.Need-returns-5 (
+normalize-attr-step-returns-6 : (t : ℕ) → normalize-attr-step-lts.Need-returns-6 (
   stopped-reads.Asked,
   stopped-reads.Learnt,
   blank-at-reads.Asked,
   blank-at-reads.Learnt,
   byte-step-reads.Asked,
   byte-step-reads.Learnt,
+  quick-number-reads.Asked,
+  quick-number-reads.Learnt,
+  char-step-reads.Asked,
+  char-step-reads.Learnt,
   name-end-reads.Asked,
   name-end-reads.Learnt,
   number-step-reads.Asked,
@@ -787,10 +1066,9 @@ normalize-attr-step-returns-5 : (t : ℕ) → normalize-attr-step-lts.Need-retur
   walked-step-reads.Asked,
   walked-step-reads.Learnt,
 ) (normalize-attr-step-at t) normalize-attr-step.Post
-normalize-attr-step-returns-5 t c =
-    (step-limit (c .before .before .before .before .before .before .before .before .before .before .before .before .before .before .before .before .before .before .args .newer) (c .before .before .before .before .before .before .before .before .before .before .before .before .before .before .before .before .before .before .args .list .now) (c .before .before .before .before .before .before .before .before .before .before .before .before .before .before .before .before .before .before .args .pool .now) (c .before .before .before .before .before .before .before .before .before .before .before .before .before .before .before .before .before .before .args .limit) (c .before .before .before .before .before .before .before .before .before .before .before .before .before .before .before .before .before .before .args .depth) (c .before .before .before .before .before .before .before .before .before .before .before .before .before .before .before .before .before .before .args .text .now) (c .before .before .before .before .before .before .before .before .before .before .before .before .before .before .before .before .before .before .args .at) (c .before .before .before .before .before .before .before .before .before .before .before .before .before .before .before .before .before .before .args .openings) (c .before .before .before .before .before .before .before .before .before .before .before .before .before .if1 .left) (c .before .before .before .before .before .before .before .before .before .before .name-end .result) (c .before .before .before .before .before .before .before .before .before .before .before .if2 .left) (c .before .before .before .before .before .before .before .before .before .before .name-end .ensures) (omega (arith, c .before .before .before .before .before .before .before .before .before .before .name-end .ensures .to, c .before .before .before .before .before .before .before .before .before .if3 .left)) (c .before .before .before .before .before .before .before .if4 .left) (c .before .before .before .before .before .bound-to .result) (c .before .before .before .before .before .bound-to .ensures .0) (c .before .before .before .start .given .0 .0) (c .before .before .before .start .given .0 .1 .0) (c .before .before .before .start .given .1) (c .before .if5 .taken) (c .stopped3 .ensures), rw (c .stopped3 .ensures) tt)
+normalize-attr-step-returns-6 t c =
+    (step-limit (c .before .before .before .before .before .before .before .before .before .before .before .before .before .before .before .before .before .before .before .args .newer) (c .before .before .before .before .before .before .before .before .before .before .before .before .before .before .before .before .before .before .before .args .list .now) (c .before .before .before .before .before .before .before .before .before .before .before .before .before .before .before .before .before .before .before .args .pool .now) (c .before .before .before .before .before .before .before .before .before .before .before .before .before .before .before .before .before .before .before .args .limit) (c .before .before .before .before .before .before .before .before .before .before .before .before .before .before .before .before .before .before .before .args .depth) (c .before .before .before .before .before .before .before .before .before .before .before .before .before .before .before .before .before .before .before .args .text .now) (c .before .before .before .before .before .before .before .before .before .before .before .before .before .before .before .before .before .before .before .args .at) (c .before .before .before .before .before .before .before .before .before .before .before .before .before .before .before .before .before .before .before .args .openings) (c .before .before .before .before .before .before .before .before .before .before .before .before .before .before .if1 .left) (c .before .before .before .before .before .before .before .before .before .before .name-end .result) (c .before .before .before .before .before .before .before .before .before .before .before .before .if2 .left) (c .before .before .before .before .before .before .before .before .before .before .name-end .ensures) (omega (arith, c .before .before .before .before .before .before .before .before .before .before .name-end .ensures .to, c .before .before .before .before .before .before .before .before .before .if6 .left)) (c .before .before .before .before .before .before .before .if7 .left) (c .before .before .before .before .before .bound-to .result) (c .before .before .before .before .before .bound-to .ensures .0) (c .before .before .before .start .given .0 .0) (c .before .before .before .start .given .0 .1 .0) (c .before .before .before .start .given .1) (c .before .if8 .taken) (c .stopped3 .ensures), rw (c .stopped3 .ensures) tt)
 
--- src/lib.rt:255:25
 normalize-attr-step-sub-is-plain : (t : ℕ) → normalize-attr-step-lts.Need-sub-is-plain (
   stopped-reads.Asked,
   stopped-reads.Learnt,
@@ -798,6 +1076,10 @@ normalize-attr-step-sub-is-plain : (t : ℕ) → normalize-attr-step-lts.Need-su
   blank-at-reads.Learnt,
   byte-step-reads.Asked,
   byte-step-reads.Learnt,
+  quick-number-reads.Asked,
+  quick-number-reads.Learnt,
+  char-step-reads.Asked,
+  char-step-reads.Learnt,
   name-end-reads.Asked,
   name-end-reads.Learnt,
   number-step-reads.Asked,
@@ -813,9 +1095,8 @@ normalize-attr-step-sub-is-plain : (t : ℕ) → normalize-attr-step-lts.Need-su
   walked-step-reads.Asked,
   walked-step-reads.Learnt,
 ) (normalize-attr-step-at t) normalize-attr-step.Post
-normalize-attr-step-sub-is-plain t c = subst (Lies (c .before .before .before .before .before .before .before .before .before .before .before .before .before .before .before .before .before .args .pool .now)) (c .before .before .start .given .1) (c .before .before .before .before .bound-to .ensures .1) .0
+normalize-attr-step-sub-is-plain t c = subst (Lies (c .before .before .before .before .before .before .before .before .before .before .before .before .before .before .before .before .before .before .args .pool .now)) (c .before .before .start .given .1) (c .before .before .before .before .bound-to .ensures .1) .0
 
--- src/lib.rt:255:25
 normalize-attr-step-part-is-plain-start :
     (t : ℕ) → normalize-attr-step-lts.Need-part-is-plain-start (
       stopped-reads.Asked,
@@ -824,6 +1105,10 @@ normalize-attr-step-part-is-plain-start :
       blank-at-reads.Learnt,
       byte-step-reads.Asked,
       byte-step-reads.Learnt,
+      quick-number-reads.Asked,
+      quick-number-reads.Learnt,
+      char-step-reads.Asked,
+      char-step-reads.Learnt,
       name-end-reads.Asked,
       name-end-reads.Learnt,
       number-step-reads.Asked,
@@ -839,9 +1124,8 @@ normalize-attr-step-part-is-plain-start :
       walked-step-reads.Asked,
       walked-step-reads.Learnt,
     ) (normalize-attr-step-at t) normalize-attr-step.Post
-normalize-attr-step-part-is-plain-start t c = subst (Lies (c .before .before .before .before .before .before .before .before .before .before .before .before .before .before .before .before .before .args .pool .now)) (c .before .before .start .given .1) (c .before .before .before .before .bound-to .ensures .1) .0
+normalize-attr-step-part-is-plain-start t c = subst (Lies (c .before .before .before .before .before .before .before .before .before .before .before .before .before .before .before .before .before .before .args .pool .now)) (c .before .before .start .given .1) (c .before .before .before .before .bound-to .ensures .1) .0
 
--- src/lib.rt:255:25
 normalize-attr-step-part-is-plain-end : (t : ℕ) → normalize-attr-step-lts.Need-part-is-plain-end (
   stopped-reads.Asked,
   stopped-reads.Learnt,
@@ -849,6 +1133,10 @@ normalize-attr-step-part-is-plain-end : (t : ℕ) → normalize-attr-step-lts.Ne
   blank-at-reads.Learnt,
   byte-step-reads.Asked,
   byte-step-reads.Learnt,
+  quick-number-reads.Asked,
+  quick-number-reads.Learnt,
+  char-step-reads.Asked,
+  char-step-reads.Learnt,
   name-end-reads.Asked,
   name-end-reads.Learnt,
   number-step-reads.Asked,
@@ -864,9 +1152,8 @@ normalize-attr-step-part-is-plain-end : (t : ℕ) → normalize-attr-step-lts.Ne
   walked-step-reads.Asked,
   walked-step-reads.Learnt,
 ) (normalize-attr-step-at t) normalize-attr-step.Post
-normalize-attr-step-part-is-plain-end t c = subst (Lies (c .before .before .before .before .before .before .before .before .before .before .before .before .before .before .before .before .before .args .pool .now)) (c .before .before .start .given .1) (c .before .before .before .before .bound-to .ensures .1) .1
+normalize-attr-step-part-is-plain-end t c = subst (Lies (c .before .before .before .before .before .before .before .before .before .before .before .before .before .before .before .before .before .before .args .pool .now)) (c .before .before .start .given .1) (c .before .before .before .before .bound-to .ensures .1) .1
 
--- src/lib.rt:255:16
 normalize-attr-step-is-plain-requires : (t : ℕ) → normalize-attr-step-lts.Need-is-plain-requires (
   stopped-reads.Asked,
   stopped-reads.Learnt,
@@ -874,6 +1161,10 @@ normalize-attr-step-is-plain-requires : (t : ℕ) → normalize-attr-step-lts.Ne
   blank-at-reads.Learnt,
   byte-step-reads.Asked,
   byte-step-reads.Learnt,
+  quick-number-reads.Asked,
+  quick-number-reads.Learnt,
+  char-step-reads.Asked,
+  char-step-reads.Learnt,
   name-end-reads.Asked,
   name-end-reads.Learnt,
   number-step-reads.Asked,
@@ -891,7 +1182,6 @@ normalize-attr-step-is-plain-requires : (t : ℕ) → normalize-attr-step-lts.Ne
 ) (normalize-attr-step-at t) normalize-attr-step.Post
 normalize-attr-step-is-plain-requires t c κs = tt
 
--- src/lib.rt:256:34
 normalize-attr-step-sub-put-over : (t : ℕ) → normalize-attr-step-lts.Need-sub-put-over (
   stopped-reads.Asked,
   stopped-reads.Learnt,
@@ -899,6 +1189,10 @@ normalize-attr-step-sub-put-over : (t : ℕ) → normalize-attr-step-lts.Need-su
   blank-at-reads.Learnt,
   byte-step-reads.Asked,
   byte-step-reads.Learnt,
+  quick-number-reads.Asked,
+  quick-number-reads.Learnt,
+  char-step-reads.Asked,
+  char-step-reads.Learnt,
   name-end-reads.Asked,
   name-end-reads.Learnt,
   number-step-reads.Asked,
@@ -914,9 +1208,8 @@ normalize-attr-step-sub-put-over : (t : ℕ) → normalize-attr-step-lts.Need-su
   walked-step-reads.Asked,
   walked-step-reads.Learnt,
 ) (normalize-attr-step-at t) normalize-attr-step.Post
-normalize-attr-step-sub-put-over t c = subst (Lies (c .before .before .before .before .before .before .before .before .before .before .before .before .before .before .before .before .before .before .before .before .args .pool .now)) (c .before .before .before .before .before .start .given .1) (c .before .before .before .before .before .before .before .bound-to .ensures .1) .0
+normalize-attr-step-sub-put-over t c = subst (Lies (c .before .before .before .before .before .before .before .before .before .before .before .before .before .before .before .before .before .before .before .before .before .args .pool .now)) (c .before .before .before .before .before .start .given .1) (c .before .before .before .before .before .before .before .bound-to .ensures .1) .0
 
--- src/lib.rt:256:34
 normalize-attr-step-part-put-over-start :
     (t : ℕ) → normalize-attr-step-lts.Need-part-put-over-start (
       stopped-reads.Asked,
@@ -925,6 +1218,10 @@ normalize-attr-step-part-put-over-start :
       blank-at-reads.Learnt,
       byte-step-reads.Asked,
       byte-step-reads.Learnt,
+      quick-number-reads.Asked,
+      quick-number-reads.Learnt,
+      char-step-reads.Asked,
+      char-step-reads.Learnt,
       name-end-reads.Asked,
       name-end-reads.Learnt,
       number-step-reads.Asked,
@@ -940,9 +1237,8 @@ normalize-attr-step-part-put-over-start :
       walked-step-reads.Asked,
       walked-step-reads.Learnt,
     ) (normalize-attr-step-at t) normalize-attr-step.Post
-normalize-attr-step-part-put-over-start t c = subst (Lies (c .before .before .before .before .before .before .before .before .before .before .before .before .before .before .before .before .before .before .before .before .args .pool .now)) (c .before .before .before .before .before .start .given .1) (c .before .before .before .before .before .before .before .bound-to .ensures .1) .0
+normalize-attr-step-part-put-over-start t c = subst (Lies (c .before .before .before .before .before .before .before .before .before .before .before .before .before .before .before .before .before .before .before .before .before .args .pool .now)) (c .before .before .before .before .before .start .given .1) (c .before .before .before .before .before .before .before .bound-to .ensures .1) .0
 
--- src/lib.rt:256:34
 normalize-attr-step-part-put-over-end : (t : ℕ) → normalize-attr-step-lts.Need-part-put-over-end (
   stopped-reads.Asked,
   stopped-reads.Learnt,
@@ -950,6 +1246,10 @@ normalize-attr-step-part-put-over-end : (t : ℕ) → normalize-attr-step-lts.Ne
   blank-at-reads.Learnt,
   byte-step-reads.Asked,
   byte-step-reads.Learnt,
+  quick-number-reads.Asked,
+  quick-number-reads.Learnt,
+  char-step-reads.Asked,
+  char-step-reads.Learnt,
   name-end-reads.Asked,
   name-end-reads.Learnt,
   number-step-reads.Asked,
@@ -965,9 +1265,8 @@ normalize-attr-step-part-put-over-end : (t : ℕ) → normalize-attr-step-lts.Ne
   walked-step-reads.Asked,
   walked-step-reads.Learnt,
 ) (normalize-attr-step-at t) normalize-attr-step.Post
-normalize-attr-step-part-put-over-end t c = subst (Lies (c .before .before .before .before .before .before .before .before .before .before .before .before .before .before .before .before .before .before .before .before .args .pool .now)) (c .before .before .before .before .before .start .given .1) (c .before .before .before .before .before .before .before .bound-to .ensures .1) .1
+normalize-attr-step-part-put-over-end t c = subst (Lies (c .before .before .before .before .before .before .before .before .before .before .before .before .before .before .before .before .before .before .before .before .before .args .pool .now)) (c .before .before .before .before .before .start .given .1) (c .before .before .before .before .before .before .before .bound-to .ensures .1) .1
 
--- src/lib.rt:256:17
 normalize-attr-step-put-over-requires : (t : ℕ) → normalize-attr-step-lts.Need-put-over-requires (
   stopped-reads.Asked,
   stopped-reads.Learnt,
@@ -975,6 +1274,10 @@ normalize-attr-step-put-over-requires : (t : ℕ) → normalize-attr-step-lts.Ne
   blank-at-reads.Learnt,
   byte-step-reads.Asked,
   byte-step-reads.Learnt,
+  quick-number-reads.Asked,
+  quick-number-reads.Learnt,
+  char-step-reads.Asked,
+  char-step-reads.Learnt,
   name-end-reads.Asked,
   name-end-reads.Learnt,
   number-step-reads.Asked,
@@ -992,14 +1295,17 @@ normalize-attr-step-put-over-requires : (t : ℕ) → normalize-attr-step-lts.Ne
 ) (normalize-attr-step-at t) normalize-attr-step.Post
 normalize-attr-step-put-over-requires t c κs = tt
 
--- src/lib.rt:258:25
-normalize-attr-step-add-t46 : (t : ℕ) → normalize-attr-step-lts.Need-add-t46 (
+normalize-attr-step-add-t56 : (t : ℕ) → normalize-attr-step-lts.Need-add-t56 (
   stopped-reads.Asked,
   stopped-reads.Learnt,
   blank-at-reads.Asked,
   blank-at-reads.Learnt,
   byte-step-reads.Asked,
   byte-step-reads.Learnt,
+  quick-number-reads.Asked,
+  quick-number-reads.Learnt,
+  char-step-reads.Asked,
+  char-step-reads.Learnt,
   name-end-reads.Asked,
   name-end-reads.Learnt,
   number-step-reads.Asked,
@@ -1015,16 +1321,19 @@ normalize-attr-step-add-t46 : (t : ℕ) → normalize-attr-step-lts.Need-add-t46
   walked-step-reads.Asked,
   walked-step-reads.Learnt,
 ) (normalize-attr-step-at t) normalize-attr-step.Post
-normalize-attr-step-add-t46 t c = omega (arith, c .before .before .before .before .before .before .before .before .before .before .before .before .before .before .before .before .before .before .before .before .before .before .before .before .before .pre .1 .1 .0, c .before .before .before .before .before .before .before .before .before .before .before .before .before .before .before .before .before .name-end .ensures .to)
+normalize-attr-step-add-t56 t c = omega (arith, c .before .before .before .before .before .before .before .before .before .before .before .before .before .before .before .before .before .before .before .before .before .before .before .before .before .before .pre .1 .1 .0, c .before .before .before .before .before .before .before .before .before .before .before .before .before .before .before .before .before .name-end .ensures .to)
 
--- src/lib.rt:259:26
-normalize-attr-step-sub-t51 : (t : ℕ) → normalize-attr-step-lts.Need-sub-t51 (
+normalize-attr-step-sub-t61 : (t : ℕ) → normalize-attr-step-lts.Need-sub-t61 (
   stopped-reads.Asked,
   stopped-reads.Learnt,
   blank-at-reads.Asked,
   blank-at-reads.Learnt,
   byte-step-reads.Asked,
   byte-step-reads.Learnt,
+  quick-number-reads.Asked,
+  quick-number-reads.Learnt,
+  char-step-reads.Asked,
+  char-step-reads.Learnt,
   name-end-reads.Asked,
   name-end-reads.Learnt,
   number-step-reads.Asked,
@@ -1040,16 +1349,19 @@ normalize-attr-step-sub-t51 : (t : ℕ) → normalize-attr-step-lts.Need-sub-t51
   walked-step-reads.Asked,
   walked-step-reads.Learnt,
 ) (normalize-attr-step-at t) normalize-attr-step.Post
-normalize-attr-step-sub-t51 t c = subst (Lies (c .before .before .before .before .before .before .before .before .before .before .before .before .before .before .before .before .before .before .before .before .before .before .before .before .before .args .pool .now)) (c .before .before .before .before .before .before .before .before .before .before .start .given .1) (c .before .before .before .before .before .before .before .before .before .before .before .before .bound-to .ensures .1) .0
+normalize-attr-step-sub-t61 t c = subst (Lies (c .before .before .before .before .before .before .before .before .before .before .before .before .before .before .before .before .before .before .before .before .before .before .before .before .before .before .args .pool .now)) (c .before .before .before .before .before .before .before .before .before .before .start .given .1) (c .before .before .before .before .before .before .before .before .before .before .before .before .bound-to .ensures .1) .0
 
--- src/lib.rt:260:31
-normalize-attr-step-add-t52 : (t : ℕ) → normalize-attr-step-lts.Need-add-t52 (
+normalize-attr-step-add-t62 : (t : ℕ) → normalize-attr-step-lts.Need-add-t62 (
   stopped-reads.Asked,
   stopped-reads.Learnt,
   blank-at-reads.Asked,
   blank-at-reads.Learnt,
   byte-step-reads.Asked,
   byte-step-reads.Learnt,
+  quick-number-reads.Asked,
+  quick-number-reads.Learnt,
+  char-step-reads.Asked,
+  char-step-reads.Learnt,
   name-end-reads.Asked,
   name-end-reads.Learnt,
   number-step-reads.Asked,
@@ -1065,16 +1377,19 @@ normalize-attr-step-add-t52 : (t : ℕ) → normalize-attr-step-lts.Need-add-t52
   walked-step-reads.Asked,
   walked-step-reads.Learnt,
 ) (normalize-attr-step-at t) normalize-attr-step.Post
-normalize-attr-step-add-t52 t c = omega (arith, c .before .before .before .before .before .before .before .before .before .before .before .before .before .before .before .before .before .before .before .before .before .before .before .before .before .pre .1 .1 .1 .1)
+normalize-attr-step-add-t62 t c = omega (arith, c .before .before .before .before .before .before .before .before .before .before .before .before .before .before .before .before .before .before .before .before .before .before .before .before .before .before .pre .1 .1 .1 .1)
 
--- src/lib.rt:257:17
-normalize-attr-step-same-length-3 : (t : ℕ) → normalize-attr-step-lts.Need-same-length-3 (
+normalize-attr-step-same-length-4 : (t : ℕ) → normalize-attr-step-lts.Need-same-length-4 (
   stopped-reads.Asked,
   stopped-reads.Learnt,
   blank-at-reads.Asked,
   blank-at-reads.Learnt,
   byte-step-reads.Asked,
   byte-step-reads.Learnt,
+  quick-number-reads.Asked,
+  quick-number-reads.Learnt,
+  char-step-reads.Asked,
+  char-step-reads.Learnt,
   name-end-reads.Asked,
   name-end-reads.Learnt,
   number-step-reads.Asked,
@@ -1090,19 +1405,22 @@ normalize-attr-step-same-length-3 : (t : ℕ) → normalize-attr-step-lts.Need-s
   walked-step-reads.Asked,
   walked-step-reads.Learnt,
 ) (normalize-attr-step-at t) normalize-attr-step.Post
-normalize-attr-step-same-length-3 t c =
+normalize-attr-step-same-length-4 t c =
     let a = c .before .before .before .before .before .before .before .before .before .before .start .given .0 .0 in
     let z = c .before .before .before .before .before .before .before .before .before .before .start .given .0 .1 .0 in
-    ap length (c .before .before .put-over .ensures) ∙ length-over (take (z - a) (drop a (c .before .before .before .before .before .before .before .before .before .before .before .before .before .before .before .before .before .before .before .before .before .before .before .before .before .args .pool .now))) (c .before .before .before .before .before .before .before .before .before .before .before .before .before .before .before .before .before .before .before .before .before .before .before .before .before .args .out .now)
+    ap length (c .before .before .put-over .ensures) ∙ length-over (take (z - a) (drop a (c .before .before .before .before .before .before .before .before .before .before .before .before .before .before .before .before .before .before .before .before .before .before .before .before .before .before .args .pool .now))) (c .before .before .before .before .before .before .before .before .before .before .before .before .before .before .before .before .before .before .before .before .before .before .before .before .before .before .args .out .now)
 
--- src/lib.rt:257:17
-normalize-attr-step-returns-6 : (t : ℕ) → normalize-attr-step-lts.Need-returns-6 (
+normalize-attr-step-returns-7 : (t : ℕ) → normalize-attr-step-lts.Need-returns-7 (
   stopped-reads.Asked,
   stopped-reads.Learnt,
   blank-at-reads.Asked,
   blank-at-reads.Learnt,
   byte-step-reads.Asked,
   byte-step-reads.Learnt,
+  quick-number-reads.Asked,
+  quick-number-reads.Learnt,
+  char-step-reads.Asked,
+  char-step-reads.Learnt,
   name-end-reads.Asked,
   name-end-reads.Learnt,
   number-step-reads.Asked,
@@ -1118,18 +1436,17 @@ normalize-attr-step-returns-6 : (t : ℕ) → normalize-attr-step-lts.Need-retur
   walked-step-reads.Asked,
   walked-step-reads.Learnt,
 ) (normalize-attr-step-at t) normalize-attr-step.Post
-normalize-attr-step-returns-6 t c =
-    let inside : c .before .before .before .before .before .before .before .before .before .before .before .before .before .before .before .before .before .name-end .result < length (c .before .before .before .before .before .before .before .before .before .before .before .before .before .before .before .before .before .before .before .before .before .before .before .before .before .args .text .now) = (omega (arith, c .before .before .before .before .before .before .before .before .before .before .before .before .before .before .before .before .before .name-end .ensures .to, c .before .before .before .before .before .before .before .before .before .before .before .before .before .before .before .before .if3 .left)) in
+normalize-attr-step-returns-7 t c =
+    let inside : c .before .before .before .before .before .before .before .before .before .before .before .before .before .before .before .before .before .name-end .result < length (c .before .before .before .before .before .before .before .before .before .before .before .before .before .before .before .before .before .before .before .before .before .before .before .before .before .before .args .text .now) = (omega (arith, c .before .before .before .before .before .before .before .before .before .before .before .before .before .before .before .before .before .name-end .ensures .to, c .before .before .before .before .before .before .before .before .before .before .before .before .before .before .before .before .if6 .left)) in
     let a = c .before .before .before .before .before .before .before .before .before .before .start .given .0 .0 in
     let z = c .before .before .before .before .before .before .before .before .before .before .start .given .0 .1 .0 in
-    let lies = subst (Lies (c .before .before .before .before .before .before .before .before .before .before .before .before .before .before .before .before .before .before .before .before .before .before .before .before .before .args .pool .now)) (c .before .before .before .before .before .before .before .before .before .before .start .given .1) (c .before .before .before .before .before .before .before .before .before .before .before .before .bound-to .ensures .1) in
-    let size : length (take (z - a) (drop a (c .before .before .before .before .before .before .before .before .before .before .before .before .before .before .before .before .before .before .before .before .before .before .before .before .before .args .pool .now))) ≡ z - a = length-take-le (z - a) (drop a (c .before .before .before .before .before .before .before .before .before .before .before .before .before .before .before .before .before .before .before .before .before .before .before .before .before .args .pool .now)) (rw length-drop (omega (arith, lies .0, lies .1))) in
-    let room : c .before .before .before .before .before .before .before .before .before .before .before .before .before .before .before .before .before .before .before .before .before .before .before .before .before .args .openings + 1 ≤ c .before .before .before .before .before .before .before .before .before .before .before .before .before .before .before .before .before .before .before .before .before .before .before .before .before .args .limit = omega (arith, c .before .before .before .before .before .before .before .before .if5 .left, c .before .before .before .before .before .before .before .before .before .before .before .before .before .before .before .before .before .before .before .before .before .before .before .before .before .pre .1 .1 .1 .1 .0) in (
-      step-plain (c .before .before .before .before .before .before .before .before .before .before .before .before .before .before .before .before .before .before .before .before .before .before .before .before .before .args .newer) (c .before .before .before .before .before .before .before .before .before .before .before .before .before .before .before .before .before .before .before .before .before .before .before .before .before .args .list .now) (c .before .before .before .before .before .before .before .before .before .before .before .before .before .before .before .before .before .before .before .before .before .before .before .before .before .args .pool .now) (c .before .before .before .before .before .before .before .before .before .before .before .before .before .before .before .before .before .before .before .before .before .before .before .before .before .args .limit) (c .before .before .before .before .before .before .before .before .before .before .before .before .before .before .before .before .before .before .before .before .before .before .before .before .before .args .depth) (c .before .before .before .before .before .before .before .before .before .before .before .before .before .before .before .before .before .before .before .before .before .before .before .before .before .args .text .now) (c .before .before .before .before .before .before .before .before .before .before .before .before .before .before .before .before .before .before .before .before .before .before .before .before .before .args .at) (c .before .before .before .before .before .before .before .before .before .before .before .before .before .before .before .before .before .before .before .before .before .before .before .before .before .args .openings) (c .before .before .before .before .before .before .before .before .before .before .before .before .before .before .before .before .before .before .before .before .if1 .left) (c .before .before .before .before .before .before .before .before .before .before .before .before .before .before .before .before .before .name-end .result) (c .before .before .before .before .before .before .before .before .before .before .before .before .before .before .before .before .before .before .if2 .left) (c .before .before .before .before .before .before .before .before .before .before .before .before .before .before .before .before .before .name-end .ensures) inside (c .before .before .before .before .before .before .before .before .before .before .before .before .before .before .if4 .left) (c .before .before .before .before .before .before .before .before .before .before .before .before .bound-to .result) (c .before .before .before .before .before .before .before .before .before .before .before .before .bound-to .ensures .0) a z (c .before .before .before .before .before .before .before .before .before .before .start .given .1) (c .before .before .before .before .before .before .before .before .if5 .left) (c .before .before .before .before .before .before .is-plain .ensures (c .before .before .before .before .before .if6 .taken)) size (c .before .before .put-over .ensures),
+    let lies = subst (Lies (c .before .before .before .before .before .before .before .before .before .before .before .before .before .before .before .before .before .before .before .before .before .before .before .before .before .before .args .pool .now)) (c .before .before .before .before .before .before .before .before .before .before .start .given .1) (c .before .before .before .before .before .before .before .before .before .before .before .before .bound-to .ensures .1) in
+    let size : length (take (z - a) (drop a (c .before .before .before .before .before .before .before .before .before .before .before .before .before .before .before .before .before .before .before .before .before .before .before .before .before .before .args .pool .now))) ≡ z - a = length-take-le (z - a) (drop a (c .before .before .before .before .before .before .before .before .before .before .before .before .before .before .before .before .before .before .before .before .before .before .before .before .before .before .args .pool .now)) (rw length-drop (omega (arith, lies .0, lies .1))) in
+    let room : c .before .before .before .before .before .before .before .before .before .before .before .before .before .before .before .before .before .before .before .before .before .before .before .before .before .before .args .openings + 1 ≤ c .before .before .before .before .before .before .before .before .before .before .before .before .before .before .before .before .before .before .before .before .before .before .before .before .before .before .args .limit = omega (arith, c .before .before .before .before .before .before .before .before .if8 .left, c .before .before .before .before .before .before .before .before .before .before .before .before .before .before .before .before .before .before .before .before .before .before .before .before .before .before .pre .1 .1 .1 .1 .0) in (
+      step-plain (c .before .before .before .before .before .before .before .before .before .before .before .before .before .before .before .before .before .before .before .before .before .before .before .before .before .before .args .newer) (c .before .before .before .before .before .before .before .before .before .before .before .before .before .before .before .before .before .before .before .before .before .before .before .before .before .before .args .list .now) (c .before .before .before .before .before .before .before .before .before .before .before .before .before .before .before .before .before .before .before .before .before .before .before .before .before .before .args .pool .now) (c .before .before .before .before .before .before .before .before .before .before .before .before .before .before .before .before .before .before .before .before .before .before .before .before .before .before .args .limit) (c .before .before .before .before .before .before .before .before .before .before .before .before .before .before .before .before .before .before .before .before .before .before .before .before .before .before .args .depth) (c .before .before .before .before .before .before .before .before .before .before .before .before .before .before .before .before .before .before .before .before .before .before .before .before .before .before .args .text .now) (c .before .before .before .before .before .before .before .before .before .before .before .before .before .before .before .before .before .before .before .before .before .before .before .before .before .before .args .at) (c .before .before .before .before .before .before .before .before .before .before .before .before .before .before .before .before .before .before .before .before .before .before .before .before .before .before .args .openings) (c .before .before .before .before .before .before .before .before .before .before .before .before .before .before .before .before .before .before .before .before .before .if1 .left) (c .before .before .before .before .before .before .before .before .before .before .before .before .before .before .before .before .before .name-end .result) (c .before .before .before .before .before .before .before .before .before .before .before .before .before .before .before .before .before .before .before .if2 .left) (c .before .before .before .before .before .before .before .before .before .before .before .before .before .before .before .before .before .name-end .ensures) inside (c .before .before .before .before .before .before .before .before .before .before .before .before .before .before .if7 .left) (c .before .before .before .before .before .before .before .before .before .before .before .before .bound-to .result) (c .before .before .before .before .before .before .before .before .before .before .before .before .bound-to .ensures .0) a z (c .before .before .before .before .before .before .before .before .before .before .start .given .1) (c .before .before .before .before .before .before .before .before .if8 .left) (c .before .before .before .before .before .before .is-plain .ensures (c .before .before .before .before .before .if9 .taken)) size (c .before .before .put-over .ensures),
       (omega (arith, c .before .before .before .before .before .before .before .before .before .before .before .before .before .before .before .before .before .name-end .ensures .from), omega (arith, inside), omega arith, room, omega (arith, c .before .before .before .before .before .before .before .before .before .before .before .before .before .before .before .before .before .name-end .ensures .from, lies .0, lies .2)),
     )
 
--- src/lib.rt:264:17
 normalize-attr-step-sub-normalize-attr-steps :
     (t : ℕ) → normalize-attr-step-lts.Need-sub-normalize-attr-steps (
       stopped-reads.Asked,
@@ -1138,6 +1455,10 @@ normalize-attr-step-sub-normalize-attr-steps :
       blank-at-reads.Learnt,
       byte-step-reads.Asked,
       byte-step-reads.Learnt,
+      quick-number-reads.Asked,
+      quick-number-reads.Learnt,
+      char-step-reads.Asked,
+      char-step-reads.Learnt,
       name-end-reads.Asked,
       name-end-reads.Learnt,
       number-step-reads.Asked,
@@ -1153,9 +1474,8 @@ normalize-attr-step-sub-normalize-attr-steps :
       walked-step-reads.Asked,
       walked-step-reads.Learnt,
     ) (normalize-attr-step-at t) normalize-attr-step.Post
-normalize-attr-step-sub-normalize-attr-steps t c = subst (Lies (c .before .before .before .before .before .before .before .before .before .before .before .before .before .before .before .before .before .before .before .before .args .pool .now)) (c .before .before .before .before .before .start .given .1) (c .before .before .before .before .before .before .before .bound-to .ensures .1) .0
+normalize-attr-step-sub-normalize-attr-steps t c = subst (Lies (c .before .before .before .before .before .before .before .before .before .before .before .before .before .before .before .before .before .before .before .before .before .args .pool .now)) (c .before .before .before .before .before .start .given .1) (c .before .before .before .before .before .before .before .bound-to .ensures .1) .0
 
--- src/lib.rt:264:17
 normalize-attr-step-part-normalize-attr-steps-start :
     (t : ℕ) → normalize-attr-step-lts.Need-part-normalize-attr-steps-start (
       stopped-reads.Asked,
@@ -1164,6 +1484,10 @@ normalize-attr-step-part-normalize-attr-steps-start :
       blank-at-reads.Learnt,
       byte-step-reads.Asked,
       byte-step-reads.Learnt,
+      quick-number-reads.Asked,
+      quick-number-reads.Learnt,
+      char-step-reads.Asked,
+      char-step-reads.Learnt,
       name-end-reads.Asked,
       name-end-reads.Learnt,
       number-step-reads.Asked,
@@ -1179,9 +1503,8 @@ normalize-attr-step-part-normalize-attr-steps-start :
       walked-step-reads.Asked,
       walked-step-reads.Learnt,
     ) (normalize-attr-step-at t) normalize-attr-step.Post
-normalize-attr-step-part-normalize-attr-steps-start t c = subst (Lies (c .before .before .before .before .before .before .before .before .before .before .before .before .before .before .before .before .before .before .before .before .args .pool .now)) (c .before .before .before .before .before .start .given .1) (c .before .before .before .before .before .before .before .bound-to .ensures .1) .0
+normalize-attr-step-part-normalize-attr-steps-start t c = subst (Lies (c .before .before .before .before .before .before .before .before .before .before .before .before .before .before .before .before .before .before .before .before .before .args .pool .now)) (c .before .before .before .before .before .start .given .1) (c .before .before .before .before .before .before .before .bound-to .ensures .1) .0
 
--- src/lib.rt:264:17
 normalize-attr-step-part-normalize-attr-steps-end :
     (t : ℕ) → normalize-attr-step-lts.Need-part-normalize-attr-steps-end (
       stopped-reads.Asked,
@@ -1190,6 +1513,10 @@ normalize-attr-step-part-normalize-attr-steps-end :
       blank-at-reads.Learnt,
       byte-step-reads.Asked,
       byte-step-reads.Learnt,
+      quick-number-reads.Asked,
+      quick-number-reads.Learnt,
+      char-step-reads.Asked,
+      char-step-reads.Learnt,
       name-end-reads.Asked,
       name-end-reads.Learnt,
       number-step-reads.Asked,
@@ -1205,9 +1532,8 @@ normalize-attr-step-part-normalize-attr-steps-end :
       walked-step-reads.Asked,
       walked-step-reads.Learnt,
     ) (normalize-attr-step-at t) normalize-attr-step.Post
-normalize-attr-step-part-normalize-attr-steps-end t c = subst (Lies (c .before .before .before .before .before .before .before .before .before .before .before .before .before .before .before .before .before .before .before .before .args .pool .now)) (c .before .before .before .before .before .start .given .1) (c .before .before .before .before .before .before .before .bound-to .ensures .1) .1
+normalize-attr-step-part-normalize-attr-steps-end t c = subst (Lies (c .before .before .before .before .before .before .before .before .before .before .before .before .before .before .before .before .before .before .before .before .before .args .pool .now)) (c .before .before .before .before .before .start .given .1) (c .before .before .before .before .before .before .before .bound-to .ensures .1) .1
 
--- src/lib.rt:266:17
 normalize-attr-step-sub-normalize-attr-steps-2 :
     (t : ℕ) → normalize-attr-step-lts.Need-sub-normalize-attr-steps-2 (
       stopped-reads.Asked,
@@ -1216,6 +1542,10 @@ normalize-attr-step-sub-normalize-attr-steps-2 :
       blank-at-reads.Learnt,
       byte-step-reads.Asked,
       byte-step-reads.Learnt,
+      quick-number-reads.Asked,
+      quick-number-reads.Learnt,
+      char-step-reads.Asked,
+      char-step-reads.Learnt,
       name-end-reads.Asked,
       name-end-reads.Learnt,
       number-step-reads.Asked,
@@ -1231,9 +1561,8 @@ normalize-attr-step-sub-normalize-attr-steps-2 :
       walked-step-reads.Asked,
       walked-step-reads.Learnt,
     ) (normalize-attr-step-at t) normalize-attr-step.Post
-normalize-attr-step-sub-normalize-attr-steps-2 t c = omega (arith, c .before .before .before .before .before .before .before .before .before .before .before .before .before .before .before .before .if1 .left)
+normalize-attr-step-sub-normalize-attr-steps-2 t c = omega (arith, c .before .before .before .before .before .before .before .before .before .before .before .before .before .before .before .before .before .if1 .left)
 
--- src/lib.rt:267:17
 normalize-attr-step-add-normalize-attr-steps :
     (t : ℕ) → normalize-attr-step-lts.Need-add-normalize-attr-steps (
       stopped-reads.Asked,
@@ -1242,6 +1571,10 @@ normalize-attr-step-add-normalize-attr-steps :
       blank-at-reads.Learnt,
       byte-step-reads.Asked,
       byte-step-reads.Learnt,
+      quick-number-reads.Asked,
+      quick-number-reads.Learnt,
+      char-step-reads.Asked,
+      char-step-reads.Learnt,
       name-end-reads.Asked,
       name-end-reads.Learnt,
       number-step-reads.Asked,
@@ -1257,9 +1590,8 @@ normalize-attr-step-add-normalize-attr-steps :
       walked-step-reads.Asked,
       walked-step-reads.Learnt,
     ) (normalize-attr-step-at t) normalize-attr-step.Post
-normalize-attr-step-add-normalize-attr-steps t c = omega (arith, c .before .before .before .before .before .before .before .before .before .before .before .before .before .before .before .before .before .before .before .before .before .pre .1 .1 .1 .1)
+normalize-attr-step-add-normalize-attr-steps t c = omega (arith, c .before .before .before .before .before .before .before .before .before .before .before .before .before .before .before .before .before .before .before .before .before .before .pre .1 .1 .1 .1)
 
--- src/lib.rt:263:17
 normalize-attr-step-normalize-attr-steps-requires :
     (t : ℕ) → normalize-attr-step-lts.Need-normalize-attr-steps-requires (
       stopped-reads.Asked,
@@ -1268,6 +1600,10 @@ normalize-attr-step-normalize-attr-steps-requires :
       blank-at-reads.Learnt,
       byte-step-reads.Asked,
       byte-step-reads.Learnt,
+      quick-number-reads.Asked,
+      quick-number-reads.Learnt,
+      char-step-reads.Asked,
+      char-step-reads.Learnt,
       name-end-reads.Asked,
       name-end-reads.Learnt,
       number-step-reads.Asked,
@@ -1286,13 +1622,12 @@ normalize-attr-step-normalize-attr-steps-requires :
 normalize-attr-step-normalize-attr-steps-requires t c κs =
     let a = c .before .before .before .before .before .before .before .start .given .0 .0 in
     let z = c .before .before .before .before .before .before .before .start .given .0 .1 .0 in
-    let lies = subst (Lies (c .before .before .before .before .before .before .before .before .before .before .before .before .before .before .before .before .before .before .before .before .before .before .args .pool .now)) (c .before .before .before .before .before .before .before .start .given .1) (c .before .before .before .before .before .before .before .before .before .bound-to .ensures .1) in
-    let less : (c .before .before .before .before .before .before .before .before .before .before .before .before .before .before .before .before .before .before .before .before .before .before .args .depth - 1) + (c .before .before .before .before .before .before .before .before .before .before .before .before .before .before .before .before .before .before .before .before .before .before .args .depth - 1) + 1 < t = omega (arith, c .before .before .before .before .before .before .before .before .before .before .before .before .before .before .before .before .before .before .before .before .before .before .pre .0, c .before .before .before .before .before .before .before .before .before .before .before .before .before .before .before .before .before .if1 .left) in
-    let short : length (take (z - a) (drop a (c .before .before .before .before .before .before .before .before .before .before .before .before .before .before .before .before .before .before .before .before .before .before .args .pool .now))) ≤ 16777216 = simp (length-take, length-drop) (omega (arith, lies .2)) in
-    let room : c .before .before .before .before .before .before .before .before .before .before .before .before .before .before .before .before .before .before .before .before .before .before .args .openings + 1 ≤ c .before .before .before .before .before .before .before .before .before .before .before .before .before .before .before .before .before .before .before .before .before .before .args .limit = omega (arith, c .before .before .before .before .before .if5 .left, c .before .before .before .before .before .before .before .before .before .before .before .before .before .before .before .before .before .before .before .before .before .before .pre .1 .1 .1 .1 .0) in
-    (less, (c .before .before .before .before .before .before .before .before .before .before .before .before .before .before .before .before .before .before .before .before .before .before .pre .1 .0, (short, (room, c .before .before .before .before .before .before .before .before .before .before .before .before .before .before .before .before .before .before .before .before .before .before .pre .1 .1 .1 .1 .1))))
+    let lies = subst (Lies (c .before .before .before .before .before .before .before .before .before .before .before .before .before .before .before .before .before .before .before .before .before .before .before .args .pool .now)) (c .before .before .before .before .before .before .before .start .given .1) (c .before .before .before .before .before .before .before .before .before .bound-to .ensures .1) in
+    let less : (c .before .before .before .before .before .before .before .before .before .before .before .before .before .before .before .before .before .before .before .before .before .before .before .args .depth - 1) + (c .before .before .before .before .before .before .before .before .before .before .before .before .before .before .before .before .before .before .before .before .before .before .before .args .depth - 1) + 1 < t = omega (arith, c .before .before .before .before .before .before .before .before .before .before .before .before .before .before .before .before .before .before .before .before .before .before .before .pre .0, c .before .before .before .before .before .before .before .before .before .before .before .before .before .before .before .before .before .before .if1 .left) in
+    let short : length (take (z - a) (drop a (c .before .before .before .before .before .before .before .before .before .before .before .before .before .before .before .before .before .before .before .before .before .before .before .args .pool .now))) ≤ 16777216 = simp (length-take, length-drop) (omega (arith, lies .2)) in
+    let room : c .before .before .before .before .before .before .before .before .before .before .before .before .before .before .before .before .before .before .before .before .before .before .before .args .openings + 1 ≤ c .before .before .before .before .before .before .before .before .before .before .before .before .before .before .before .before .before .before .before .before .before .before .before .args .limit = omega (arith, c .before .before .before .before .before .if8 .left, c .before .before .before .before .before .before .before .before .before .before .before .before .before .before .before .before .before .before .before .before .before .before .before .pre .1 .1 .1 .1 .0) in
+    (less, (c .before .before .before .before .before .before .before .before .before .before .before .before .before .before .before .before .before .before .before .before .before .before .before .pre .1 .0, (short, (room, c .before .before .before .before .before .before .before .before .before .before .before .before .before .before .before .before .before .before .before .before .before .before .before .pre .1 .1 .1 .1 .1))))
 
--- src/lib.rt:273:33
 normalize-attr-step-add-walked-step : (t : ℕ) → normalize-attr-step-lts.Need-add-walked-step (
   stopped-reads.Asked,
   stopped-reads.Learnt,
@@ -1300,6 +1635,10 @@ normalize-attr-step-add-walked-step : (t : ℕ) → normalize-attr-step-lts.Need
   blank-at-reads.Learnt,
   byte-step-reads.Asked,
   byte-step-reads.Learnt,
+  quick-number-reads.Asked,
+  quick-number-reads.Learnt,
+  char-step-reads.Asked,
+  char-step-reads.Learnt,
   name-end-reads.Asked,
   name-end-reads.Learnt,
   number-step-reads.Asked,
@@ -1315,9 +1654,8 @@ normalize-attr-step-add-walked-step : (t : ℕ) → normalize-attr-step-lts.Need
   walked-step-reads.Asked,
   walked-step-reads.Learnt,
 ) (normalize-attr-step-at t) normalize-attr-step.Post
-normalize-attr-step-add-walked-step t c = omega (arith, c .before .before .before .before .before .before .before .before .before .before .before .before .before .before .before .before .before .before .before .before .before .before .before .before .before .pre .1 .1 .0, c .before .before .before .before .before .before .before .before .before .before .before .before .before .before .before .before .before .name-end .ensures .to)
+normalize-attr-step-add-walked-step t c = omega (arith, c .before .before .before .before .before .before .before .before .before .before .before .before .before .before .before .before .before .before .before .before .before .before .before .before .before .before .pre .1 .1 .0, c .before .before .before .before .before .before .before .before .before .before .before .before .before .before .before .before .before .name-end .ensures .to)
 
--- src/lib.rt:273:13
 normalize-attr-step-walked-step-requires :
     (t : ℕ) → normalize-attr-step-lts.Need-walked-step-requires (
       stopped-reads.Asked,
@@ -1326,6 +1664,10 @@ normalize-attr-step-walked-step-requires :
       blank-at-reads.Learnt,
       byte-step-reads.Asked,
       byte-step-reads.Learnt,
+      quick-number-reads.Asked,
+      quick-number-reads.Learnt,
+      char-step-reads.Asked,
+      char-step-reads.Learnt,
       name-end-reads.Asked,
       name-end-reads.Learnt,
       number-step-reads.Asked,
@@ -1343,7 +1685,6 @@ normalize-attr-step-walked-step-requires :
     ) (normalize-attr-step-at t) normalize-attr-step.Post
 normalize-attr-step-walked-step-requires t c κs = tt
 
--- src/lib.rt:275:29
 normalize-attr-step-enum-known-b : (t : ℕ) → normalize-attr-step-lts.Need-enum-known-b (
   stopped-reads.Asked,
   stopped-reads.Learnt,
@@ -1351,6 +1692,10 @@ normalize-attr-step-enum-known-b : (t : ℕ) → normalize-attr-step-lts.Need-en
   blank-at-reads.Learnt,
   byte-step-reads.Asked,
   byte-step-reads.Learnt,
+  quick-number-reads.Asked,
+  quick-number-reads.Learnt,
+  char-step-reads.Asked,
+  char-step-reads.Learnt,
   name-end-reads.Asked,
   name-end-reads.Learnt,
   number-step-reads.Asked,
@@ -1368,7 +1713,6 @@ normalize-attr-step-enum-known-b : (t : ℕ) → normalize-attr-step-lts.Need-en
 ) (normalize-attr-step-at t) normalize-attr-step.Post
 normalize-attr-step-enum-known-b t c = search needs
 
--- src/lib.rt:275:48
 normalize-attr-step-add-byte-step-2 : (t : ℕ) → normalize-attr-step-lts.Need-add-byte-step-2 (
   stopped-reads.Asked,
   stopped-reads.Learnt,
@@ -1376,6 +1720,10 @@ normalize-attr-step-add-byte-step-2 : (t : ℕ) → normalize-attr-step-lts.Need
   blank-at-reads.Learnt,
   byte-step-reads.Asked,
   byte-step-reads.Learnt,
+  quick-number-reads.Asked,
+  quick-number-reads.Learnt,
+  char-step-reads.Asked,
+  char-step-reads.Learnt,
   name-end-reads.Asked,
   name-end-reads.Learnt,
   number-step-reads.Asked,
@@ -1391,9 +1739,8 @@ normalize-attr-step-add-byte-step-2 : (t : ℕ) → normalize-attr-step-lts.Need
   walked-step-reads.Asked,
   walked-step-reads.Learnt,
 ) (normalize-attr-step-at t) normalize-attr-step.Post
-normalize-attr-step-add-byte-step-2 t c = omega (arith, c .before .before .before .before .before .before .before .before .before .before .before .before .before .before .before .before .pre .1 .1 .0, c .before .before .before .before .before .before .before .before .name-end .ensures .to)
+normalize-attr-step-add-byte-step-2 t c = omega (arith, c .before .before .before .before .before .before .before .before .before .before .before .before .before .before .before .before .before .pre .1 .1 .0, c .before .before .before .before .before .before .before .before .name-end .ensures .to)
 
--- src/lib.rt:275:35
 normalize-attr-step-byte-step-requires-2 :
     (t : ℕ) → normalize-attr-step-lts.Need-byte-step-requires-2 (
       stopped-reads.Asked,
@@ -1402,6 +1749,10 @@ normalize-attr-step-byte-step-requires-2 :
       blank-at-reads.Learnt,
       byte-step-reads.Asked,
       byte-step-reads.Learnt,
+      quick-number-reads.Asked,
+      quick-number-reads.Learnt,
+      char-step-reads.Asked,
+      char-step-reads.Learnt,
       name-end-reads.Asked,
       name-end-reads.Learnt,
       number-step-reads.Asked,
@@ -1419,7 +1770,6 @@ normalize-attr-step-byte-step-requires-2 :
     ) (normalize-attr-step-at t) normalize-attr-step.Post
 normalize-attr-step-byte-step-requires-2 t c κs = tt
 
--- src/lib.rt:276:29
 normalize-attr-step-enum-told : (t : ℕ) → normalize-attr-step-lts.Need-enum-told (
   stopped-reads.Asked,
   stopped-reads.Learnt,
@@ -1427,6 +1777,10 @@ normalize-attr-step-enum-told : (t : ℕ) → normalize-attr-step-lts.Need-enum-
   blank-at-reads.Learnt,
   byte-step-reads.Asked,
   byte-step-reads.Learnt,
+  quick-number-reads.Asked,
+  quick-number-reads.Learnt,
+  char-step-reads.Asked,
+  char-step-reads.Learnt,
   name-end-reads.Asked,
   name-end-reads.Learnt,
   number-step-reads.Asked,
@@ -1444,7 +1798,6 @@ normalize-attr-step-enum-told : (t : ℕ) → normalize-attr-step-lts.Need-enum-
 ) (normalize-attr-step-at t) normalize-attr-step.Post
 normalize-attr-step-enum-told t c = search needs
 
--- src/lib.rt:276:29
 normalize-attr-step-stopped-requires-4 : (t : ℕ) → normalize-attr-step-lts.Need-stopped-requires-4 (
   stopped-reads.Asked,
   stopped-reads.Learnt,
@@ -1452,6 +1805,10 @@ normalize-attr-step-stopped-requires-4 : (t : ℕ) → normalize-attr-step-lts.N
   blank-at-reads.Learnt,
   byte-step-reads.Asked,
   byte-step-reads.Learnt,
+  quick-number-reads.Asked,
+  quick-number-reads.Learnt,
+  char-step-reads.Asked,
+  char-step-reads.Learnt,
   name-end-reads.Asked,
   name-end-reads.Learnt,
   number-step-reads.Asked,
@@ -1469,65 +1826,6 @@ normalize-attr-step-stopped-requires-4 : (t : ℕ) → normalize-attr-step-lts.N
 ) (normalize-attr-step-at t) normalize-attr-step.Post
 normalize-attr-step-stopped-requires-4 t c κs = tt
 
--- src/lib.rt:217:1
-normalize-attr-step-same-length-4 : (t : ℕ) → normalize-attr-step-lts.Need-same-length-4 (
-  stopped-reads.Asked,
-  stopped-reads.Learnt,
-  blank-at-reads.Asked,
-  blank-at-reads.Learnt,
-  byte-step-reads.Asked,
-  byte-step-reads.Learnt,
-  name-end-reads.Asked,
-  name-end-reads.Learnt,
-  number-step-reads.Asked,
-  number-step-reads.Learnt,
-  bound-to-reads.Asked,
-  bound-to-reads.Learnt,
-  is-plain-reads.Asked,
-  is-plain-reads.Learnt,
-  put-over-reads.Asked,
-  put-over-reads.Learnt,
-  normalize-attr-steps-below t,
-  normalize-attr-steps.Post,
-  walked-step-reads.Asked,
-  walked-step-reads.Learnt,
-) (normalize-attr-step-at t) normalize-attr-step.Post
-normalize-attr-step-same-length-4 t c = walked-length (c .before .before .before .normalize-attr-steps .ensures .0)
-
--- src/lib.rt:217:1
-normalize-attr-step-returns-7 : (t : ℕ) → normalize-attr-step-lts.Need-returns-7 (
-  stopped-reads.Asked,
-  stopped-reads.Learnt,
-  blank-at-reads.Asked,
-  blank-at-reads.Learnt,
-  byte-step-reads.Asked,
-  byte-step-reads.Learnt,
-  name-end-reads.Asked,
-  name-end-reads.Learnt,
-  number-step-reads.Asked,
-  number-step-reads.Learnt,
-  bound-to-reads.Asked,
-  bound-to-reads.Learnt,
-  is-plain-reads.Asked,
-  is-plain-reads.Learnt,
-  put-over-reads.Asked,
-  put-over-reads.Learnt,
-  normalize-attr-steps-below t,
-  normalize-attr-steps.Post,
-  walked-step-reads.Asked,
-  walked-step-reads.Learnt,
-) (normalize-attr-step-at t) normalize-attr-step.Post
-normalize-attr-step-returns-7 t c =
-    let inside : c .before .before .before .before .before .before .before .before .before .before .before .before .before .before .before .before .before .before .name-end .result < length (c .before .before .before .before .before .before .before .before .before .before .before .before .before .before .before .before .before .before .before .before .before .before .before .before .before .before .args .text .now) = (omega (arith, c .before .before .before .before .before .before .before .before .before .before .before .before .before .before .before .before .before .before .name-end .ensures .to, c .before .before .before .before .before .before .before .before .before .before .before .before .before .before .before .before .before .if3 .left)) in
-    let a = c .before .before .before .before .before .before .before .before .before .before .before .start .given .0 .0 in
-    let z = c .before .before .before .before .before .before .before .before .before .before .before .start .given .0 .1 .0 in
-    let lies = subst (Lies (c .before .before .before .before .before .before .before .before .before .before .before .before .before .before .before .before .before .before .before .before .before .before .before .before .before .before .args .pool .now)) (c .before .before .before .before .before .before .before .before .before .before .before .start .given .1) (c .before .before .before .before .before .before .before .before .before .before .before .before .before .bound-to .ensures .1) in
-    let size : length (take (z - a) (drop a (c .before .before .before .before .before .before .before .before .before .before .before .before .before .before .before .before .before .before .before .before .before .before .before .before .before .before .args .pool .now))) ≡ z - a = length-take-le (z - a) (drop a (c .before .before .before .before .before .before .before .before .before .before .before .before .before .before .before .before .before .before .before .before .before .before .before .before .before .before .args .pool .now)) (rw length-drop (omega (arith, lies .0, lies .1))) in (
-      step-text (c .before .before .before .before .before .before .before .before .before .before .before .before .before .before .before .before .before .before .before .before .before .before .before .before .before .before .args .newer) (c .before .before .before .before .before .before .before .before .before .before .before .before .before .before .before .before .before .before .before .before .before .before .before .before .before .before .args .list .now) (c .before .before .before .before .before .before .before .before .before .before .before .before .before .before .before .before .before .before .before .before .before .before .before .before .before .before .args .pool .now) (c .before .before .before .before .before .before .before .before .before .before .before .before .before .before .before .before .before .before .before .before .before .before .before .before .before .before .args .limit) (c .before .before .before .before .before .before .before .before .before .before .before .before .before .before .before .before .before .before .before .before .before .before .before .before .before .before .args .depth) (c .before .before .before .before .before .before .before .before .before .before .before .before .before .before .before .before .before .before .before .before .before .before .before .before .before .before .args .text .now) (c .before .before .before .before .before .before .before .before .before .before .before .before .before .before .before .before .before .before .before .before .before .before .before .before .before .before .args .at) (c .before .before .before .before .before .before .before .before .before .before .before .before .before .before .before .before .before .before .before .before .before .before .before .before .before .before .args .openings) (c .before .before .before .before .before .before .before .before .before .before .before .before .before .before .before .before .before .before .before .before .before .if1 .left) (c .before .before .before .before .before .before .before .before .before .before .before .before .before .before .before .before .before .before .name-end .result) (c .before .before .before .before .before .before .before .before .before .before .before .before .before .before .before .before .before .before .before .if2 .left) (c .before .before .before .before .before .before .before .before .before .before .before .before .before .before .before .before .before .before .name-end .ensures) inside (c .before .before .before .before .before .before .before .before .before .before .before .before .before .before .before .if4 .left) (c .before .before .before .before .before .before .before .before .before .before .before .before .before .bound-to .result) (c .before .before .before .before .before .before .before .before .before .before .before .before .before .bound-to .ensures .0) a z (c .before .before .before .before .before .before .before .before .before .before .before .start .given .1) (c .before .before .before .before .before .before .before .before .before .if5 .left) (c .before .before .before .normalize-attr-steps .ensures .0) (c .walked-step .ensures),
-      counted-walked (length (c .before .before .before .before .before .before .before .before .before .before .before .before .before .before .before .before .before .before .before .before .before .before .before .before .before .before .args .text .now)) (c .before .before .before .before .before .before .before .before .before .before .before .before .before .before .before .before .before .before .before .before .before .before .before .before .before .before .args .at) (c .before .before .before .before .before .before .before .before .before .before .before .before .before .before .before .before .before .before .before .before .before .before .before .before .before .before .args .openings) (c .before .before .before .before .before .before .before .before .before .before .before .before .before .before .before .before .before .before .before .before .before .before .before .before .before .before .args .limit) (c .before .before .before .before .before .before .before .before .before .before .before .before .before .before .before .before .before .before .name-end .result) a z (c .before .before .before .normalize-attr-steps .result) (omega (arith, c .before .before .before .before .before .before .before .before .before .before .before .before .before .before .before .before .before .before .name-end .ensures .from)) inside (lies .0) (lies .2) (subst (λ (k : ℕ). Counted k (c .before .before .before .before .before .before .before .before .before .before .before .before .before .before .before .before .before .before .before .before .before .before .before .before .before .before .args .openings + 1) (c .before .before .before .before .before .before .before .before .before .before .before .before .before .before .before .before .before .before .before .before .before .before .before .before .before .before .args .limit) (c .before .before .before .normalize-attr-steps .result)) size (c .before .before .before .normalize-attr-steps .ensures .1)) (c .walked-step .ensures),
-    )
-
--- src/lib.rt:217:1
 normalize-attr-step-same-length-5 : (t : ℕ) → normalize-attr-step-lts.Need-same-length-5 (
   stopped-reads.Asked,
   stopped-reads.Learnt,
@@ -1535,6 +1833,10 @@ normalize-attr-step-same-length-5 : (t : ℕ) → normalize-attr-step-lts.Need-s
   blank-at-reads.Learnt,
   byte-step-reads.Asked,
   byte-step-reads.Learnt,
+  quick-number-reads.Asked,
+  quick-number-reads.Learnt,
+  char-step-reads.Asked,
+  char-step-reads.Learnt,
   name-end-reads.Asked,
   name-end-reads.Learnt,
   number-step-reads.Asked,
@@ -1550,9 +1852,8 @@ normalize-attr-step-same-length-5 : (t : ℕ) → normalize-attr-step-lts.Need-s
   walked-step-reads.Asked,
   walked-step-reads.Learnt,
 ) (normalize-attr-step-at t) normalize-attr-step.Post
-normalize-attr-step-same-length-5 t c = stepped-length (c .before .before .byte-step2 .ensures)
+normalize-attr-step-same-length-5 t c = walked-length (c .before .before .before .normalize-attr-steps .ensures .0)
 
--- src/lib.rt:217:1
 normalize-attr-step-returns-8 : (t : ℕ) → normalize-attr-step-lts.Need-returns-8 (
   stopped-reads.Asked,
   stopped-reads.Learnt,
@@ -1560,6 +1861,10 @@ normalize-attr-step-returns-8 : (t : ℕ) → normalize-attr-step-lts.Need-retur
   blank-at-reads.Learnt,
   byte-step-reads.Asked,
   byte-step-reads.Learnt,
+  quick-number-reads.Asked,
+  quick-number-reads.Learnt,
+  char-step-reads.Asked,
+  char-step-reads.Learnt,
   name-end-reads.Asked,
   name-end-reads.Learnt,
   number-step-reads.Asked,
@@ -1576,17 +1881,26 @@ normalize-attr-step-returns-8 : (t : ℕ) → normalize-attr-step-lts.Need-retur
   walked-step-reads.Learnt,
 ) (normalize-attr-step-at t) normalize-attr-step.Post
 normalize-attr-step-returns-8 t c =
-    let inside : c .before .before .before .before .before .before .before .before .before .before .before .before .name-end .result < length (c .before .before .before .before .before .before .before .before .before .before .before .before .before .before .before .before .before .before .before .before .args .text .now) = (omega (arith, c .before .before .before .before .before .before .before .before .before .before .before .before .name-end .ensures .to, c .before .before .before .before .before .before .before .before .before .before .before .if3 .left)) in
-    (step-predefined (c .before .before .before .before .before .before .before .before .before .before .before .before .before .before .before .before .before .before .before .before .args .newer) (c .before .before .before .before .before .before .before .before .before .before .before .before .before .before .before .before .before .before .before .before .args .list .now) (c .before .before .before .before .before .before .before .before .before .before .before .before .before .before .before .before .before .before .before .before .args .pool .now) (c .before .before .before .before .before .before .before .before .before .before .before .before .before .before .before .before .before .before .before .before .args .limit) (c .before .before .before .before .before .before .before .before .before .before .before .before .before .before .before .before .before .before .before .before .args .depth) (c .before .before .before .before .before .before .before .before .before .before .before .before .before .before .before .before .before .before .before .before .args .text .now) (c .before .before .before .before .before .before .before .before .before .before .before .before .before .before .before .before .before .before .before .before .args .at) (c .before .before .before .before .before .before .before .before .before .before .before .before .before .before .before .before .before .before .before .before .args .openings) (c .before .before .before .before .before .before .before .before .before .before .before .before .before .before .before .if1 .left) (c .before .before .before .before .before .before .before .before .before .before .before .before .name-end .result) (c .before .before .before .before .before .before .before .before .before .before .before .before .before .if2 .left) (c .before .before .before .before .before .before .before .before .before .before .before .before .name-end .ensures) inside (c .before .before .before .before .before .before .before .before .before .if4 .left) (c .before .before .before .before .before .before .before .bound-to .result) (c .before .before .before .before .before .before .before .bound-to .ensures .0) (c .before .before .before .before .before .b .given .0 .0) (c .before .before .before .before .before .b .given .1) (c .before .before .byte-step2 .ensures), rw (c .before .before .byte-step2 .ensures .answers) (omega (arith, c .before .before .before .before .before .before .before .before .before .before .before .before .name-end .ensures .from), omega (arith, inside), omega arith, c .before .before .before .before .before .before .before .before .before .before .before .before .before .before .before .before .before .before .before .before .pre .1 .1 .1 .1 .0, omega (arith, c .before .before .before .before .before .before .before .before .before .before .before .before .name-end .ensures .from)))
+    let inside : c .before .before .before .before .before .before .before .before .before .before .before .before .before .before .before .before .before .before .name-end .result < length (c .before .before .before .before .before .before .before .before .before .before .before .before .before .before .before .before .before .before .before .before .before .before .before .before .before .before .before .args .text .now) = (omega (arith, c .before .before .before .before .before .before .before .before .before .before .before .before .before .before .before .before .before .before .name-end .ensures .to, c .before .before .before .before .before .before .before .before .before .before .before .before .before .before .before .before .before .if6 .left)) in
+    let a = c .before .before .before .before .before .before .before .before .before .before .before .start .given .0 .0 in
+    let z = c .before .before .before .before .before .before .before .before .before .before .before .start .given .0 .1 .0 in
+    let lies = subst (Lies (c .before .before .before .before .before .before .before .before .before .before .before .before .before .before .before .before .before .before .before .before .before .before .before .before .before .before .before .args .pool .now)) (c .before .before .before .before .before .before .before .before .before .before .before .start .given .1) (c .before .before .before .before .before .before .before .before .before .before .before .before .before .bound-to .ensures .1) in
+    let size : length (take (z - a) (drop a (c .before .before .before .before .before .before .before .before .before .before .before .before .before .before .before .before .before .before .before .before .before .before .before .before .before .before .before .args .pool .now))) ≡ z - a = length-take-le (z - a) (drop a (c .before .before .before .before .before .before .before .before .before .before .before .before .before .before .before .before .before .before .before .before .before .before .before .before .before .before .before .args .pool .now)) (rw length-drop (omega (arith, lies .0, lies .1))) in (
+      step-text (c .before .before .before .before .before .before .before .before .before .before .before .before .before .before .before .before .before .before .before .before .before .before .before .before .before .before .before .args .newer) (c .before .before .before .before .before .before .before .before .before .before .before .before .before .before .before .before .before .before .before .before .before .before .before .before .before .before .before .args .list .now) (c .before .before .before .before .before .before .before .before .before .before .before .before .before .before .before .before .before .before .before .before .before .before .before .before .before .before .before .args .pool .now) (c .before .before .before .before .before .before .before .before .before .before .before .before .before .before .before .before .before .before .before .before .before .before .before .before .before .before .before .args .limit) (c .before .before .before .before .before .before .before .before .before .before .before .before .before .before .before .before .before .before .before .before .before .before .before .before .before .before .before .args .depth) (c .before .before .before .before .before .before .before .before .before .before .before .before .before .before .before .before .before .before .before .before .before .before .before .before .before .before .before .args .text .now) (c .before .before .before .before .before .before .before .before .before .before .before .before .before .before .before .before .before .before .before .before .before .before .before .before .before .before .before .args .at) (c .before .before .before .before .before .before .before .before .before .before .before .before .before .before .before .before .before .before .before .before .before .before .before .before .before .before .before .args .openings) (c .before .before .before .before .before .before .before .before .before .before .before .before .before .before .before .before .before .before .before .before .before .before .if1 .left) (c .before .before .before .before .before .before .before .before .before .before .before .before .before .before .before .before .before .before .name-end .result) (c .before .before .before .before .before .before .before .before .before .before .before .before .before .before .before .before .before .before .before .before .if2 .left) (c .before .before .before .before .before .before .before .before .before .before .before .before .before .before .before .before .before .before .name-end .ensures) inside (c .before .before .before .before .before .before .before .before .before .before .before .before .before .before .before .if7 .left) (c .before .before .before .before .before .before .before .before .before .before .before .before .before .bound-to .result) (c .before .before .before .before .before .before .before .before .before .before .before .before .before .bound-to .ensures .0) a z (c .before .before .before .before .before .before .before .before .before .before .before .start .given .1) (c .before .before .before .before .before .before .before .before .before .if8 .left) (c .before .before .before .normalize-attr-steps .ensures .0) (c .walked-step .ensures),
+      counted-walked (length (c .before .before .before .before .before .before .before .before .before .before .before .before .before .before .before .before .before .before .before .before .before .before .before .before .before .before .before .args .text .now)) (c .before .before .before .before .before .before .before .before .before .before .before .before .before .before .before .before .before .before .before .before .before .before .before .before .before .before .before .args .at) (c .before .before .before .before .before .before .before .before .before .before .before .before .before .before .before .before .before .before .before .before .before .before .before .before .before .before .before .args .openings) (c .before .before .before .before .before .before .before .before .before .before .before .before .before .before .before .before .before .before .before .before .before .before .before .before .before .before .before .args .limit) (c .before .before .before .before .before .before .before .before .before .before .before .before .before .before .before .before .before .before .name-end .result) a z (c .before .before .before .normalize-attr-steps .result) (omega (arith, c .before .before .before .before .before .before .before .before .before .before .before .before .before .before .before .before .before .before .name-end .ensures .from)) inside (lies .0) (lies .2) (subst (λ (k : ℕ). Counted k (c .before .before .before .before .before .before .before .before .before .before .before .before .before .before .before .before .before .before .before .before .before .before .before .before .before .before .before .args .openings + 1) (c .before .before .before .before .before .before .before .before .before .before .before .before .before .before .before .before .before .before .before .before .before .before .before .before .before .before .before .args .limit) (c .before .before .before .normalize-attr-steps .result)) size (c .before .before .before .normalize-attr-steps .ensures .1)) (c .walked-step .ensures),
+    )
 
--- src/lib.rt:217:1
-normalize-attr-step-returns-9 : (t : ℕ) → normalize-attr-step-lts.Need-returns-9 (
+normalize-attr-step-same-length-6 : (t : ℕ) → normalize-attr-step-lts.Need-same-length-6 (
   stopped-reads.Asked,
   stopped-reads.Learnt,
   blank-at-reads.Asked,
   blank-at-reads.Learnt,
   byte-step-reads.Asked,
   byte-step-reads.Learnt,
+  quick-number-reads.Asked,
+  quick-number-reads.Learnt,
+  char-step-reads.Asked,
+  char-step-reads.Learnt,
   name-end-reads.Asked,
   name-end-reads.Learnt,
   number-step-reads.Asked,
@@ -1602,7 +1916,65 @@ normalize-attr-step-returns-9 : (t : ℕ) → normalize-attr-step-lts.Need-retur
   walked-step-reads.Asked,
   walked-step-reads.Learnt,
 ) (normalize-attr-step-at t) normalize-attr-step.Post
-normalize-attr-step-returns-9 t c = (step-unknown (c .before .before .before .before .before .before .before .before .before .before .before .before .before .before .before .before .args .newer) (c .before .before .before .before .before .before .before .before .before .before .before .before .before .before .before .before .args .list .now) (c .before .before .before .before .before .before .before .before .before .before .before .before .before .before .before .before .args .pool .now) (c .before .before .before .before .before .before .before .before .before .before .before .before .before .before .before .before .args .limit) (c .before .before .before .before .before .before .before .before .before .before .before .before .before .before .before .before .args .depth) (c .before .before .before .before .before .before .before .before .before .before .before .before .before .before .before .before .args .text .now) (c .before .before .before .before .before .before .before .before .before .before .before .before .before .before .before .before .args .at) (c .before .before .before .before .before .before .before .before .before .before .before .before .before .before .before .before .args .openings) (c .before .before .before .before .before .before .before .before .before .before .before .if1 .left) (c .before .before .before .before .before .before .before .before .name-end .result) (c .before .before .before .before .before .before .before .before .before .if2 .left) (c .before .before .before .before .before .before .before .before .name-end .ensures) (omega (arith, c .before .before .before .before .before .before .before .before .name-end .ensures .to, c .before .before .before .before .before .before .before .if3 .left)) (c .before .before .before .before .before .if4 .left) (c .before .before .before .bound-to .result) (c .before .before .before .bound-to .ensures .0) (c .before .enum-told .given .1) (c .stopped4 .ensures), rw (c .stopped4 .ensures) tt)
+normalize-attr-step-same-length-6 t c = stepped-length (c .before .before .byte-step2 .ensures)
+
+normalize-attr-step-returns-9 : (t : ℕ) → normalize-attr-step-lts.Need-returns-9 (
+  stopped-reads.Asked,
+  stopped-reads.Learnt,
+  blank-at-reads.Asked,
+  blank-at-reads.Learnt,
+  byte-step-reads.Asked,
+  byte-step-reads.Learnt,
+  quick-number-reads.Asked,
+  quick-number-reads.Learnt,
+  char-step-reads.Asked,
+  char-step-reads.Learnt,
+  name-end-reads.Asked,
+  name-end-reads.Learnt,
+  number-step-reads.Asked,
+  number-step-reads.Learnt,
+  bound-to-reads.Asked,
+  bound-to-reads.Learnt,
+  is-plain-reads.Asked,
+  is-plain-reads.Learnt,
+  put-over-reads.Asked,
+  put-over-reads.Learnt,
+  normalize-attr-steps-below t,
+  normalize-attr-steps.Post,
+  walked-step-reads.Asked,
+  walked-step-reads.Learnt,
+) (normalize-attr-step-at t) normalize-attr-step.Post
+normalize-attr-step-returns-9 t c =
+    let inside : c .before .before .before .before .before .before .before .before .before .before .before .before .name-end .result < length (c .before .before .before .before .before .before .before .before .before .before .before .before .before .before .before .before .before .before .before .before .before .args .text .now) = (omega (arith, c .before .before .before .before .before .before .before .before .before .before .before .before .name-end .ensures .to, c .before .before .before .before .before .before .before .before .before .before .before .if6 .left)) in
+    (step-predefined (c .before .before .before .before .before .before .before .before .before .before .before .before .before .before .before .before .before .before .before .before .before .args .newer) (c .before .before .before .before .before .before .before .before .before .before .before .before .before .before .before .before .before .before .before .before .before .args .list .now) (c .before .before .before .before .before .before .before .before .before .before .before .before .before .before .before .before .before .before .before .before .before .args .pool .now) (c .before .before .before .before .before .before .before .before .before .before .before .before .before .before .before .before .before .before .before .before .before .args .limit) (c .before .before .before .before .before .before .before .before .before .before .before .before .before .before .before .before .before .before .before .before .before .args .depth) (c .before .before .before .before .before .before .before .before .before .before .before .before .before .before .before .before .before .before .before .before .before .args .text .now) (c .before .before .before .before .before .before .before .before .before .before .before .before .before .before .before .before .before .before .before .before .before .args .at) (c .before .before .before .before .before .before .before .before .before .before .before .before .before .before .before .before .before .before .before .before .before .args .openings) (c .before .before .before .before .before .before .before .before .before .before .before .before .before .before .before .before .if1 .left) (c .before .before .before .before .before .before .before .before .before .before .before .before .name-end .result) (c .before .before .before .before .before .before .before .before .before .before .before .before .before .before .if2 .left) (c .before .before .before .before .before .before .before .before .before .before .before .before .name-end .ensures) inside (c .before .before .before .before .before .before .before .before .before .if7 .left) (c .before .before .before .before .before .before .before .bound-to .result) (c .before .before .before .before .before .before .before .bound-to .ensures .0) (c .before .before .before .before .before .b .given .0 .0) (c .before .before .before .before .before .b .given .1) (c .before .before .byte-step2 .ensures), rw (c .before .before .byte-step2 .ensures .answers) (omega (arith, c .before .before .before .before .before .before .before .before .before .before .before .before .name-end .ensures .from), omega (arith, inside), omega arith, c .before .before .before .before .before .before .before .before .before .before .before .before .before .before .before .before .before .before .before .before .before .pre .1 .1 .1 .1 .0, omega (arith, c .before .before .before .before .before .before .before .before .before .before .before .before .name-end .ensures .from)))
+
+normalize-attr-step-returns-10 : (t : ℕ) → normalize-attr-step-lts.Need-returns-10 (
+  stopped-reads.Asked,
+  stopped-reads.Learnt,
+  blank-at-reads.Asked,
+  blank-at-reads.Learnt,
+  byte-step-reads.Asked,
+  byte-step-reads.Learnt,
+  quick-number-reads.Asked,
+  quick-number-reads.Learnt,
+  char-step-reads.Asked,
+  char-step-reads.Learnt,
+  name-end-reads.Asked,
+  name-end-reads.Learnt,
+  number-step-reads.Asked,
+  number-step-reads.Learnt,
+  bound-to-reads.Asked,
+  bound-to-reads.Learnt,
+  is-plain-reads.Asked,
+  is-plain-reads.Learnt,
+  put-over-reads.Asked,
+  put-over-reads.Learnt,
+  normalize-attr-steps-below t,
+  normalize-attr-steps.Post,
+  walked-step-reads.Asked,
+  walked-step-reads.Learnt,
+) (normalize-attr-step-at t) normalize-attr-step.Post
+normalize-attr-step-returns-10 t c = (step-unknown (c .before .before .before .before .before .before .before .before .before .before .before .before .before .before .before .before .before .args .newer) (c .before .before .before .before .before .before .before .before .before .before .before .before .before .before .before .before .before .args .list .now) (c .before .before .before .before .before .before .before .before .before .before .before .before .before .before .before .before .before .args .pool .now) (c .before .before .before .before .before .before .before .before .before .before .before .before .before .before .before .before .before .args .limit) (c .before .before .before .before .before .before .before .before .before .before .before .before .before .before .before .before .before .args .depth) (c .before .before .before .before .before .before .before .before .before .before .before .before .before .before .before .before .before .args .text .now) (c .before .before .before .before .before .before .before .before .before .before .before .before .before .before .before .before .before .args .at) (c .before .before .before .before .before .before .before .before .before .before .before .before .before .before .before .before .before .args .openings) (c .before .before .before .before .before .before .before .before .before .before .before .before .if1 .left) (c .before .before .before .before .before .before .before .before .name-end .result) (c .before .before .before .before .before .before .before .before .before .before .if2 .left) (c .before .before .before .before .before .before .before .before .name-end .ensures) (omega (arith, c .before .before .before .before .before .before .before .before .name-end .ensures .to, c .before .before .before .before .before .before .before .if6 .left)) (c .before .before .before .before .before .if7 .left) (c .before .before .before .bound-to .result) (c .before .before .before .bound-to .ensures .0) (c .before .enum-told .given .1) (c .stopped4 .ensures), rw (c .stopped4 .ensures) tt)
 
 abbrev normalize-attr-steps-Inv-loop : normalize-attr-steps-lts.InvT-loop
 normalize-attr-steps-Inv-loop text newer depth openings limit list pool out₀ at₀ len₀ made₀ out at len made = Progress (attributeHead (ruleFor newer)) (stopAnswer (readingOf (ruleFor newer) list pool limit) depth) text openings out₀ out at len made × (openings ≤ made) × (made ≤ limit) × (len + 262140 * openings ≤ 4 * at + 262140 * made)
@@ -1610,7 +1982,6 @@ normalize-attr-steps-Inv-loop text newer depth openings limit list pool out₀ a
 abbrev normalize-attr-steps-μ-loop : normalize-attr-steps-lts.MeasureT-loop
 normalize-attr-steps-μ-loop text newer depth openings limit list pool out₀ at₀ len₀ made₀ out at len made = length text - at
 
--- src/lib.rt:300:5
 normalize-attr-steps-loop-holds : (t : ℕ) → normalize-attr-steps-lts.Need-loop-holds (
   run-end-reads.Asked,
   run-end-reads.Learnt,
@@ -1627,7 +1998,6 @@ normalize-attr-steps-loop-holds : (t : ℕ) → normalize-attr-steps-lts.Need-lo
     normalize-attr-steps-μ-loop
 normalize-attr-steps-loop-holds t c = (progress-start (attributeHead (ruleFor (c .before .before .before .before .args .newer))) (stopAnswer (readingOf (ruleFor (c .before .before .before .before .args .newer)) (c .before .before .before .before .args .list .now) (c .before .before .before .before .args .pool .now) (c .before .before .before .before .args .limit)) (c .before .before .before .before .args .depth)) (c .before .before .before .before .args .text .now) (c .before .before .before .before .args .openings) (c .before .before .before .before .args .out .now), omega arith, c .before .before .before .before .pre .1 .1 .1 .0, omega arith)
 
--- src/lib.rt:301:13
 normalize-attr-steps-run-end-requires : (t : ℕ) → normalize-attr-steps-lts.Need-run-end-requires (
   run-end-reads.Asked,
   run-end-reads.Learnt,
@@ -1644,7 +2014,6 @@ normalize-attr-steps-run-end-requires : (t : ℕ) → normalize-attr-steps-lts.N
     normalize-attr-steps-μ-loop
 normalize-attr-steps-run-end-requires t c κs = c .loop .inv .0 .inside
 
--- src/lib.rt:302:13
 normalize-attr-steps-least-requires : (t : ℕ) → normalize-attr-steps-lts.Need-least-requires (
   run-end-reads.Asked,
   run-end-reads.Learnt,
@@ -1661,7 +2030,6 @@ normalize-attr-steps-least-requires : (t : ℕ) → normalize-attr-steps-lts.Nee
     normalize-attr-steps-μ-loop
 normalize-attr-steps-least-requires t c κs = tt
 
--- src/lib.rt:303:26
 normalize-attr-steps-sub-put-over : (t : ℕ) → normalize-attr-steps-lts.Need-sub-put-over (
   run-end-reads.Asked,
   run-end-reads.Learnt,
@@ -1678,7 +2046,6 @@ normalize-attr-steps-sub-put-over : (t : ℕ) → normalize-attr-steps-lts.Need-
     normalize-attr-steps-μ-loop
 normalize-attr-steps-sub-put-over t c = c .before .run-end .ensures .run .from
 
--- src/lib.rt:303:26
 normalize-attr-steps-part-put-over-start :
     (t : ℕ) → normalize-attr-steps-lts.Need-part-put-over-start (
       run-end-reads.Asked,
@@ -1696,7 +2063,6 @@ normalize-attr-steps-part-put-over-start :
     normalize-attr-steps-μ-loop
 normalize-attr-steps-part-put-over-start t c = c .before .run-end .ensures .run .from
 
--- src/lib.rt:303:26
 normalize-attr-steps-part-put-over-end : (t : ℕ) → normalize-attr-steps-lts.Need-part-put-over-end (
   run-end-reads.Asked,
   run-end-reads.Learnt,
@@ -1713,7 +2079,6 @@ normalize-attr-steps-part-put-over-end : (t : ℕ) → normalize-attr-steps-lts.
     normalize-attr-steps-μ-loop
 normalize-attr-steps-part-put-over-end t c = c .before .run-end .ensures .run .to
 
--- src/lib.rt:303:42
 normalize-attr-steps-sub-put-over-2 : (t : ℕ) → normalize-attr-steps-lts.Need-sub-put-over-2 (
   run-end-reads.Asked,
   run-end-reads.Learnt,
@@ -1730,7 +2095,6 @@ normalize-attr-steps-sub-put-over-2 : (t : ℕ) → normalize-attr-steps-lts.Nee
     normalize-attr-steps-μ-loop
 normalize-attr-steps-sub-put-over-2 t c = omega (arith, c .before .least .ensures)
 
--- src/lib.rt:303:42
 normalize-attr-steps-part-put-over-start-2 :
     (t : ℕ) → normalize-attr-steps-lts.Need-part-put-over-start-2 (
       run-end-reads.Asked,
@@ -1748,7 +2112,6 @@ normalize-attr-steps-part-put-over-start-2 :
     normalize-attr-steps-μ-loop
 normalize-attr-steps-part-put-over-start-2 t c = omega (arith, c .before .least .ensures)
 
--- src/lib.rt:303:42
 normalize-attr-steps-part-put-over-end-2 :
     (t : ℕ) → normalize-attr-steps-lts.Need-part-put-over-end-2 (
       run-end-reads.Asked,
@@ -1766,7 +2129,6 @@ normalize-attr-steps-part-put-over-end-2 :
     normalize-attr-steps-μ-loop
 normalize-attr-steps-part-put-over-end-2 t c = search needs
 
--- src/lib.rt:303:9
 normalize-attr-steps-put-over-requires : (t : ℕ) → normalize-attr-steps-lts.Need-put-over-requires (
   run-end-reads.Asked,
   run-end-reads.Learnt,
@@ -1783,7 +2145,6 @@ normalize-attr-steps-put-over-requires : (t : ℕ) → normalize-attr-steps-lts.
     normalize-attr-steps-μ-loop
 normalize-attr-steps-put-over-requires t c κs = tt
 
--- src/lib.rt:304:16
 normalize-attr-steps-sub-len : (t : ℕ) → normalize-attr-steps-lts.Need-sub-len (
   run-end-reads.Asked,
   run-end-reads.Learnt,
@@ -1800,7 +2161,6 @@ normalize-attr-steps-sub-len : (t : ℕ) → normalize-attr-steps-lts.Need-sub-l
     normalize-attr-steps-μ-loop
 normalize-attr-steps-sub-len t c = c .before .before .before .before .before .before .run-end .ensures .run .from
 
--- src/lib.rt:304:9
 normalize-attr-steps-add-len : (t : ℕ) → normalize-attr-steps-lts.Need-add-len (
   run-end-reads.Asked,
   run-end-reads.Learnt,
@@ -1817,7 +2177,6 @@ normalize-attr-steps-add-len : (t : ℕ) → normalize-attr-steps-lts.Need-add-l
     normalize-attr-steps-μ-loop
 normalize-attr-steps-add-len t c = omega (arith, c .before .before .before .before .before .before .before .loop .inv .1, c .before .before .before .before .before .before .before .loop .inv .2, c .before .before .before .before .before .before .before .loop .inv .3, c .before .before .before .before .before .before .before .before .before .before .before .before .pre .1 .1 .0, c .before .before .before .before .before .before .before .before .before .before .before .before .pre .1 .1 .1, c .before .before .before .before .before .before .run-end .ensures .run .from, c .before .before .before .before .before .before .run-end .ensures .run .to)
 
--- src/lib.rt:306:13
 normalize-attr-steps-same-length : (t : ℕ) → normalize-attr-steps-lts.Need-same-length (
   run-end-reads.Asked,
   run-end-reads.Learnt,
@@ -1834,7 +2193,6 @@ normalize-attr-steps-same-length : (t : ℕ) → normalize-attr-steps-lts.Need-s
     normalize-attr-steps-μ-loop
 normalize-attr-steps-same-length t c = progress-length (attributeHead (ruleFor (c .before .before .before .before .before .before .before .before .before .before .before .before .before .args .newer))) (stopAnswer (readingOf (ruleFor (c .before .before .before .before .before .before .before .before .before .before .before .before .before .args .newer)) (c .before .before .before .before .before .before .before .before .before .before .before .before .before .args .list .now) (c .before .before .before .before .before .before .before .before .before .before .before .before .before .args .pool .now) (c .before .before .before .before .before .before .before .before .before .before .before .before .before .args .limit)) (c .before .before .before .before .before .before .before .before .before .before .before .before .before .args .depth)) (c .before .before .before .before .before .before .before .before .before .before .before .before .before .args .text .now) (c .before .before .before .before .before .before .before .before .before .before .before .before .before .args .openings) (c .before .before .before .before .before .before .before .before .before .before .before .before .before .args .out .now) (progress-run (attributeHead (ruleFor (c .before .before .before .before .before .before .before .before .before .before .before .before .before .args .newer))) (stopAnswer (readingOf (ruleFor (c .before .before .before .before .before .before .before .before .before .before .before .before .before .args .newer)) (c .before .before .before .before .before .before .before .before .before .before .before .before .before .args .list .now) (c .before .before .before .before .before .before .before .before .before .before .before .before .before .args .pool .now) (c .before .before .before .before .before .before .before .before .before .before .before .before .before .args .limit)) (c .before .before .before .before .before .before .before .before .before .before .before .before .before .args .depth)) (c .before .before .before .before .before .before .before .before .before .before .before .before .before .args .text .now) (c .before .before .before .before .before .before .before .before .before .before .before .before .before .args .openings) (c .before .before .before .before .before .before .before .before .before .before .before .before .before .args .out .now) (c .before .before .before .before .before .before .before .before .loop .inv .0) (c .before .before .before .before .before .before .least .ensures) (stopByte (c .before .before .before .before .before .before .before .before .before .before .before .before .before .args .newer)) (copies (c .before .before .before .before .before .before .before .before .before .before .before .before .before .args .newer)) (c .before .before .before .before .before .before .before .run-end .ensures .run) (c .before .before .before .put-over .ensures))
 
--- src/lib.rt:306:13
 normalize-attr-steps-returns : (t : ℕ) → normalize-attr-steps-lts.Need-returns (
   run-end-reads.Asked,
   run-end-reads.Learnt,
@@ -1854,7 +2212,6 @@ normalize-attr-steps-returns t c = (
   (c .before .before .before .before .before .before .before .before .loop .inv .1, c .before .before .before .before .before .before .before .before .loop .inv .2, omega (arith, c .before .before .before .before .before .before .before .before .loop .inv .3, c .before .before .before .before .before .before .before .run-end .ensures .run .from, c .if1 .taken)),
 )
 
--- src/lib.rt:311:13
 normalize-attr-steps-least-requires-2 : (t : ℕ) → normalize-attr-steps-lts.Need-least-requires-2 (
   run-end-reads.Asked,
   run-end-reads.Learnt,
@@ -1871,7 +2228,6 @@ normalize-attr-steps-least-requires-2 : (t : ℕ) → normalize-attr-steps-lts.N
     normalize-attr-steps-μ-loop
 normalize-attr-steps-least-requires-2 t c κs = tt
 
--- src/lib.rt:321:13
 normalize-attr-steps-sub-normalize-attr-step :
     (t : ℕ) → normalize-attr-steps-lts.Need-sub-normalize-attr-step (
       run-end-reads.Asked,
@@ -1889,7 +2245,6 @@ normalize-attr-steps-sub-normalize-attr-step :
     normalize-attr-steps-μ-loop
 normalize-attr-steps-sub-normalize-attr-step t c = omega (arith, c .least2 .ensures)
 
--- src/lib.rt:321:13
 normalize-attr-steps-part-normalize-attr-step-start :
     (t : ℕ) → normalize-attr-steps-lts.Need-part-normalize-attr-step-start (
       run-end-reads.Asked,
@@ -1907,7 +2262,6 @@ normalize-attr-steps-part-normalize-attr-step-start :
     normalize-attr-steps-μ-loop
 normalize-attr-steps-part-normalize-attr-step-start t c = omega (arith, c .least2 .ensures)
 
--- src/lib.rt:321:13
 normalize-attr-steps-part-normalize-attr-step-end :
     (t : ℕ) → normalize-attr-steps-lts.Need-part-normalize-attr-step-end (
       run-end-reads.Asked,
@@ -1925,7 +2279,6 @@ normalize-attr-steps-part-normalize-attr-step-end :
     normalize-attr-steps-μ-loop
 normalize-attr-steps-part-normalize-attr-step-end t c = search needs
 
--- src/lib.rt:312:15
 normalize-attr-steps-normalize-attr-step-requires :
     (t : ℕ) → normalize-attr-steps-lts.Need-normalize-attr-step-requires (
       run-end-reads.Asked,
@@ -1946,7 +2299,6 @@ normalize-attr-steps-normalize-attr-step-requires t c κs =
     let here : c .before .before .before .before .before .before .before .before .before .run-end .result < length (c .before .before .before .before .before .before .before .before .before .before .before .before .before .before .before .args .text .now) = omega (arith, c .before .before .before .before .before .before .before .before .before .run-end .ensures .run .to, c .before .before .if1 .left) in
     (less, (c .before .before .before .before .before .before .before .before .before .before .before .before .before .before .before .pre .1 .0, ((here, c .before .before .before .before .before .before .before .before .before .before .before .before .before .before .before .pre .1 .1 .0), (c .before .before .before .before .before .before .before .before .before .run-end .ensures .ends here, (c .before .before .before .before .before .before .before .before .before .before .loop .inv .2, c .before .before .before .before .before .before .before .before .before .before .before .before .before .before .before .pre .1 .1 .1 .1)))))
 
--- src/lib.rt:324:21
 normalize-attr-steps-enum-known-next : (t : ℕ) → normalize-attr-steps-lts.Need-enum-known-next (
   run-end-reads.Asked,
   run-end-reads.Learnt,
@@ -1963,7 +2315,6 @@ normalize-attr-steps-enum-known-next : (t : ℕ) → normalize-attr-steps-lts.Ne
     normalize-attr-steps-μ-loop
 normalize-attr-steps-enum-known-next t c = search needs
 
--- src/lib.rt:329:17
 normalize-attr-steps-add-len-2 : (t : ℕ) → normalize-attr-steps-lts.Need-add-len-2 (
   run-end-reads.Asked,
   run-end-reads.Learnt,
@@ -1982,7 +2333,6 @@ normalize-attr-steps-add-len-2 t c =
     let k = subst (CountedStep (length (c .before .before .before .before .before .before .before .before .before .before .before .before .before .before .before .before .before .before .before .before .before .args .text .now)) (c .before .before .before .before .before .before .before .before .before .before .before .before .before .before .before .run-end .result) (c .before .before .before .before .before .before .before .before .before .before .before .before .before .before .before .before .loop .made) (c .before .before .before .before .before .before .before .before .before .before .before .before .before .before .before .before .before .before .before .before .before .args .limit)) (c .before .next .given .1) (c .before .before .before .before .before .normalize-attr-step .ensures .1) in
     omega (arith, c .before .before .before .before .before .before .before .before .before .before .before .before .before .before .before .before .loop .inv .1, c .before .before .before .before .before .before .before .before .before .before .before .before .before .before .before .before .loop .inv .2, c .before .before .before .before .before .before .before .before .before .before .before .before .before .before .before .before .loop .inv .3, k .1, k .2, k .3, k .4, c .before .before .before .before .before .before .before .before .before .before .before .before .before .before .before .before .before .before .before .before .before .pre .1 .1 .0, c .before .before .before .before .before .before .before .before .before .before .before .before .before .before .before .before .before .before .before .before .before .pre .1 .1 .1, c .before .before .before .before .before .before .before .before .before .before .before .before .before .before .before .run-end .ensures .run .from)
 
--- src/lib.rt:300:5
 normalize-attr-steps-loop-less : (t : ℕ) → normalize-attr-steps-lts.Need-loop-less (
   run-end-reads.Asked,
   run-end-reads.Learnt,
@@ -2001,7 +2351,6 @@ normalize-attr-steps-loop-less t c =
     let k = subst (CountedStep (length (c .before .before .before .before .before .before .before .before .before .before .before .before .before .before .before .before .before .before .before .before .before .args .text .now)) (c .before .before .before .before .before .before .before .before .before .before .before .before .before .before .before .run-end .result) (c .before .before .before .before .before .before .before .before .before .before .before .before .before .before .before .before .loop .made) (c .before .before .before .before .before .before .before .before .before .before .before .before .before .before .before .before .before .before .before .before .before .args .limit)) (c .before .next .given .1) (c .before .before .before .before .before .normalize-attr-step .ensures .1) in
     omega (arith, k .0, k .1, c .before .before .before .before .before .before .before .before .before .before .before .before .before .before .before .run-end .ensures .run .from)
 
--- src/lib.rt:300:5
 normalize-attr-steps-loop-again : (t : ℕ) → normalize-attr-steps-lts.Need-loop-again (
   run-end-reads.Asked,
   run-end-reads.Learnt,
@@ -2024,7 +2373,6 @@ normalize-attr-steps-loop-again t c =
       omega (arith, c .before .before .before .before .before .before .before .before .before .before .before .before .before .before .before .before .loop .inv .3, k .4, c .before .before .before .before .before .before .before .before .before .before .before .before .before .before .before .run-end .ensures .run .from),
     )
 
--- src/lib.rt:333:17
 normalize-attr-steps-enum-known-number : (t : ℕ) → normalize-attr-steps-lts.Need-enum-known-number (
   run-end-reads.Asked,
   run-end-reads.Learnt,
@@ -2041,7 +2389,6 @@ normalize-attr-steps-enum-known-number : (t : ℕ) → normalize-attr-steps-lts.
     normalize-attr-steps-μ-loop
 normalize-attr-steps-enum-known-number t c = search needs
 
--- src/lib.rt:337:17
 normalize-attr-steps-same-length-2 : (t : ℕ) → normalize-attr-steps-lts.Need-same-length-2 (
   run-end-reads.Asked,
   run-end-reads.Learnt,
@@ -2059,7 +2406,6 @@ normalize-attr-steps-same-length-2 : (t : ℕ) → normalize-attr-steps-lts.Need
 normalize-attr-steps-same-length-2 t c =
     walked-length (progress-refused (attributeHead (ruleFor (c .before .before .before .before .before .before .before .before .before .before .before .before .before .before .before .before .before .before .before .before .before .args .newer))) (stopAnswer (readingOf (ruleFor (c .before .before .before .before .before .before .before .before .before .before .before .before .before .before .before .before .before .before .before .before .before .args .newer)) (c .before .before .before .before .before .before .before .before .before .before .before .before .before .before .before .before .before .before .before .before .before .args .list .now) (c .before .before .before .before .before .before .before .before .before .before .before .before .before .before .before .before .before .before .before .before .before .args .pool .now) (c .before .before .before .before .before .before .before .before .before .before .before .before .before .before .before .before .before .before .before .before .before .args .limit)) (c .before .before .before .before .before .before .before .before .before .before .before .before .before .before .before .before .before .before .before .before .before .args .depth)) (c .before .before .before .before .before .before .before .before .before .before .before .before .before .before .before .before .before .before .before .before .before .args .text .now) (c .before .before .before .before .before .before .before .before .before .before .before .before .before .before .before .before .before .before .before .before .before .args .openings) (c .before .before .before .before .before .before .before .before .before .before .before .before .before .before .before .before .before .before .before .before .before .args .out .now) (progress-run (attributeHead (ruleFor (c .before .before .before .before .before .before .before .before .before .before .before .before .before .before .before .before .before .before .before .before .before .args .newer))) (stopAnswer (readingOf (ruleFor (c .before .before .before .before .before .before .before .before .before .before .before .before .before .before .before .before .before .before .before .before .before .args .newer)) (c .before .before .before .before .before .before .before .before .before .before .before .before .before .before .before .before .before .before .before .before .before .args .list .now) (c .before .before .before .before .before .before .before .before .before .before .before .before .before .before .before .before .before .before .before .before .before .args .pool .now) (c .before .before .before .before .before .before .before .before .before .before .before .before .before .before .before .before .before .before .before .before .before .args .limit)) (c .before .before .before .before .before .before .before .before .before .before .before .before .before .before .before .before .before .before .before .before .before .args .depth)) (c .before .before .before .before .before .before .before .before .before .before .before .before .before .before .before .before .before .before .before .before .before .args .text .now) (c .before .before .before .before .before .before .before .before .before .before .before .before .before .before .before .before .before .before .before .before .before .args .openings) (c .before .before .before .before .before .before .before .before .before .before .before .before .before .before .before .before .before .before .before .before .before .args .out .now) (c .before .before .before .before .before .before .before .before .before .before .before .before .before .before .before .before .loop .inv .0) (c .before .before .before .before .before .before .before .before .before .before .before .before .before .before .least .ensures) (stopByte (c .before .before .before .before .before .before .before .before .before .before .before .before .before .before .before .before .before .before .before .before .before .args .newer)) (copies (c .before .before .before .before .before .before .before .before .before .before .before .before .before .before .before .before .before .before .before .before .before .args .newer)) (c .before .before .before .before .before .before .before .before .before .before .before .before .before .before .before .run-end .ensures .run) (c .before .before .before .before .before .before .before .before .before .before .before .put-over .ensures)) (c .before .before .before .before .before .before .before .least2 .ensures) (omega (arith, c .before .before .before .before .before .before .before .before .before .before .before .before .before .before .before .run-end .ensures .run .to, c .before .before .before .before .before .before .before .before .if1 .left)) (stepped-told (c .before .number .given .1) (c .before .before .before .before .before .normalize-attr-step .ensures .0)))
 
--- src/lib.rt:337:17
 normalize-attr-steps-returns-2 : (t : ℕ) → normalize-attr-steps-lts.Need-returns-2 (
   run-end-reads.Asked,
   run-end-reads.Learnt,
@@ -2086,6 +2432,10 @@ pub +normalize-attr-step+normalize-attr-steps-spec : {M : Type 1} → statement 
       blank-at-reads.Learnt,
       byte-step-reads.Asked,
       byte-step-reads.Learnt,
+      quick-number-reads.Asked,
+      quick-number-reads.Learnt,
+      char-step-reads.Asked,
+      char-step-reads.Learnt,
       name-end-reads.Asked,
       name-end-reads.Learnt,
       number-step-reads.Asked,
@@ -2112,25 +2462,32 @@ pub +normalize-attr-step+normalize-attr-steps-spec : {M : Type 1} → statement 
     (normalize-attr-step-same-length t)
     (normalize-attr-step-returns-2 t)
     (normalize-attr-step-add-from t)
+    (normalize-attr-step-shared-slice-read-if4 t)
+    (normalize-attr-step-add-quick-number t)
+    (normalize-attr-step-quick-number-requires t)
+    (normalize-attr-step-add-char-step t)
+    (normalize-attr-step-char-step-requires t)
+    (normalize-attr-step-same-length-2 t)
+    (normalize-attr-step-returns-3 t)
     (normalize-attr-step-name-end-requires t)
     (normalize-attr-step-stopped-requires-2 t)
-    (normalize-attr-step-returns-3 t)
-    (normalize-attr-step-shared-slice-read-if4 t)
+    (normalize-attr-step-returns-4 t)
+    (normalize-attr-step-shared-slice-read-if7 t)
     (normalize-attr-step-add-number-step t)
     (normalize-attr-step-sub-number-step t)
     (normalize-attr-step-part-number-step-start t)
     (normalize-attr-step-part-number-step-end t)
     (normalize-attr-step-add-number-step-2 t)
     (normalize-attr-step-number-step-requires t)
-    (normalize-attr-step-same-length-2 t)
-    (normalize-attr-step-returns-4 t)
+    (normalize-attr-step-same-length-3 t)
+    (normalize-attr-step-returns-5 t)
     (normalize-attr-step-sub-bound-to t)
     (normalize-attr-step-part-bound-to-start t)
     (normalize-attr-step-part-bound-to-end t)
     (normalize-attr-step-bound-to-requires t)
     (normalize-attr-step-enum-known-start t)
     (normalize-attr-step-stopped-requires-3 t)
-    (normalize-attr-step-returns-5 t)
+    (normalize-attr-step-returns-6 t)
     (normalize-attr-step-sub-is-plain t)
     (normalize-attr-step-part-is-plain-start t)
     (normalize-attr-step-part-is-plain-end t)
@@ -2139,11 +2496,11 @@ pub +normalize-attr-step+normalize-attr-steps-spec : {M : Type 1} → statement 
     (normalize-attr-step-part-put-over-start t)
     (normalize-attr-step-part-put-over-end t)
     (normalize-attr-step-put-over-requires t)
-    (normalize-attr-step-add-t46 t)
-    (normalize-attr-step-sub-t51 t)
-    (normalize-attr-step-add-t52 t)
-    (normalize-attr-step-same-length-3 t)
-    (normalize-attr-step-returns-6 t)
+    (normalize-attr-step-add-t56 t)
+    (normalize-attr-step-sub-t61 t)
+    (normalize-attr-step-add-t62 t)
+    (normalize-attr-step-same-length-4 t)
+    (normalize-attr-step-returns-7 t)
     (normalize-attr-step-sub-normalize-attr-steps t)
     (normalize-attr-step-part-normalize-attr-steps-start t)
     (normalize-attr-step-part-normalize-attr-steps-end t)
@@ -2157,11 +2514,11 @@ pub +normalize-attr-step+normalize-attr-steps-spec : {M : Type 1} → statement 
     (normalize-attr-step-byte-step-requires-2 t)
     (normalize-attr-step-enum-told t)
     (normalize-attr-step-stopped-requires-4 t)
-    (normalize-attr-step-same-length-4 t)
-    (normalize-attr-step-returns-7 t)
     (normalize-attr-step-same-length-5 t)
     (normalize-attr-step-returns-8 t)
-    (normalize-attr-step-returns-9 t))
+    (normalize-attr-step-same-length-6 t)
+    (normalize-attr-step-returns-9 t)
+    (normalize-attr-step-returns-10 t))
     λ t. normalize-attr-steps-lts.spec (
       run-end-reads.Asked,
       run-end-reads.Learnt,
