@@ -1,3 +1,4 @@
+pub mod Search
 pub mod Stops
 pub mod Turns
 pub mod Unescaped

@@ -11,7 +11,7 @@ ghost use Rattle.tokens.specs.Outcome.{finished};
 ghost use Rattle.output.specs.Runs.{Plain};
 ghost use Rattle.tokens.specs.Walking.{RunEnd, Walked};
 ghost use Rattle.unescape.specs.Unescape.{unescape};
-ghost use Rattle.unescape.specs.Steps.{isAmp, Named, Referred};
+ghost use Rattle.unescape.specs.Steps.{isAmp, Within, Named, Referred};
 use entity::Binding;
 use text::Answer;
 use tokens::Step;
@@ -43,27 +43,26 @@ fn amp_blocks(text: &[u8], from: usize, size: usize) -> usize
     i
 }
 
-// Passes bytes that are no `&`, at once where the next one is near.
-fn amp_skip(text: &[u8], from: usize) -> usize
-    requires { ⌜ from ≤ length (now text) ⌝ }
-    ensures { λ r. ⌜ Plain isAmp (now (text .entry)) from r ⌝ }
+// The next `&` among the eight bytes from `from` on, else the place after them.
+fn near_amp(text: &[u8], from: usize) -> usize
+    requires { ⌜ from + 8 ≤ length (now text) ⌝ }
+    ensures { λ r. ⌜ Within isAmp (now (text .entry)) from 8 r ⌝ }
 {
-    if text.len() - from < 8 {
-        return from;
+    for k in 0..8usize {
+        if text[from + k] == b'&' {
+            return from + k;
+        }
     }
-    if any_amp(text, from, 8) {
-        return from;
-    }
-    let block = amp_blocks(text, from, 32);
-    amp_blocks(text, block, 8)
+    from + 8
 }
 
-// The next `&` from `from` on, or the text's end.
-fn amp_end(text: &[u8], from: usize) -> usize
+// The next `&` from `from` on, or the text's end, by blocks.
+fn far_amp(text: &[u8], from: usize) -> usize
     requires { ⌜ from ≤ length (now text) ⌝ }
     ensures { λ r. ⌜ RunEnd isAmp (now (text .entry)) from r ⌝ }
 {
-    let mut i = amp_skip(text, from);
+    let block = amp_blocks(text, from, 32);
+    let mut i = amp_blocks(text, block, 8);
     while i < text.len() {
         if text[i] == b'&' {
             return i;
@@ -71,6 +70,21 @@ fn amp_end(text: &[u8], from: usize) -> usize
         i += 1;
     }
     i
+}
+
+// The same. A `&` is often near, and a test of a block tells only that there is one.
+fn amp_end(text: &[u8], from: usize) -> usize
+    requires { ⌜ from ≤ length (now text) ⌝ }
+    ensures { λ r. ⌜ RunEnd isAmp (now (text .entry)) from r ⌝ }
+{
+    if text.len() - from < 8 {
+        return far_amp(text, from);
+    }
+    let near = near_amp(text, from);
+    if near < from + 8 {
+        return near;
+    }
+    far_amp(text, near)
 }
 
 // The name whose `&` is at i is looked up; a text of the table is copied as a part of the pool.

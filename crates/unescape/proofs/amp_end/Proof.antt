@@ -1,55 +1,42 @@
-use Prim.Native.Nat.{_-_}
-use native.Mathlib.Omega.{arith}
-use lib.ListN.{length}
-use borrow.Author.Tests.{eq-eqb, ne-eqb}
-use Rattle.output.specs.Runs.{Plain}
-use Rattle.output.proofs.Runs.{plain-byte, plain-join}
 use Rattle.unescape.specs.Steps.{isAmp}
+use Rattle.unescape.proofs.Search.{end-near, end-far}
 use borrow.Author.Needs.{needs}
 use Rattle.unescape.proofs.amp_end.Statement.{statement}
 use Rattle.unescape.proofs.amp_end.Tie as tie
 
-abbrev Inv-loop : tie.InvT-loop
-Inv-loop text from i₀ i = Plain isAmp text from i
+sub-if1 : tie.Need-sub-if1
+sub-if1 c = search needs
 
-abbrev μ-loop : tie.MeasureT-loop
-μ-loop text from i₀ i = length text - i
+far-amp-requires : tie.Need-far-amp-requires
+far-amp-requires c κs = search needs
 
-amp-skip-requires : tie.Need-amp-skip-requires Inv-loop μ-loop
-amp-skip-requires c κs = c .before .pre
+returns : tie.Need-returns
+returns c = search needs
 
-loop-holds : tie.Need-loop-holds Inv-loop μ-loop
-loop-holds c = c .amp-skip .ensures
+near-amp-requires : tie.Need-near-amp-requires
+near-amp-requires c κs = search needs
 
-shared-slice-read-if1 : tie.Need-shared-slice-read-if1 Inv-loop μ-loop
-shared-slice-read-if1 c = search needs
+add-if2 : tie.Need-add-if2
+add-if2 c = search needs
 
-returns : tie.Need-returns Inv-loop μ-loop
-returns c = record { run = c .before .before .before .loop .inv; ends = λ h. eq-eqb _ 38 (c .if1 .taken) }
+returns-2 : tie.Need-returns-2
+returns-2 c = end-near isAmp (c .before .before .before .before .args .text .now) (c .before .before .before .before .args .from) (c .before .near-amp .ensures) (c .if2 .taken)
 
-add-i : tie.Need-add-i Inv-loop μ-loop
-add-i c = search needs
+far-amp-requires-2 : tie.Need-far-amp-requires-2
+far-amp-requires-2 c κs = search needs
 
-loop-less : tie.Need-loop-less Inv-loop μ-loop
-loop-less c = search needs
-
-loop-again : tie.Need-loop-again Inv-loop μ-loop
-loop-again c = plain-join isAmp (c .before .before .before .before .before .before .args .text .now) (c .before .before .before .before .before .before .args .from) (c .before .before .before .loop .i) _ (c .before .before .before .loop .inv) (plain-byte isAmp (c .before .before .before .before .before .before .args .text .now) (c .before .before .before .loop .i) (c .before .before .loop-test .taken) (ne-eqb _ 38 (c .if1 .left)))
-
-returns-2 : tie.Need-returns-2 Inv-loop μ-loop
-returns-2 c = record { run = c .before .loop .inv; ends = λ h. absurd (omega (arith, c .loop-test .left)) }
+returns-3 : tie.Need-returns-3
+returns-3 c = end-far isAmp (c .before .before .before .before .before .args .text .now) (c .before .before .before .before .before .args .from) (c .before .before .near-amp .ensures) (c .far-amp2 .ensures)
 
 pub amp-end-spec : {M : Type 1} → statement M
 amp-end-spec =
     tie.close
     (tie.spec
-    Inv-loop
-    μ-loop
-    amp-skip-requires
-    loop-holds
-    shared-slice-read-if1
+    sub-if1
+    far-amp-requires
     returns
-    add-i
-    loop-less
-    loop-again
-    returns-2)
+    near-amp-requires
+    add-if2
+    returns-2
+    far-amp-requires-2
+    returns-3)

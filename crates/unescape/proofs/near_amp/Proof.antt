@@ -1,0 +1,68 @@
+use Prim.Native.Nat.{_+_, _-_, _≤_}
+use native.Mathlib.Omega.{arith}
+use mathlib.Core.Path.{_≡_}
+use borrow.Author.Tests.{eq-eqb, ne-eqb}
+use borrow.Author.Needs.{needs}
+use Rattle.output.specs.Runs.{Plain}
+use Rattle.output.proofs.Runs.{plain-none}
+use Rattle.unescape.specs.Steps.{isAmp}
+use Rattle.unescape.proofs.Search.{plain-next, within-here, within-none}
+use Rattle.unescape.proofs.near_amp.Statement.{statement}
+use Rattle.unescape.proofs.near_amp.Tie as tie
+
+abbrev Inv-loop : tie.InvT-loop
+Inv-loop text from k₀ k = (k ≤ 8) × Plain isAmp text from (from + k)
+
+abbrev μ-loop : tie.MeasureT-loop
+μ-loop text from k₀ k = 8 - k
+
+loop-holds : tie.Need-loop-holds Inv-loop μ-loop
+loop-holds c =
+    let q : c .args .from + 0 ≡ c .args .from = omega arith in
+    (search needs, rw q (plain-none isAmp (c .args .text .now) (c .args .from) (omega (arith, c .pre))))
+
+add-if1 : tie.Need-add-if1 Inv-loop μ-loop
+add-if1 c = search needs
+
+shared-slice-read-if1 : tie.Need-shared-slice-read-if1 Inv-loop μ-loop
+shared-slice-read-if1 c = search needs
+
+add-result : tie.Need-add-result Inv-loop μ-loop
+add-result c = search needs
+
+returns : tie.Need-returns Inv-loop μ-loop
+returns c = within-here isAmp (c .before .before .before .before .args .text .now) (c .before .before .before .before .args .from) 8 (c .before .before .before .loop .k) (c .before .before .loop-test .taken) (c .before .before .before .loop .inv .1) (eq-eqb _ 38 (c .if1 .taken))
+
+add-k : tie.Need-add-k Inv-loop μ-loop
+add-k c = search needs
+
+loop-less : tie.Need-loop-less Inv-loop μ-loop
+loop-less c = search needs
+
+loop-again : tie.Need-loop-again Inv-loop μ-loop
+loop-again c = (search needs, plain-next isAmp (c .before .before .before .before .args .text .now) (c .before .before .before .before .args .from) (c .before .before .before .loop .k) (omega (arith, c .before .before .before .before .pre, c .before .before .loop-test .taken)) (c .before .before .before .loop .inv .1) (ne-eqb _ 38 (c .if1 .left)))
+
+add-result-2 : tie.Need-add-result-2 Inv-loop μ-loop
+add-result-2 c = search needs
+
+returns-2 : tie.Need-returns-2 Inv-loop μ-loop
+returns-2 c =
+    let q : c .before .loop .k ≡ 8 = omega (arith, c .before .loop .inv .0, c .loop-test .left) in
+    within-none isAmp (c .before .before .args .text .now) (c .before .before .args .from) 8 (rw q at (c .before .loop .inv .1))
+
+pub near-amp-spec : {M : Type 1} → statement M
+near-amp-spec =
+    tie.close
+    (tie.spec
+    Inv-loop
+    μ-loop
+    loop-holds
+    add-if1
+    shared-slice-read-if1
+    add-result
+    returns
+    add-k
+    loop-less
+    loop-again
+    add-result-2
+    returns-2)
