@@ -1,4 +1,5 @@
 pub mod Search
+pub mod Puts
 pub mod Stops
 pub mod Turns
 pub mod Unescaped

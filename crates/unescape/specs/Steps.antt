@@ -1,11 +1,12 @@
 -- The terms in which unescaping is proved: its stop test, and what one step gives and how far it goes. Assumes nothing.
-use Prim.Native.Nat.{ℕ, _+_, _≤_, _<_}
+use Prim.Native.Nat.{ℕ, _+_, _-_, _≤_, _<_}
 use mathlib.Core.Path.{_≡_}
 use mathlib.Core.Bool.{Bool, true}
 use mathlib.Core.List.{List}
-use lib.ListN.{length, getD}
+use lib.ListN.{length, getD, take, drop}
 use lib.Dec.{eqb}
 use Rattle.entity.specs.Binding.{Bound}
+use Rattle.output.specs.Over.{over}
 use Rattle.output.specs.Runs.{Plain}
 use Rattle.tokens.specs.Tokens.{tokenOf}
 use Rattle.tokens.specs.Outcome.{Outcome, done, refused}
@@ -23,6 +24,10 @@ pub record Within (stops : ℕ → Bool) (text : List ℕ) (i n e : ℕ) : Type 
   pub run : Plain stops text i e
   pub to : e ≤ i + n
   pub ends : e < i + n → stops (getD text e 0) ≡ true
+
+-- the bytes from `i` up to `e` are written at the output's start, as many as there is room for
+abbrev pub Put : List ℕ → ℕ → ℕ → List ℕ → List ℕ → Type 0
+Put text i e old new = new ≡ over (take (e - i) (drop i text)) old
 
 -- Entity table: a text is at most 65,535 bytes; Unescaping: it is not opened
 abbrev pub Short : Outcome → Type 0

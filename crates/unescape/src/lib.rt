@@ -11,7 +11,7 @@ ghost use Rattle.tokens.specs.Outcome.{finished};
 ghost use Rattle.output.specs.Runs.{Plain};
 ghost use Rattle.tokens.specs.Walking.{RunEnd, Walked};
 ghost use Rattle.unescape.specs.Unescape.{unescape};
-ghost use Rattle.unescape.specs.Steps.{isAmp, Within, Named, Referred};
+ghost use Rattle.unescape.specs.Steps.{isAmp, Within, Put, Named, Referred};
 use entity::Binding;
 use text::Answer;
 use tokens::Step;
@@ -87,6 +87,72 @@ fn amp_end(text: &[u8], from: usize) -> usize
     far_amp(text, near)
 }
 
+// Copies blocks of 16 bytes that have no `&`, while there is room.
+fn put_blocks(text: &[u8], from: usize, out: &mut [u8]) -> usize
+    requires { ⌜ from ≤ length (now text) ⌝ }
+    ensures { λ r. ⌜ Plain isAmp (now (text .entry)) from r × Put (now (text .entry)) from r (now (out .entry)) (now (out .exit)) ⌝ }
+{
+    let mut i = from;
+    let mut k: usize = 0;
+    while (16 <= text.len() - i) & (16 <= out.len() - k) {
+        if any_amp(text, i, 16) {
+            return i;
+        }
+        output::put_block(&text[i..i + 16], &mut out[k..]);
+        i += 16;
+        k += 16;
+    }
+    i
+}
+
+// The next `&` from `from` on, or the text's end; the bytes before it are copied while it is searched, by blocks.
+fn put_far(text: &[u8], from: usize, out: &mut [u8]) -> usize
+    requires { ⌜ from ≤ length (now text) ⌝ }
+    ensures { λ r. ⌜ RunEnd isAmp (now (text .entry)) from r × Put (now (text .entry)) from r (now (out .entry)) (now (out .exit)) ⌝ }
+{
+    let mut i = put_blocks(text, from, out);
+    while i < text.len() {
+        let b = text[i];
+        if b == b'&' {
+            return i;
+        }
+        output::put_byte(b, i - from, out);
+        i += 1;
+    }
+    i
+}
+
+// The next `&` among eight bytes, else the place after them; the bytes before it are copied.
+fn put_near(text: &[u8], from: usize, out: &mut [u8]) -> usize
+    requires { ⌜ from + 8 ≤ length (now text) ⌝ }
+    requires { ⌜ 8 ≤ length (now out) ⌝ }
+    ensures { λ r. ⌜ Within isAmp (now (text .entry)) from 8 r × Put (now (text .entry)) from r (now (out .entry)) (now (out .exit)) ⌝ }
+{
+    for k in 0..8usize {
+        let b = text[from + k];
+        if b == b'&' {
+            return from + k;
+        }
+        out[k] = b;
+    }
+    from + 8
+}
+
+// As `put_far`, byte by byte where the `&` is near.
+fn put_to_amp(text: &[u8], from: usize, out: &mut [u8]) -> usize
+    requires { ⌜ from ≤ length (now text) ⌝ }
+    ensures { λ r. ⌜ RunEnd isAmp (now (text .entry)) from r × Put (now (text .entry)) from r (now (out .entry)) (now (out .exit)) ⌝ }
+{
+    if (text.len() - from < 8) | (out.len() < 8) {
+        return put_far(text, from, out);
+    }
+    let near = put_near(text, from, out);
+    if near < from + 8 {
+        return near;
+    }
+    put_far(text, near, &mut out[8..])
+}
+
 // The name whose `&` is at i is looked up; a text of the table is copied as a part of the pool.
 fn name_step(name: &[u8], i: usize, next: usize, list: &[u8], pool: &[u8], out: &mut [u8]) -> Step
     requires { ⌜ i + 1 + length (now name) ≤ 16777216 ⌝ }
@@ -150,20 +216,17 @@ fn unescape_step(text: &[u8], i: usize, list: &[u8], pool: &[u8], out: &mut [u8]
     name_step(&text[start..end], i, end + 1, list, pool, out)
 }
 
-// Runs and references in turn; the first run ends at `plain`. Writes as much of the value as there is room for, so that it counts
-// where `out` has no bytes.
-fn unescape_runs(text: &[u8], plain: usize, list: &[u8], pool: &[u8], out: &mut [u8]) -> Answer
+// Runs and references in turn. Writes as much of the value as there is room for.
+fn unescape_runs(text: &[u8], list: &[u8], pool: &[u8], out: &mut [u8]) -> Answer
     requires { ⌜ length (now text) ≤ 16777216 ⌝ }
-    requires { ⌜ RunEnd isAmp (now text) 0 plain ⌝ }
     requires { ⌜ ValidTable (now list) (now pool) ⌝ }
     ensures { λ r. ⌜ Walked (unescape (binding (now (list .entry)) (now (pool .entry))) (now (text .entry))) (now (out .entry)) (now (out .exit)) r ⌝ }
 {
     let mut i: usize = 0;
-    let mut e = plain;
     let mut len: usize = 0;
     loop {
         let at = output::least(len, out.len());
-        output::put_over(&text[i..e], &mut out[at..]);
+        let e = put_to_amp(text, i, &mut out[at..]);
         len += e - i;
         if e == text.len() {
             return Answer::Done {
@@ -180,7 +243,6 @@ fn unescape_runs(text: &[u8], plain: usize, list: &[u8], pool: &[u8], out: &mut 
             } => {
                 i = next;
                 len += more;
-                e = amp_end(text, next);
             }
             Step::Stopped {
                 number,
@@ -203,9 +265,8 @@ pub fn unescape_with(text: &[u8], list: &[u8], pool: &[u8], out: &mut [u8]) -> A
     requires { ⌜ ValidTable (now list) (now pool) ⌝ }
     ensures { λ r. ⌜ callOf r (now (out .exit) ∷ []) ≡ finished (unescape (binding (now (list .entry)) (now (pool .entry))) (now (text .entry))) (now (out .entry)) ⌝ }
 {
-    let plain = amp_end(text, 0);
     let mut held = [0u8; 128];
-    let counted = unescape_runs(text, plain, list, pool, &mut held);
+    let counted = unescape_runs(text, list, pool, &mut held);
     let Answer::Done {
         first: len,
         second: _,
@@ -224,5 +285,5 @@ pub fn unescape_with(text: &[u8], list: &[u8], pool: &[u8], out: &mut [u8]) -> A
         output::put_run(&held[..len as usize], out);
         return counted;
     }
-    unescape_runs(text, plain, list, pool, out)
+    unescape_runs(text, list, pool, out)
 }

@@ -3,57 +3,46 @@ use Prim.Native.Nat.{_-_}
 use native.Mathlib.Omega.{arith}
 use lib.ListN.{length}
 use Rattle.entity.specs.Binding.{binding}
-use Rattle.tokens.specs.Walking.{RunEnd}
-use Rattle.unescape.specs.Steps.{isAmp}
 use Rattle.unescape.proofs.Turns.{Ran, ran-start, ran-length, ran-run, ran-step, ran-refused, ran-end, amp-here, referred-as}
 use borrow.Author.Needs.{needs}
 use Rattle.unescape.proofs.unescape_runs.Statement.{statement}
 use Rattle.unescape.proofs.unescape_runs.Tie as tie
 
 abbrev Inv-loop : tie.InvT-loop
-Inv-loop text plain list pool out₀ i₀ e₀ len₀ out i e len = Ran (binding list pool) text out₀ out i len × RunEnd isAmp text i e
+Inv-loop text list pool out₀ i₀ len₀ out i len = Ran (binding list pool) text out₀ out i len
 
 abbrev μ-loop : tie.MeasureT-loop
-μ-loop text plain list pool out₀ i₀ e₀ len₀ out i e len = length text - i
+μ-loop text list pool out₀ i₀ len₀ out i len = length text - i
 
 loop-holds : tie.Need-loop-holds Inv-loop μ-loop
-loop-holds c = (ran-start (binding (c .before .before .before .before .args .list .now) (c .before .before .before .before .args .pool .now)) (c .before .before .before .before .args .text .now) (c .before .before .before .before .args .out .now), c .before .before .before .before .pre .1 .0)
+loop-holds c = ran-start (binding (c .before .before .before .before .args .list .now) (c .before .before .before .before .args .pool .now)) (c .before .before .before .before .args .text .now) (c .before .before .before .before .args .out .now)
 
 least-requires : tie.Need-least-requires Inv-loop μ-loop
 least-requires c κs = tt
 
-sub-put-over : tie.Need-sub-put-over Inv-loop μ-loop
-sub-put-over c = c .before .loop .inv .1 .run .from
+sub-put-to-amp : tie.Need-sub-put-to-amp Inv-loop μ-loop
+sub-put-to-amp c = omega (arith, c .least .ensures)
 
-part-put-over-start : tie.Need-part-put-over-start Inv-loop μ-loop
-part-put-over-start c = c .before .loop .inv .1 .run .from
+part-put-to-amp-start : tie.Need-part-put-to-amp-start Inv-loop μ-loop
+part-put-to-amp-start c = omega (arith, c .least .ensures)
 
-part-put-over-end : tie.Need-part-put-over-end Inv-loop μ-loop
-part-put-over-end c = c .before .loop .inv .1 .run .to
+part-put-to-amp-end : tie.Need-part-put-to-amp-end Inv-loop μ-loop
+part-put-to-amp-end c = search needs
 
-sub-put-over-2 : tie.Need-sub-put-over-2 Inv-loop μ-loop
-sub-put-over-2 c = omega (arith, c .before .least .ensures)
-
-part-put-over-start-2 : tie.Need-part-put-over-start-2 Inv-loop μ-loop
-part-put-over-start-2 c = omega (arith, c .before .least .ensures)
-
-part-put-over-end-2 : tie.Need-part-put-over-end-2 Inv-loop μ-loop
-part-put-over-end-2 c = search needs
-
-put-over-requires : tie.Need-put-over-requires Inv-loop μ-loop
-put-over-requires c κs = tt
+put-to-amp-requires : tie.Need-put-to-amp-requires Inv-loop μ-loop
+put-to-amp-requires c κs = c .before .before .loop .inv .progress .inside
 
 sub-len : tie.Need-sub-len Inv-loop μ-loop
-sub-len c = c .before .before .before .before .before .before .loop .inv .1 .run .from
+sub-len c = c .before .before .put-to-amp .ensures .0 .run .from
 
 add-len : tie.Need-add-len Inv-loop μ-loop
-add-len c = omega (arith, c .before .before .before .before .before .before .loop .inv .0 .short, c .before .before .before .before .before .before .loop .inv .1 .run .from, c .before .before .before .before .before .before .loop .inv .1 .run .to, c .before .before .before .before .before .before .before .before .before .before .before .pre .0)
+add-len c = omega (arith, (ran-run (binding (c .before .before .before .before .before .before .before .before .before .before .args .list .now) (c .before .before .before .before .before .before .before .before .before .before .args .pool .now)) (c .before .before .before .before .before .before .before .before .before .before .args .text .now) (c .before .before .before .before .before .before .before .before .before .before .args .out .now) (c .before .before .before .before .before .loop .inv) (c .before .before .before .before .least .ensures) (c .before .before .put-to-amp .ensures .0) (c .before .before .put-to-amp .ensures .1)) .short, c .before .before .put-to-amp .ensures .0 .run .to, c .before .before .before .before .before .before .before .before .before .before .pre .0)
 
 same-length : tie.Need-same-length Inv-loop μ-loop
-same-length c = ran-length (binding (c .before .before .before .before .before .before .before .before .before .before .before .before .args .list .now) (c .before .before .before .before .before .before .before .before .before .before .before .before .args .pool .now)) (c .before .before .before .before .before .before .before .before .before .before .before .before .args .text .now) (c .before .before .before .before .before .before .before .before .before .before .before .before .args .out .now) (ran-run (binding (c .before .before .before .before .before .before .before .before .before .before .before .before .args .list .now) (c .before .before .before .before .before .before .before .before .before .before .before .before .args .pool .now)) (c .before .before .before .before .before .before .before .before .before .before .before .before .args .text .now) (c .before .before .before .before .before .before .before .before .before .before .before .before .args .out .now) (c .before .before .before .before .before .before .before .loop .inv .0) (c .before .before .before .before .before .before .least .ensures) (c .before .before .before .before .before .before .before .loop .inv .1) (c .before .before .before .put-over .ensures))
+same-length c = ran-length (binding (c .before .before .before .before .before .before .before .before .before .before .before .args .list .now) (c .before .before .before .before .before .before .before .before .before .before .before .args .pool .now)) (c .before .before .before .before .before .before .before .before .before .before .before .args .text .now) (c .before .before .before .before .before .before .before .before .before .before .before .args .out .now) (ran-run (binding (c .before .before .before .before .before .before .before .before .before .before .before .args .list .now) (c .before .before .before .before .before .before .before .before .before .before .before .args .pool .now)) (c .before .before .before .before .before .before .before .before .before .before .before .args .text .now) (c .before .before .before .before .before .before .before .before .before .before .before .args .out .now) (c .before .before .before .before .before .before .loop .inv) (c .before .before .before .before .before .least .ensures) (c .before .before .before .put-to-amp .ensures .0) (c .before .before .before .put-to-amp .ensures .1))
 
 returns : tie.Need-returns Inv-loop μ-loop
-returns c = ran-end (binding (c .before .before .before .before .before .before .before .before .before .before .before .before .args .list .now) (c .before .before .before .before .before .before .before .before .before .before .before .before .args .pool .now)) (c .before .before .before .before .before .before .before .before .before .before .before .before .args .text .now) (c .before .before .before .before .before .before .before .before .before .before .before .before .args .out .now) (ran-run (binding (c .before .before .before .before .before .before .before .before .before .before .before .before .args .list .now) (c .before .before .before .before .before .before .before .before .before .before .before .before .args .pool .now)) (c .before .before .before .before .before .before .before .before .before .before .before .before .args .text .now) (c .before .before .before .before .before .before .before .before .before .before .before .before .args .out .now) (c .before .before .before .before .before .before .before .loop .inv .0) (c .before .before .before .before .before .before .least .ensures) (c .before .before .before .before .before .before .before .loop .inv .1) (c .before .before .before .put-over .ensures)) (omega (arith, c .if1 .taken))
+returns c = ran-end (binding (c .before .before .before .before .before .before .before .before .before .before .before .args .list .now) (c .before .before .before .before .before .before .before .before .before .before .before .args .pool .now)) (c .before .before .before .before .before .before .before .before .before .before .before .args .text .now) (c .before .before .before .before .before .before .before .before .before .before .before .args .out .now) (ran-run (binding (c .before .before .before .before .before .before .before .before .before .before .before .args .list .now) (c .before .before .before .before .before .before .before .before .before .before .before .args .pool .now)) (c .before .before .before .before .before .before .before .before .before .before .before .args .text .now) (c .before .before .before .before .before .before .before .before .before .before .before .args .out .now) (c .before .before .before .before .before .before .loop .inv) (c .before .before .before .before .before .least .ensures) (c .before .before .before .put-to-amp .ensures .0) (c .before .before .before .put-to-amp .ensures .1)) (omega (arith, c .if1 .taken))
 
 least-requires-2 : tie.Need-least-requires-2 Inv-loop μ-loop
 least-requires-2 c κs = tt
@@ -68,31 +57,28 @@ part-unescape-step-end : tie.Need-part-unescape-step-end Inv-loop μ-loop
 part-unescape-step-end c = search needs
 
 unescape-step-requires : tie.Need-unescape-step-requires Inv-loop μ-loop
-unescape-step-requires c κs = (c .before .before .before .before .before .before .before .before .before .before .before .before .before .before .pre .0, ((amp-here (c .before .before .before .before .before .before .before .before .before .before .before .before .before .before .args .text .now) (c .before .before .before .before .before .before .before .before .before .loop .inv .1) (c .before .before .if1 .left)), c .before .before .before .before .before .before .before .before .before .before .before .before .before .before .pre .1 .1))
+unescape-step-requires c κs = (c .before .before .before .before .before .before .before .before .before .before .before .before .before .pre .0, ((amp-here (c .before .before .before .before .before .before .before .before .before .before .before .before .before .args .text .now) (c .before .before .before .before .before .put-to-amp .ensures .0) (c .before .before .if1 .left)), c .before .before .before .before .before .before .before .before .before .before .before .before .before .pre .1))
 
 enum-known-next : tie.Need-enum-known-next Inv-loop μ-loop
 enum-known-next c = search needs
 
 add-len-2 : tie.Need-add-len-2 Inv-loop μ-loop
-add-len-2 c = omega (arith, (ran-run (binding (c .before .before .before .before .before .before .before .before .before .before .before .before .before .before .before .before .before .before .before .before .args .list .now) (c .before .before .before .before .before .before .before .before .before .before .before .before .before .before .before .before .before .before .before .before .args .pool .now)) (c .before .before .before .before .before .before .before .before .before .before .before .before .before .before .before .before .before .before .before .before .args .text .now) (c .before .before .before .before .before .before .before .before .before .before .before .before .before .before .before .before .before .before .before .before .args .out .now) (c .before .before .before .before .before .before .before .before .before .before .before .before .before .before .before .loop .inv .0) (c .before .before .before .before .before .before .before .before .before .before .before .before .before .before .least .ensures) (c .before .before .before .before .before .before .before .before .before .before .before .before .before .before .before .loop .inv .1) (c .before .before .before .before .before .before .before .before .before .before .before .put-over .ensures)) .short, (referred-as (binding (c .before .before .before .before .before .before .before .before .before .before .before .before .before .before .before .before .before .before .before .before .args .list .now) (c .before .before .before .before .before .before .before .before .before .before .before .before .before .before .before .before .before .before .before .before .args .pool .now)) (c .before .before .before .before .before .before .before .before .before .before .before .before .before .before .before .before .before .before .before .before .args .text .now) (c .before .next .given .1) (c .before .before .before .before .before .unescape-step .ensures)) .near .2, c .before .before .before .before .before .before .before .before .before .before .before .before .before .before .before .loop .inv .1 .run .to, c .before .before .before .before .before .before .before .before .before .before .before .before .before .before .before .before .before .before .before .before .pre .0)
-
-amp-end-requires : tie.Need-amp-end-requires Inv-loop μ-loop
-amp-end-requires c κs = (referred-as (binding (c .before .before .before .before .before .before .before .before .before .before .before .before .before .before .before .before .before .before .before .before .args .list .now) (c .before .before .before .before .before .before .before .before .before .before .before .before .before .before .before .before .before .before .before .before .args .pool .now)) (c .before .before .before .before .before .before .before .before .before .before .before .before .before .before .before .before .before .before .before .before .args .text .now) (c .before .next .given .1) (c .before .before .before .before .before .unescape-step .ensures)) .near .1
+add-len-2 c = omega (arith, (ran-run (binding (c .before .before .before .before .before .before .before .before .before .before .before .before .before .before .before .before .before .before .before .args .list .now) (c .before .before .before .before .before .before .before .before .before .before .before .before .before .before .before .before .before .before .before .args .pool .now)) (c .before .before .before .before .before .before .before .before .before .before .before .before .before .before .before .before .before .before .before .args .text .now) (c .before .before .before .before .before .before .before .before .before .before .before .before .before .before .before .before .before .before .before .args .out .now) (c .before .before .before .before .before .before .before .before .before .before .before .before .before .before .loop .inv) (c .before .before .before .before .before .before .before .before .before .before .before .before .before .least .ensures) (c .before .before .before .before .before .before .before .before .before .before .before .put-to-amp .ensures .0) (c .before .before .before .before .before .before .before .before .before .before .before .put-to-amp .ensures .1)) .short, (referred-as (binding (c .before .before .before .before .before .before .before .before .before .before .before .before .before .before .before .before .before .before .before .args .list .now) (c .before .before .before .before .before .before .before .before .before .before .before .before .before .before .before .before .before .before .before .args .pool .now)) (c .before .before .before .before .before .before .before .before .before .before .before .before .before .before .before .before .before .before .before .args .text .now) (c .before .next .given .1) (c .before .before .before .before .before .unescape-step .ensures)) .near .2, c .before .before .before .before .before .before .before .before .before .before .before .put-to-amp .ensures .0 .run .to, c .before .before .before .before .before .before .before .before .before .before .before .before .before .before .before .before .before .before .before .pre .0)
 
 loop-less : tie.Need-loop-less Inv-loop μ-loop
-loop-less c = omega (arith, (referred-as (binding (c .before .before .before .before .before .before .before .before .before .before .before .before .before .before .before .before .before .before .before .before .before .args .list .now) (c .before .before .before .before .before .before .before .before .before .before .before .before .before .before .before .before .before .before .before .before .before .args .pool .now)) (c .before .before .before .before .before .before .before .before .before .before .before .before .before .before .before .before .before .before .before .before .before .args .text .now) (c .before .before .next .given .1) (c .before .before .before .before .before .before .unescape-step .ensures)) .near .0, (referred-as (binding (c .before .before .before .before .before .before .before .before .before .before .before .before .before .before .before .before .before .before .before .before .before .args .list .now) (c .before .before .before .before .before .before .before .before .before .before .before .before .before .before .before .before .before .before .before .before .before .args .pool .now)) (c .before .before .before .before .before .before .before .before .before .before .before .before .before .before .before .before .before .before .before .before .before .args .text .now) (c .before .before .next .given .1) (c .before .before .before .before .before .before .unescape-step .ensures)) .near .1, c .before .before .before .before .before .before .before .before .before .before .before .before .before .before .before .before .loop .inv .1 .run .from)
+loop-less c = omega (arith, (referred-as (binding (c .before .before .before .before .before .before .before .before .before .before .before .before .before .before .before .before .before .before .before .args .list .now) (c .before .before .before .before .before .before .before .before .before .before .before .before .before .before .before .before .before .before .before .args .pool .now)) (c .before .before .before .before .before .before .before .before .before .before .before .before .before .before .before .before .before .before .before .args .text .now) (c .before .next .given .1) (c .before .before .before .before .before .unescape-step .ensures)) .near .0, (referred-as (binding (c .before .before .before .before .before .before .before .before .before .before .before .before .before .before .before .before .before .before .before .args .list .now) (c .before .before .before .before .before .before .before .before .before .before .before .before .before .before .before .before .before .before .before .args .pool .now)) (c .before .before .before .before .before .before .before .before .before .before .before .before .before .before .before .before .before .before .before .args .text .now) (c .before .next .given .1) (c .before .before .before .before .before .unescape-step .ensures)) .near .1, c .before .before .before .before .before .before .before .before .before .before .before .put-to-amp .ensures .0 .run .from)
 
 loop-again : tie.Need-loop-again Inv-loop μ-loop
-loop-again c = (ran-step (binding (c .before .before .before .before .before .before .before .before .before .before .before .before .before .before .before .before .before .before .before .before .before .args .list .now) (c .before .before .before .before .before .before .before .before .before .before .before .before .before .before .before .before .before .before .before .before .before .args .pool .now)) (c .before .before .before .before .before .before .before .before .before .before .before .before .before .before .before .before .before .before .before .before .before .args .text .now) (c .before .before .before .before .before .before .before .before .before .before .before .before .before .before .before .before .before .before .before .before .before .args .out .now) (ran-run (binding (c .before .before .before .before .before .before .before .before .before .before .before .before .before .before .before .before .before .before .before .before .before .args .list .now) (c .before .before .before .before .before .before .before .before .before .before .before .before .before .before .before .before .before .before .before .before .before .args .pool .now)) (c .before .before .before .before .before .before .before .before .before .before .before .before .before .before .before .before .before .before .before .before .before .args .text .now) (c .before .before .before .before .before .before .before .before .before .before .before .before .before .before .before .before .before .before .before .before .before .args .out .now) (c .before .before .before .before .before .before .before .before .before .before .before .before .before .before .before .before .loop .inv .0) (c .before .before .before .before .before .before .before .before .before .before .before .before .before .before .before .least .ensures) (c .before .before .before .before .before .before .before .before .before .before .before .before .before .before .before .before .loop .inv .1) (c .before .before .before .before .before .before .before .before .before .before .before .before .put-over .ensures)) (c .before .before .before .before .before .before .before .before .least2 .ensures) ((amp-here (c .before .before .before .before .before .before .before .before .before .before .before .before .before .before .before .before .before .before .before .before .before .args .text .now) (c .before .before .before .before .before .before .before .before .before .before .before .before .before .before .before .before .loop .inv .1) (c .before .before .before .before .before .before .before .before .before .if1 .left)) .0) (referred-as (binding (c .before .before .before .before .before .before .before .before .before .before .before .before .before .before .before .before .before .before .before .before .before .args .list .now) (c .before .before .before .before .before .before .before .before .before .before .before .before .before .before .before .before .before .before .before .before .before .args .pool .now)) (c .before .before .before .before .before .before .before .before .before .before .before .before .before .before .before .before .before .before .before .before .before .args .text .now) (c .before .before .next .given .1) (c .before .before .before .before .before .before .unescape-step .ensures)), c .amp-end .ensures)
+loop-again c = ran-step (binding (c .before .before .before .before .before .before .before .before .before .before .before .before .before .before .before .before .before .before .before .args .list .now) (c .before .before .before .before .before .before .before .before .before .before .before .before .before .before .before .before .before .before .before .args .pool .now)) (c .before .before .before .before .before .before .before .before .before .before .before .before .before .before .before .before .before .before .before .args .text .now) (c .before .before .before .before .before .before .before .before .before .before .before .before .before .before .before .before .before .before .before .args .out .now) (ran-run (binding (c .before .before .before .before .before .before .before .before .before .before .before .before .before .before .before .before .before .before .before .args .list .now) (c .before .before .before .before .before .before .before .before .before .before .before .before .before .before .before .before .before .before .before .args .pool .now)) (c .before .before .before .before .before .before .before .before .before .before .before .before .before .before .before .before .before .before .before .args .text .now) (c .before .before .before .before .before .before .before .before .before .before .before .before .before .before .before .before .before .before .before .args .out .now) (c .before .before .before .before .before .before .before .before .before .before .before .before .before .before .loop .inv) (c .before .before .before .before .before .before .before .before .before .before .before .before .before .least .ensures) (c .before .before .before .before .before .before .before .before .before .before .before .put-to-amp .ensures .0) (c .before .before .before .before .before .before .before .before .before .before .before .put-to-amp .ensures .1)) (c .before .before .before .before .before .before .before .least2 .ensures) ((amp-here (c .before .before .before .before .before .before .before .before .before .before .before .before .before .before .before .before .before .before .before .args .text .now) (c .before .before .before .before .before .before .before .before .before .before .before .put-to-amp .ensures .0) (c .before .before .before .before .before .before .before .before .if1 .left)) .0) (referred-as (binding (c .before .before .before .before .before .before .before .before .before .before .before .before .before .before .before .before .before .before .before .args .list .now) (c .before .before .before .before .before .before .before .before .before .before .before .before .before .before .before .before .before .before .before .args .pool .now)) (c .before .before .before .before .before .before .before .before .before .before .before .before .before .before .before .before .before .before .before .args .text .now) (c .before .next .given .1) (c .before .before .before .before .before .unescape-step .ensures))
 
 enum-known-number : tie.Need-enum-known-number Inv-loop μ-loop
 enum-known-number c = search needs
 
 same-length-2 : tie.Need-same-length-2 Inv-loop μ-loop
-same-length-2 c = walked-length (ran-refused (binding (c .before .before .before .before .before .before .before .before .before .before .before .before .before .before .before .before .before .before .before .before .args .list .now) (c .before .before .before .before .before .before .before .before .before .before .before .before .before .before .before .before .before .before .before .before .args .pool .now)) (c .before .before .before .before .before .before .before .before .before .before .before .before .before .before .before .before .before .before .before .before .args .text .now) (c .before .before .before .before .before .before .before .before .before .before .before .before .before .before .before .before .before .before .before .before .args .out .now) (ran-run (binding (c .before .before .before .before .before .before .before .before .before .before .before .before .before .before .before .before .before .before .before .before .args .list .now) (c .before .before .before .before .before .before .before .before .before .before .before .before .before .before .before .before .before .before .before .before .args .pool .now)) (c .before .before .before .before .before .before .before .before .before .before .before .before .before .before .before .before .before .before .before .before .args .text .now) (c .before .before .before .before .before .before .before .before .before .before .before .before .before .before .before .before .before .before .before .before .args .out .now) (c .before .before .before .before .before .before .before .before .before .before .before .before .before .before .before .loop .inv .0) (c .before .before .before .before .before .before .before .before .before .before .before .before .before .before .least .ensures) (c .before .before .before .before .before .before .before .before .before .before .before .before .before .before .before .loop .inv .1) (c .before .before .before .before .before .before .before .before .before .before .before .put-over .ensures)) (c .before .before .before .before .before .before .before .least2 .ensures) ((amp-here (c .before .before .before .before .before .before .before .before .before .before .before .before .before .before .before .before .before .before .before .before .args .text .now) (c .before .before .before .before .before .before .before .before .before .before .before .before .before .before .before .loop .inv .1) (c .before .before .before .before .before .before .before .before .if1 .left)) .0) (referred-as (binding (c .before .before .before .before .before .before .before .before .before .before .before .before .before .before .before .before .before .before .before .before .args .list .now) (c .before .before .before .before .before .before .before .before .before .before .before .before .before .before .before .before .before .before .before .before .args .pool .now)) (c .before .before .before .before .before .before .before .before .before .before .before .before .before .before .before .before .before .before .before .before .args .text .now) (c .before .number .given .1) (c .before .before .before .before .before .unescape-step .ensures)))
+same-length-2 c = walked-length (ran-refused (binding (c .before .before .before .before .before .before .before .before .before .before .before .before .before .before .before .before .before .before .before .args .list .now) (c .before .before .before .before .before .before .before .before .before .before .before .before .before .before .before .before .before .before .before .args .pool .now)) (c .before .before .before .before .before .before .before .before .before .before .before .before .before .before .before .before .before .before .before .args .text .now) (c .before .before .before .before .before .before .before .before .before .before .before .before .before .before .before .before .before .before .before .args .out .now) (ran-run (binding (c .before .before .before .before .before .before .before .before .before .before .before .before .before .before .before .before .before .before .before .args .list .now) (c .before .before .before .before .before .before .before .before .before .before .before .before .before .before .before .before .before .before .before .args .pool .now)) (c .before .before .before .before .before .before .before .before .before .before .before .before .before .before .before .before .before .before .before .args .text .now) (c .before .before .before .before .before .before .before .before .before .before .before .before .before .before .before .before .before .before .before .args .out .now) (c .before .before .before .before .before .before .before .before .before .before .before .before .before .before .loop .inv) (c .before .before .before .before .before .before .before .before .before .before .before .before .before .least .ensures) (c .before .before .before .before .before .before .before .before .before .before .before .put-to-amp .ensures .0) (c .before .before .before .before .before .before .before .before .before .before .before .put-to-amp .ensures .1)) (c .before .before .before .before .before .before .before .least2 .ensures) ((amp-here (c .before .before .before .before .before .before .before .before .before .before .before .before .before .before .before .before .before .before .before .args .text .now) (c .before .before .before .before .before .before .before .before .before .before .before .put-to-amp .ensures .0) (c .before .before .before .before .before .before .before .before .if1 .left)) .0) (referred-as (binding (c .before .before .before .before .before .before .before .before .before .before .before .before .before .before .before .before .before .before .before .args .list .now) (c .before .before .before .before .before .before .before .before .before .before .before .before .before .before .before .before .before .before .before .args .pool .now)) (c .before .before .before .before .before .before .before .before .before .before .before .before .before .before .before .before .before .before .before .args .text .now) (c .before .number .given .1) (c .before .before .before .before .before .unescape-step .ensures)))
 
 returns-2 : tie.Need-returns-2 Inv-loop μ-loop
-returns-2 c = ran-refused (binding (c .before .before .before .before .before .before .before .before .before .before .before .before .before .before .before .before .before .before .before .before .args .list .now) (c .before .before .before .before .before .before .before .before .before .before .before .before .before .before .before .before .before .before .before .before .args .pool .now)) (c .before .before .before .before .before .before .before .before .before .before .before .before .before .before .before .before .before .before .before .before .args .text .now) (c .before .before .before .before .before .before .before .before .before .before .before .before .before .before .before .before .before .before .before .before .args .out .now) (ran-run (binding (c .before .before .before .before .before .before .before .before .before .before .before .before .before .before .before .before .before .before .before .before .args .list .now) (c .before .before .before .before .before .before .before .before .before .before .before .before .before .before .before .before .before .before .before .before .args .pool .now)) (c .before .before .before .before .before .before .before .before .before .before .before .before .before .before .before .before .before .before .before .before .args .text .now) (c .before .before .before .before .before .before .before .before .before .before .before .before .before .before .before .before .before .before .before .before .args .out .now) (c .before .before .before .before .before .before .before .before .before .before .before .before .before .before .before .loop .inv .0) (c .before .before .before .before .before .before .before .before .before .before .before .before .before .before .least .ensures) (c .before .before .before .before .before .before .before .before .before .before .before .before .before .before .before .loop .inv .1) (c .before .before .before .before .before .before .before .before .before .before .before .put-over .ensures)) (c .before .before .before .before .before .before .before .least2 .ensures) ((amp-here (c .before .before .before .before .before .before .before .before .before .before .before .before .before .before .before .before .before .before .before .before .args .text .now) (c .before .before .before .before .before .before .before .before .before .before .before .before .before .before .before .loop .inv .1) (c .before .before .before .before .before .before .before .before .if1 .left)) .0) (referred-as (binding (c .before .before .before .before .before .before .before .before .before .before .before .before .before .before .before .before .before .before .before .before .args .list .now) (c .before .before .before .before .before .before .before .before .before .before .before .before .before .before .before .before .before .before .before .before .args .pool .now)) (c .before .before .before .before .before .before .before .before .before .before .before .before .before .before .before .before .before .before .before .before .args .text .now) (c .before .number .given .1) (c .before .before .before .before .before .unescape-step .ensures))
+returns-2 c = ran-refused (binding (c .before .before .before .before .before .before .before .before .before .before .before .before .before .before .before .before .before .before .before .args .list .now) (c .before .before .before .before .before .before .before .before .before .before .before .before .before .before .before .before .before .before .before .args .pool .now)) (c .before .before .before .before .before .before .before .before .before .before .before .before .before .before .before .before .before .before .before .args .text .now) (c .before .before .before .before .before .before .before .before .before .before .before .before .before .before .before .before .before .before .before .args .out .now) (ran-run (binding (c .before .before .before .before .before .before .before .before .before .before .before .before .before .before .before .before .before .before .before .args .list .now) (c .before .before .before .before .before .before .before .before .before .before .before .before .before .before .before .before .before .before .before .args .pool .now)) (c .before .before .before .before .before .before .before .before .before .before .before .before .before .before .before .before .before .before .before .args .text .now) (c .before .before .before .before .before .before .before .before .before .before .before .before .before .before .before .before .before .before .before .args .out .now) (c .before .before .before .before .before .before .before .before .before .before .before .before .before .before .loop .inv) (c .before .before .before .before .before .before .before .before .before .before .before .before .before .least .ensures) (c .before .before .before .before .before .before .before .before .before .before .before .put-to-amp .ensures .0) (c .before .before .before .before .before .before .before .before .before .before .before .put-to-amp .ensures .1)) (c .before .before .before .before .before .before .before .least2 .ensures) ((amp-here (c .before .before .before .before .before .before .before .before .before .before .before .before .before .before .before .before .before .before .before .args .text .now) (c .before .before .before .before .before .before .before .before .before .before .before .put-to-amp .ensures .0) (c .before .before .before .before .before .before .before .before .if1 .left)) .0) (referred-as (binding (c .before .before .before .before .before .before .before .before .before .before .before .before .before .before .before .before .before .before .before .args .list .now) (c .before .before .before .before .before .before .before .before .before .before .before .before .before .before .before .before .before .before .before .args .pool .now)) (c .before .before .before .before .before .before .before .before .before .before .before .before .before .before .before .before .before .before .before .args .text .now) (c .before .number .given .1) (c .before .before .before .before .before .unescape-step .ensures))
 
 pub unescape-runs-spec : {M : Type 1} → statement M
 unescape-runs-spec =
@@ -102,13 +88,10 @@ unescape-runs-spec =
     μ-loop
     loop-holds
     least-requires
-    sub-put-over
-    part-put-over-start
-    part-put-over-end
-    sub-put-over-2
-    part-put-over-start-2
-    part-put-over-end-2
-    put-over-requires
+    sub-put-to-amp
+    part-put-to-amp-start
+    part-put-to-amp-end
+    put-to-amp-requires
     sub-len
     add-len
     same-length
@@ -120,7 +103,6 @@ unescape-runs-spec =
     unescape-step-requires
     enum-known-next
     add-len-2
-    amp-end-requires
     loop-less
     loop-again
     enum-known-number

@@ -1,10 +1,8 @@
 use lib.Seq.{length-take-le}
-use mathlib.Core.Path.{_≡_, sym, ap, _∙_}
-use mathlib.Core.List.{List, [], _∷_}
+use mathlib.Core.Path.{sym, ap, _∙_}
+use mathlib.Core.List.{[], _∷_}
 use Rattle.text.specs.Call.{callOf}
 use Rattle.text.specs.declared.Answer.{Answer}
-use lib.ListN.{length, take}
-use Prim.Native.Nat.{ℕ}
 use Rattle.tokens.proofs.Finished.{ended-call, ended-refused, ended-short, ended-written, ended-held}
 use Rattle.unescape.specs.Unescape.{unescape}
 use Rattle.entity.specs.Binding.{binding}
@@ -12,88 +10,62 @@ use native.Mathlib.Omega.{arith}
 use borrow.Author.Needs.{needs}
 use Rattle.unescape.proofs.unescape_with.Statement.{statement}
 use Rattle.unescape.proofs.unescape_with.Tie as tie
-use Rattle.unescape.proofs.unescape_with.Reads as reads
-use Rattle.unescape.proofs.unescape_with.Lts as lts
-use Rattle.output.proofs.put_run.Reads as put-run-reads
-use Rattle.unescape.proofs.amp_end.Reads as amp-end-reads
-use Rattle.unescape.proofs.unescape_runs.Reads as unescape-runs-reads
 
--- src/lib.rt:182:9
-amp-end-requires : tie.Need-amp-end-requires
-amp-end-requires c κs = search needs
-
--- src/lib.rt:184:58
 slice-aggregate-unescape-runs : tie.Need-slice-aggregate-unescape-runs
 slice-aggregate-unescape-runs c = search needs
 
--- src/lib.rt:184:9
 unescape-runs-requires : tie.Need-unescape-runs-requires
 unescape-runs-requires c κs = search needs
 
--- src/lib.rt:186:16
 enum-known-counted : tie.Need-enum-known-counted
 enum-known-counted c = search needs
 
--- src/lib.rt:190:9
 enum-told : tie.Need-enum-told
 enum-told c = search needs
 
--- src/lib.rt:190:9
 returns : tie.Need-returns
 returns c =
-    let o = unescape (binding (c .before .before .before .before .before .before .before .before .before .before .args .list .now) (c .before .before .before .before .before .before .before .before .before .before .args .pool .now)) (c .before .before .before .before .before .before .before .before .before .before .args .text .now) in
-    ended-call o (c .before .before .before .before .before .before .before .before .before .before .args .out .now) (ended-refused 19 o (c .before .before .before .before .before .before .before .before .before .before .args .out .now) (c .enum-told .given .1) (c .before .before .before .unescape-runs .ensures))
+    let o = unescape (binding (c .before .before .before .before .before .before .before .before .before .args .list .now) (c .before .before .before .before .before .before .before .before .before .args .pool .now)) (c .before .before .before .before .before .before .before .before .before .args .text .now) in
+    ended-call o (c .before .before .before .before .before .before .before .before .before .args .out .now) (ended-refused 19 o (c .before .before .before .before .before .before .before .before .before .args .out .now) (c .enum-told .given .1) (c .before .before .before .unescape-runs .ensures))
 
--- src/lib.rt:193:9
 returns-2 : tie.Need-returns-2
 returns-2 c =
-    let o = unescape (binding (c .before .before .before .before .before .before .before .before .before .before .before .before .args .list .now) (c .before .before .before .before .before .before .before .before .before .before .before .before .args .pool .now)) (c .before .before .before .before .before .before .before .before .before .before .before .before .args .text .now) in
-    ended-call o (c .before .before .before .before .before .before .before .before .before .before .before .before .args .out .now) (ended-short 19 o (c .before .before .before .before .before .before .before .before .before .before .before .before .args .out .now) (c .before .before .counted .given .1) (c .before .before .before .before .before .unescape-runs .ensures) (omega (arith, c .if1 .taken)))
+    let o = unescape (binding (c .before .before .before .before .before .before .before .before .before .before .before .args .list .now) (c .before .before .before .before .before .before .before .before .before .before .before .args .pool .now)) (c .before .before .before .before .before .before .before .before .before .before .before .args .text .now) in
+    ended-call o (c .before .before .before .before .before .before .before .before .before .before .before .args .out .now) (ended-short 19 o (c .before .before .before .before .before .before .before .before .before .before .before .args .out .now) (c .before .before .counted .given .1) (c .before .before .before .before .before .unescape-runs .ensures) (omega (arith, c .if1 .taken)))
 
--- src/lib.rt:200:25
 array-share-prefix-held : tie.Need-array-share-prefix-held
 array-share-prefix-held c = search needs
 
--- src/lib.rt:200:25
 slice-aggregate-put-run : tie.Need-slice-aggregate-put-run
-slice-aggregate-put-run c =
-    sym (length-take-le (c .before .before .before .before .counted .given .0 .0) (c .before .before .before .before .before .before .before .unescape-runs .last .1 .1 .1 .1 .0) (omega (arith, c .before .if2 .taken, c .before .before .before .before .before .before .before .unescape-runs .kept .1 .1 .1 .1 .0)))
+slice-aggregate-put-run c = sym (length-take-le (c .before .before .before .before .counted .given .0 .0) (c .before .before .before .before .before .before .before .unescape-runs .last .1 .1 .1 .0) (omega (arith, c .before .if2 .taken, c .before .before .before .before .before .before .before .unescape-runs .kept .1 .1 .1 .0)))
 
--- src/lib.rt:200:9
 put-run-requires : tie.Need-put-run-requires
-put-run-requires c κs =
-    rw (length-take-le (c .before .before .before .before .before .counted .given .0 .0) (c .before .before .before .before .before .before .before .before .unescape-runs .last .1 .1 .1 .1 .0) (omega (arith, c .before .before .if2 .taken, c .before .before .before .before .before .before .before .before .unescape-runs .kept .1 .1 .1 .1 .0))) (omega (arith, c .before .before .before .if1 .left))
+put-run-requires c κs = rw (length-take-le (c .before .before .before .before .before .counted .given .0 .0) (c .before .before .before .before .before .before .before .before .unescape-runs .last .1 .1 .1 .0) (omega (arith, c .before .before .if2 .taken, c .before .before .before .before .before .before .before .before .unescape-runs .kept .1 .1 .1 .0))) (omega (arith, c .before .before .before .if1 .left))
 
--- src/lib.rt:201:9
 same-length : tie.Need-same-length
 same-length c = search needs
 
--- src/lib.rt:201:9
 returns-3 : tie.Need-returns-3
 returns-3 c =
-    let o = unescape (binding (c .before .before .before .before .before .before .before .before .before .before .before .before .before .before .before .before .before .before .args .list .now) (c .before .before .before .before .before .before .before .before .before .before .before .before .before .before .before .before .before .before .args .pool .now)) (c .before .before .before .before .before .before .before .before .before .before .before .before .before .before .before .before .before .before .args .text .now) in
+    let o = unescape (binding (c .before .before .before .before .before .before .before .before .before .before .before .before .before .before .before .before .before .args .list .now) (c .before .before .before .before .before .before .before .before .before .before .before .before .before .before .before .before .before .args .pool .now)) (c .before .before .before .before .before .before .before .before .before .before .before .before .before .before .before .before .before .args .text .now) in
     ap (λ (a : Answer). callOf a (c .before .before .put-run .last .1 .0 ∷ [])) (sym (c .before .before .before .before .before .before .before .before .counted .given .1))
-    ∙ ended-call o (c .before .before .before .before .before .before .before .before .before .before .before .before .before .before .before .before .before .before .args .out .now) (ended-held 19 o (c .before .before .before .before .before .before .before .before .before .before .before .before .before .before .before .before .before .before .args .out .now) (c .before .before .before .before .before .before .before .before .counted .given .1) (c .before .before .before .before .before .before .before .before .before .before .before .unescape-runs .ensures) (omega (arith, c .before .before .before .before .before .if2 .taken)) (omega (arith, c .before .before .before .before .before .before .if1 .left)) (c .before .before .put-run .ensures))
+    ∙ ended-call o (c .before .before .before .before .before .before .before .before .before .before .before .before .before .before .before .before .before .args .out .now) (ended-held 19 o (c .before .before .before .before .before .before .before .before .before .before .before .before .before .before .before .before .before .args .out .now) (c .before .before .before .before .before .before .before .before .counted .given .1) (c .before .before .before .before .before .before .before .before .before .before .before .unescape-runs .ensures) (omega (arith, c .before .before .before .before .before .if2 .taken)) (omega (arith, c .before .before .before .before .before .before .if1 .left)) (c .before .before .put-run .ensures))
 
--- src/lib.rt:203:5
 unescape-runs-requires-2 : tie.Need-unescape-runs-requires-2
 unescape-runs-requires-2 c κs = search needs
 
--- src/lib.rt:177:1
 same-length-2 : tie.Need-same-length-2
 same-length-2 c = search needs
 
--- src/lib.rt:177:1
 returns-4 : tie.Need-returns-4
 returns-4 c =
-    let o = unescape (binding (c .before .before .before .before .before .before .before .before .before .before .before .before .before .before .before .before .before .args .list .now) (c .before .before .before .before .before .before .before .before .before .before .before .before .before .before .before .before .before .args .pool .now)) (c .before .before .before .before .before .before .before .before .before .before .before .before .before .before .before .before .before .args .text .now) in
-    ended-call o (c .before .before .before .before .before .before .before .before .before .before .before .before .before .before .before .before .before .args .out .now) (ended-written 19 o (c .before .before .before .before .before .before .before .before .before .before .before .before .before .before .before .before .before .args .out .now) (c .before .before .before .before .before .before .before .counted .given .1) (c .before .before .before .before .before .before .before .before .before .before .unescape-runs .ensures) (omega (arith, c .before .before .before .before .before .if1 .left)) (c .before .before .unescape-runs2 .ensures))
+    let o = unescape (binding (c .before .before .before .before .before .before .before .before .before .before .before .before .before .before .before .before .args .list .now) (c .before .before .before .before .before .before .before .before .before .before .before .before .before .before .before .before .args .pool .now)) (c .before .before .before .before .before .before .before .before .before .before .before .before .before .before .before .before .args .text .now) in
+    ended-call o (c .before .before .before .before .before .before .before .before .before .before .before .before .before .before .before .before .args .out .now) (ended-written 19 o (c .before .before .before .before .before .before .before .before .before .before .before .before .before .before .before .before .args .out .now) (c .before .before .before .before .before .before .before .counted .given .1) (c .before .before .before .before .before .before .before .before .before .before .unescape-runs .ensures) (omega (arith, c .before .before .before .before .before .if1 .left)) (c .before .before .unescape-runs2 .ensures))
 
 pub unescape-with-spec : {M : Type 1} → statement M
 unescape-with-spec =
     tie.close
     (tie.spec
-    amp-end-requires
     slice-aggregate-unescape-runs
     unescape-runs-requires
     enum-known-counted
