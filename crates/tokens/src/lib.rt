@@ -1,5 +1,6 @@
 // What the walks over a text's tokens share: a single step's answer, the end of a reference's name, and a character reference.
 ghost use mathlib.Core.Path.{_≡_};
+ghost use mathlib.Core.List.{[]};
 ghost use Prim.Native.Nat.{_≤_, _<_};
 ghost use lib.ListN.{length};
 ghost use Rattle.output.specs.Over.{over};
@@ -116,4 +117,24 @@ pub fn number_step(digits: &[u8], next: usize, openings: u64, out: &mut [u8]) ->
         return handed(charref::answer_of(n));
     };
     char_step(c, next, openings, out)
+}
+
+// As `number_step`, without an output and with nothing opened: for a walk that counts.
+pub fn number_length(digits: &[u8], next: usize) -> Step
+    ensures { λ r. ⌜ Stepped next (numberOutcome anyCharacter (now (digits .entry)) 0) [] [] r ⌝ }
+{
+    let len = digits.len();
+    if len == 0 {
+        return handed(charref::answer_of(CharNumber::InvalidNumber));
+    }
+    // As a part, as in `number_step`.
+    let n = charref::parse_number(&digits[..len]);
+    let CharNumber::Char(c) = n else {
+        return handed(charref::answer_of(n));
+    };
+    Step::Next {
+        at: next,
+        len: charref::utf8_length(c),
+        openings: 0,
+    }
 }

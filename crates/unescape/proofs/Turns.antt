@@ -1,6 +1,6 @@
 -- What the loop over runs and references keeps, and its turns. Assumes nothing.
-use mathlib.Core.Path.{_≡_, subst}
-use mathlib.Core.List.{List}
+use mathlib.Core.Path.{_≡_, sym, subst}
+use mathlib.Core.List.{List, []}
 use Prim.Native.Nat.{ℕ, _+_, _-_, _*_, _≤_, _<_, min}
 use native.Mathlib.Omega.{arith}
 use lib.ListN.{length, getD, take, drop}
@@ -9,6 +9,7 @@ use borrow.Rule.Slice.PartMut.{midOf, putMid}
 use Rattle.text.specs.declared.Answer.the-variants.{Done, Refused}
 use Rattle.entity.specs.Binding.{Bound}
 use Rattle.output.specs.Over.{over}
+use Rattle.output.proofs.Clip.{over-nothing}
 use Rattle.tokens.specs.Walking.{RunEnd, Walked}
 use Rattle.tokens.specs.declared.Step.{Step}
 use Rattle.tokens.specs.declared.Step.the-variants.{Next, Stopped}
@@ -67,3 +68,17 @@ module _ (bind : List ℕ → Bound) (text : List ℕ) where
               → Walked (unescape bind text) old (putMid w (length out - w) out part) (Refused number first second)
           unfolding unescape
           ran-refused s = progress-refused textHead (replaced bind) text 0 old (g .progress) least h (s .step)
+
+  -- ---- a walk that counts has an output of no bytes
+
+  module _ {i len : ℕ} (g : Ran [] [] i len) where
+    pub counted-run : {e : ℕ} → RunEnd isAmp text i e → Ran [] [] e (len + (e - i))
+    counted-run {e} r = ran-run [] g {w = 0} {part = []} (omega arith) r (sym (over-nothing (take (e - i) (drop i text))))
+
+    module _ (h : i < length text) where
+      pub counted-step : {a l m : ℕ} → Referred bind text i [] [] (Next a l m) → Ran [] [] a (len + l)
+      counted-step s = ran-step [] g {w = 0} {part = []} (omega arith) h s
+
+      pub counted-refused : {number first second : ℕ} → Referred bind text i [] [] (Stopped number first second)
+          → Walked (unescape bind text) [] [] (Refused number first second)
+      counted-refused s = ran-refused [] g {w = 0} {part = []} (omega arith) h s

@@ -259,12 +259,130 @@ fn unescape_runs(text: &[u8], list: &[u8], pool: &[u8], out: &mut [u8]) -> Answe
     }
 }
 
-// Counts first, and holds a short value meanwhile: a refusal leaves the output, 19 too.
+// As `name_step`, without an output.
+fn name_length(name: &[u8], i: usize, next: usize, list: &[u8], pool: &[u8]) -> Step
+    requires { ⌜ i + 1 + length (now name) ≤ 16777216 ⌝ }
+    requires { ⌜ ValidTable (now list) (now pool) ⌝ }
+    ensures { λ r. ⌜ Named (binding (now (list .entry)) (now (pool .entry)) (now (name .entry))) (now (name .entry)) i next [] [] r ⌝ }
+{
+    match entity::resolve_entity(list, pool, name) {
+        Binding::Text { start, end } => Step::Next {
+            at: next,
+            len: end - start,
+            openings: 0,
+        },
+        Binding::Predefined(_) => Step::Next {
+            at: next,
+            len: 1,
+            openings: 0,
+        },
+        Binding::Unknown => {
+            let first = i + 1;
+            Step::Stopped {
+                number: 11,
+                first: first as u64,
+                second: (first + name.len()) as u64,
+            }
+        }
+    }
+}
+
+// As `unescape_step`, without an output.
+fn count_step(text: &[u8], i: usize, list: &[u8], pool: &[u8]) -> Step
+    requires { ⌜ length (now text) ≤ 16777216 ⌝ }
+    requires { ⌜ (i < length (now text)) × (getD (now text) i 0 ≡ 38) ⌝ }
+    requires { ⌜ ValidTable (now list) (now pool) ⌝ }
+    ensures { λ r. ⌜ Referred (binding (now (list .entry)) (now (pool .entry))) (now (text .entry)) i [] [] r ⌝ }
+{
+    let start = i + 1;
+    let end = tokens::name_end(text, start, true);
+    if end == text.len() {
+        return Step::Stopped {
+            number: 10,
+            first: i as u64,
+            second: end as u64,
+        };
+    }
+    if text[start] == b'#' {
+        return tokens::number_length(&text[start + 1..end], end + 1);
+    }
+    name_length(&text[start..end], i, end + 1, list, pool)
+}
+
+// As `unescape_runs`, without an output: the value's length, or the refusal.
+fn count_runs(text: &[u8], list: &[u8], pool: &[u8]) -> Answer
+    requires { ⌜ length (now text) ≤ 16777216 ⌝ }
+    requires { ⌜ ValidTable (now list) (now pool) ⌝ }
+    ensures { λ r. ⌜ Walked (unescape (binding (now (list .entry)) (now (pool .entry))) (now (text .entry))) [] [] r ⌝ }
+{
+    let mut i: usize = 0;
+    let mut len: usize = 0;
+    loop {
+        let e = amp_end(text, i);
+        len += e - i;
+        if e == text.len() {
+            return Answer::Done {
+                first: len as u64,
+                second: 0,
+            };
+        }
+        match count_step(text, e, list, pool) {
+            Step::Next {
+                at: next,
+                len: more,
+                openings: _,
+            } => {
+                i = next;
+                len += more;
+            }
+            Step::Stopped {
+                number,
+                first,
+                second,
+            } => {
+                return Answer::Refused {
+                    number,
+                    first,
+                    second,
+                };
+            }
+        }
+    }
+}
+
+// Counts first: a refusal leaves the output, 19 too.
+fn unescape_long(text: &[u8], list: &[u8], pool: &[u8], out: &mut [u8]) -> Answer
+    requires { ⌜ length (now text) ≤ 16777216 ⌝ }
+    requires { ⌜ ValidTable (now list) (now pool) ⌝ }
+    ensures { λ r. ⌜ callOf r (now (out .exit) ∷ []) ≡ finished (unescape (binding (now (list .entry)) (now (pool .entry))) (now (text .entry))) (now (out .entry)) ⌝ }
+{
+    let counted = count_runs(text, list, pool);
+    let Answer::Done {
+        first: needed,
+        second: _,
+    } = counted
+    else {
+        return counted;
+    };
+    if (out.len() as u64) < needed {
+        return Answer::Refused {
+            number: 19,
+            first: needed,
+            second: 0,
+        };
+    }
+    unescape_runs(text, list, pool, out)
+}
+
+// A short text's value is held while it is counted: a refusal leaves the output, 19 too.
 pub fn unescape_with(text: &[u8], list: &[u8], pool: &[u8], out: &mut [u8]) -> Answer
     requires { ⌜ length (now text) ≤ 16777216 ⌝ }
     requires { ⌜ ValidTable (now list) (now pool) ⌝ }
     ensures { λ r. ⌜ callOf r (now (out .exit) ∷ []) ≡ finished (unescape (binding (now (list .entry)) (now (pool .entry))) (now (text .entry))) (now (out .entry)) ⌝ }
 {
+    if 128 < text.len() {
+        return unescape_long(text, list, pool, out);
+    }
     let mut held = [0u8; 128];
     let counted = unescape_runs(text, list, pool, &mut held);
     let Answer::Done {

@@ -11,6 +11,15 @@ use borrow.Author.Needs.{needs}
 use Rattle.unescape.proofs.unescape_with.Statement.{statement}
 use Rattle.unescape.proofs.unescape_with.Tie as tie
 
+unescape-long-requires : tie.Need-unescape-long-requires
+unescape-long-requires c κs = search needs
+
+same-length : tie.Need-same-length
+same-length c = search needs
+
+returns : tie.Need-returns
+returns c = search needs
+
 slice-aggregate-unescape-runs : tie.Need-slice-aggregate-unescape-runs
 slice-aggregate-unescape-runs c = search needs
 
@@ -23,60 +32,63 @@ enum-known-counted c = search needs
 enum-told : tie.Need-enum-told
 enum-told c = search needs
 
-returns : tie.Need-returns
-returns c =
-    let o = unescape (binding (c .before .before .before .before .before .before .before .before .before .args .list .now) (c .before .before .before .before .before .before .before .before .before .args .pool .now)) (c .before .before .before .before .before .before .before .before .before .args .text .now) in
-    ended-call o (c .before .before .before .before .before .before .before .before .before .args .out .now) (ended-refused 19 o (c .before .before .before .before .before .before .before .before .before .args .out .now) (c .enum-told .given .1) (c .before .before .before .unescape-runs .ensures))
-
 returns-2 : tie.Need-returns-2
 returns-2 c =
-    let o = unescape (binding (c .before .before .before .before .before .before .before .before .before .before .before .args .list .now) (c .before .before .before .before .before .before .before .before .before .before .before .args .pool .now)) (c .before .before .before .before .before .before .before .before .before .before .before .args .text .now) in
-    ended-call o (c .before .before .before .before .before .before .before .before .before .before .before .args .out .now) (ended-short 19 o (c .before .before .before .before .before .before .before .before .before .before .before .args .out .now) (c .before .before .counted .given .1) (c .before .before .before .before .before .unescape-runs .ensures) (omega (arith, c .if1 .taken)))
+    let o = unescape (binding (c .before .before .before .before .before .before .before .before .before .before .args .list .now) (c .before .before .before .before .before .before .before .before .before .before .args .pool .now)) (c .before .before .before .before .before .before .before .before .before .before .args .text .now) in
+    ended-call o (c .before .before .before .before .before .before .before .before .before .before .args .out .now) (ended-refused 19 o (c .before .before .before .before .before .before .before .before .before .before .args .out .now) (c .enum-told .given .1) (c .before .before .before .unescape-runs .ensures))
+
+returns-3 : tie.Need-returns-3
+returns-3 c =
+    let o = unescape (binding (c .before .before .before .before .before .before .before .before .before .before .before .before .args .list .now) (c .before .before .before .before .before .before .before .before .before .before .before .before .args .pool .now)) (c .before .before .before .before .before .before .before .before .before .before .before .before .args .text .now) in
+    ended-call o (c .before .before .before .before .before .before .before .before .before .before .before .before .args .out .now) (ended-short 19 o (c .before .before .before .before .before .before .before .before .before .before .before .before .args .out .now) (c .before .before .counted .given .1) (c .before .before .before .before .before .unescape-runs .ensures) (omega (arith, c .if2 .taken)))
 
 array-share-prefix-held : tie.Need-array-share-prefix-held
 array-share-prefix-held c = search needs
 
 slice-aggregate-put-run : tie.Need-slice-aggregate-put-run
-slice-aggregate-put-run c = sym (length-take-le (c .before .before .before .before .counted .given .0 .0) (c .before .before .before .before .before .before .before .unescape-runs .last .1 .1 .1 .0) (omega (arith, c .before .if2 .taken, c .before .before .before .before .before .before .before .unescape-runs .kept .1 .1 .1 .0)))
+slice-aggregate-put-run c = sym (length-take-le (c .before .before .before .before .counted .given .0 .0) (c .before .before .before .before .before .before .before .unescape-runs .last .1 .1 .1 .0) (omega (arith, c .before .if3 .taken, c .before .before .before .before .before .before .before .unescape-runs .kept .1 .1 .1 .0)))
 
 put-run-requires : tie.Need-put-run-requires
-put-run-requires c κs = rw (length-take-le (c .before .before .before .before .before .counted .given .0 .0) (c .before .before .before .before .before .before .before .before .unescape-runs .last .1 .1 .1 .0) (omega (arith, c .before .before .if2 .taken, c .before .before .before .before .before .before .before .before .unescape-runs .kept .1 .1 .1 .0))) (omega (arith, c .before .before .before .if1 .left))
-
-same-length : tie.Need-same-length
-same-length c = search needs
-
-returns-3 : tie.Need-returns-3
-returns-3 c =
-    let o = unescape (binding (c .before .before .before .before .before .before .before .before .before .before .before .before .before .before .before .before .before .args .list .now) (c .before .before .before .before .before .before .before .before .before .before .before .before .before .before .before .before .before .args .pool .now)) (c .before .before .before .before .before .before .before .before .before .before .before .before .before .before .before .before .before .args .text .now) in
-    ap (λ (a : Answer). callOf a (c .before .before .put-run .last .1 .0 ∷ [])) (sym (c .before .before .before .before .before .before .before .before .counted .given .1))
-    ∙ ended-call o (c .before .before .before .before .before .before .before .before .before .before .before .before .before .before .before .before .before .args .out .now) (ended-held 19 o (c .before .before .before .before .before .before .before .before .before .before .before .before .before .before .before .before .before .args .out .now) (c .before .before .before .before .before .before .before .before .counted .given .1) (c .before .before .before .before .before .before .before .before .before .before .before .unescape-runs .ensures) (omega (arith, c .before .before .before .before .before .if2 .taken)) (omega (arith, c .before .before .before .before .before .before .if1 .left)) (c .before .before .put-run .ensures))
-
-unescape-runs-requires-2 : tie.Need-unescape-runs-requires-2
-unescape-runs-requires-2 c κs = search needs
+put-run-requires c κs = rw (length-take-le (c .before .before .before .before .before .counted .given .0 .0) (c .before .before .before .before .before .before .before .before .unescape-runs .last .1 .1 .1 .0) (omega (arith, c .before .before .if3 .taken, c .before .before .before .before .before .before .before .before .unescape-runs .kept .1 .1 .1 .0))) (omega (arith, c .before .before .before .if2 .left))
 
 same-length-2 : tie.Need-same-length-2
 same-length-2 c = search needs
 
 returns-4 : tie.Need-returns-4
 returns-4 c =
-    let o = unescape (binding (c .before .before .before .before .before .before .before .before .before .before .before .before .before .before .before .before .args .list .now) (c .before .before .before .before .before .before .before .before .before .before .before .before .before .before .before .before .args .pool .now)) (c .before .before .before .before .before .before .before .before .before .before .before .before .before .before .before .before .args .text .now) in
-    ended-call o (c .before .before .before .before .before .before .before .before .before .before .before .before .before .before .before .before .args .out .now) (ended-written 19 o (c .before .before .before .before .before .before .before .before .before .before .before .before .before .before .before .before .args .out .now) (c .before .before .before .before .before .before .before .counted .given .1) (c .before .before .before .before .before .before .before .before .before .before .unescape-runs .ensures) (omega (arith, c .before .before .before .before .before .if1 .left)) (c .before .before .unescape-runs2 .ensures))
+    let o = unescape (binding (c .before .before .before .before .before .before .before .before .before .before .before .before .before .before .before .before .before .before .args .list .now) (c .before .before .before .before .before .before .before .before .before .before .before .before .before .before .before .before .before .before .args .pool .now)) (c .before .before .before .before .before .before .before .before .before .before .before .before .before .before .before .before .before .before .args .text .now) in
+    ap (λ (a : Answer). callOf a (c .before .before .put-run .last .1 .0 ∷ [])) (sym (c .before .before .before .before .before .before .before .before .counted .given .1))
+    ∙ ended-call o (c .before .before .before .before .before .before .before .before .before .before .before .before .before .before .before .before .before .before .args .out .now) (ended-held 19 o (c .before .before .before .before .before .before .before .before .before .before .before .before .before .before .before .before .before .before .args .out .now) (c .before .before .before .before .before .before .before .before .counted .given .1) (c .before .before .before .before .before .before .before .before .before .before .before .unescape-runs .ensures) (omega (arith, c .before .before .before .before .before .if3 .taken)) (omega (arith, c .before .before .before .before .before .before .if2 .left)) (c .before .before .put-run .ensures))
+
+unescape-runs-requires-2 : tie.Need-unescape-runs-requires-2
+unescape-runs-requires-2 c κs = search needs
+
+same-length-3 : tie.Need-same-length-3
+same-length-3 c = search needs
+
+returns-5 : tie.Need-returns-5
+returns-5 c =
+    let o = unescape (binding (c .before .before .before .before .before .before .before .before .before .before .before .before .before .before .before .before .before .args .list .now) (c .before .before .before .before .before .before .before .before .before .before .before .before .before .before .before .before .before .args .pool .now)) (c .before .before .before .before .before .before .before .before .before .before .before .before .before .before .before .before .before .args .text .now) in
+    ended-call o (c .before .before .before .before .before .before .before .before .before .before .before .before .before .before .before .before .before .args .out .now) (ended-written 19 o (c .before .before .before .before .before .before .before .before .before .before .before .before .before .before .before .before .before .args .out .now) (c .before .before .before .before .before .before .before .counted .given .1) (c .before .before .before .before .before .before .before .before .before .before .unescape-runs .ensures) (omega (arith, c .before .before .before .before .before .if2 .left)) (c .before .before .unescape-runs2 .ensures))
 
 pub unescape-with-spec : {M : Type 1} → statement M
 unescape-with-spec =
     tie.close
     (tie.spec
+    unescape-long-requires
+    same-length
+    returns
     slice-aggregate-unescape-runs
     unescape-runs-requires
     enum-known-counted
     enum-told
-    returns
     returns-2
+    returns-3
     array-share-prefix-held
     slice-aggregate-put-run
     put-run-requires
-    same-length
-    returns-3
-    unescape-runs-requires-2
     same-length-2
-    returns-4)
+    returns-4
+    unescape-runs-requires-2
+    same-length-3
+    returns-5)
