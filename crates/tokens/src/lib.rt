@@ -1,13 +1,16 @@
 // What the walks over a text's tokens share: a single step's answer, the end of a reference's name, and a character reference.
 ghost use mathlib.Core.Path.{_≡_};
+ghost use mathlib.Core.Logic.{_≢_};
 ghost use mathlib.Core.List.{[]};
-ghost use Prim.Native.Nat.{_≤_, _<_};
-ghost use lib.ListN.{length};
+ghost use Prim.Native.Nat.{_+_, _≤_, _<_};
+ghost use lib.ListN.{length, getD};
 ghost use Rattle.output.specs.Over.{over};
 ghost use Rattle.charref.specs.CharRef.{anyCharacter, encode};
+ghost use Rattle.charref.specs.Reading.{Found};
 ghost use Rattle.tokens.specs.Outcome.{done, numberOutcome};
 ghost use Rattle.tokens.specs.Walking.{NameEnd, Stepped, handedOn};
 use charref::CharNumber;
+use charref::Quick;
 use text::Answer;
 
 // The offset of the next token, the length written and the openings so far; or the refusal.
@@ -40,6 +43,19 @@ pub fn name_end(text: &[u8], from: usize, inner: bool) -> usize
         i += 1;
     }
     i
+}
+
+// The character reference whose `#` would be at `from`, where its digits end at the `;` by themselves; where c is 0 nothing is said.
+pub fn quick_reference(text: &[u8], from: usize) -> Quick
+    requires { ⌜ from ≤ length (now text) ⌝ }
+    ensures { λ r. ⌜ (r .c ≢ 0 → (from < length (now (text .entry))) × (getD (now (text .entry)) from 0 ≡ 35) × Found (now (text .entry)) (from + 1) r) ⌝ }
+{
+    if from < text.len() {
+        if text[from] == b'#' {
+            return charref::quick_number(text, from + 1);
+        }
+    }
+    Quick { c: 0, end: from }
 }
 
 // The character's bytes, as many as there is room for. Their count.
@@ -87,6 +103,18 @@ fn handed(a: Answer) -> Step
             first,
             second,
         },
+    }
+}
+
+// A run of bytes as it stands; its token ends before `next`.
+pub fn run_step(run: &[u8], next: usize, openings: u64, out: &mut [u8]) -> Step
+    ensures { λ r. ⌜ Stepped next (done (now (run .entry)) openings) (now (out .entry)) (now (out .exit)) r ⌝ }
+{
+    output::put_over(run, out);
+    Step::Next {
+        at: next,
+        len: run.len(),
+        openings,
     }
 }
 
