@@ -1,9 +1,9 @@
 -- The single step, return by return: what a stop stands for at a depth, and how far the step goes. Assumes nothing.
-use mathlib.Core.Path.{_≡_, refl, sym, ap, subst, _∙_}
+use mathlib.Core.Path.{_≡_, refl, sym, ap, _∙_}
 use mathlib.Core.Logic.{_≢_}
 use mathlib.Core.Bool.{Bool, true, false, true≢false}
 use mathlib.Core.List.{List, [], _∷_, append-nil}
-use Prim.Native.Nat.{ℕ, zero, suc, _+_, _-_, _*_, _≤_, _<_}
+use Prim.Native.Nat.{ℕ, zero, suc, _+_, _-_, _≤_, _<_}
 use native.Mathlib.Omega.{arith}
 use native.Mathlib.Numerals.{add-one}
 use lib.Dec.{eqb}
@@ -14,29 +14,27 @@ use Rattle.text.specs.Bytes.{pick, sameBytes}
 use Rattle.text.specs.Version.{Rule}
 use Rattle.text.specs.declared.Answer.{Answer}
 use Rattle.text.specs.declared.Answer.the-variants.{Done, Refused}
-use Rattle.text.proofs.Bytes.{pick-by}
 use Rattle.charref.specs.CharRef.{anyCharacter, encode}
 use Rattle.charref.specs.Reading.{Found}
 use Rattle.charref.specs.declared.Quick.{Quick}
 use Rattle.eols.specs.Stops.{ruleFor}
 use Rattle.eols.specs.declared.Step.{Step as Blanked}
 use Rattle.entity.specs.Table.{Body, inside, Declaration, nameOf, part, declarations}
-use Rattle.entity.specs.Binding.{Bound, text, predefined, unknown, predefinedOf, bodyBound, bindingIn, binding, boundTo, Lies}
+use Rattle.entity.specs.Binding.{Bound, text, predefined, unknown, predefinedOf, bodyBound, bindingIn, binding, boundTo}
 use Rattle.entity.specs.declared.Binding.{Binding}
 use Rattle.entity.specs.declared.Binding.the-variants.{Text, Predefined, Unknown}
-use Rattle.output.specs.Over.{over}
 use Rattle.output.specs.Runs.{Plain}
 use Rattle.output.proofs.Clip.{length-over}
 use Rattle.output.proofs.Runs.{plain-byte}
-use Rattle.tokens.specs.Tokens.{Stop, kept, space, number, named, unterminated, Token, copy, stop, Head, head, tokenOf, skipOf, nameAt, referenceAt, tokens}
+use Rattle.tokens.specs.Tokens.{Token, copy, stop, Head, tokenOf, skipOf, nameAt, referenceAt, tokens}
 use Rattle.tokens.specs.Outcome.{Outcome, done, refused, prepend, run, produced, answerOf, numberOutcome}
 use Rattle.tokens.specs.Walking.{NameEnd, headAt, nextAt, outcomeOf, stepOf, Stepped, Walked}
 use Rattle.tokens.specs.declared.Step.{Step}
-use Rattle.tokens.specs.declared.Step.the-variants.{Next, Stopped}
+use Rattle.tokens.specs.declared.Step.the-variants.{Stopped}
 use Rattle.tokens.proofs.Names.{closed-reference}
 use Rattle.tokens.proofs.Numbers.{Small, number-small, number-written}
 use Rattle.tokens.proofs.Progress.{run-over, run-plain}
-use Rattle.tokens.proofs.References.{reference-none, reference-number, reference-named, name-size, digits-from}
+use Rattle.tokens.proofs.References.{reference-none, reference-number, reference-named, name-size}
 use Rattle.attribute.specs.Heads.{attributeHead}
 use Rattle.attribute.specs.Walk.{Settings, opened, answer, exhausted, walk, reading, readingOf}
 use Rattle.attribute.specs.Steps.{stopByte, stopAnswer, outcomeAt, Blank, ampOr, stepFrom, Counted, CountedStep}
@@ -325,13 +323,13 @@ module _ (newer : Bool) (list pool : List ℕ) (limit depth : ℕ) (t : List ℕ
 
           -- a replacement text without stops, copied
           pub step-plain : (a z : ℕ) → x ≡ Text a z → n ≢ limit → Plain (stopByte newer) (take (z - a) (drop a pool)) 0 (length (take (z - a) (drop a pool)))
-              → {len : ℕ} → length (take (z - a) (drop a pool)) ≡ len → {old new : List ℕ} → new ≡ over (take (z - a) (drop a pool)) old
-              → Steps old new (Next (end + 1) len (n + 1))
-          step-plain a z k q p {len} size {old} {new} w =
-              let whole = walk-plain setting newer (depth - 1) (take (z - a) (drop a pool)) (n + 1) p in
-              let walked : Walked (walk setting (attributeHead (ruleFor newer)) (depth - 1) (take (z - a) (drop a pool)) (n + 1)) old new (Done len (n + 1)) =
-              record { answers = sym (ap answerOf whole ∙ ap (λ (k : ℕ). Done k (n + 1)) size); writes = w ∙ ap (λ (o : Outcome). over (produced o) old) (sym whole) } in
-              step-text a z k q walked refl
+              → {old new : List ℕ} {r : Step} → Stepped (end + 1) (done (take (z - a) (drop a pool)) (n + 1)) old new r → Steps old new r
+          unfolding readingOf reading
+          step-plain a z k q p s =
+              stepped-as goes-to
+              (at-text newer setting any depth deep t at n end amp e h b (binding list pool called) bound-is pool a z (sym (ap (boundTo pool) k) ∙ same) q
+              ∙ walk-plain setting newer (depth - 1) (take (z - a) (drop a pool)) (n + 1) p)
+              s
 
           pub step-unknown : x ≡ Unknown → {old : List ℕ} {r : Step} → r ≡ Stopped 11 (at + 1) end → Steps old old r
           step-unknown k p =

@@ -244,14 +244,10 @@ fn normalize_attr_step(
     }
     let from = at + 1;
     // Digits end at the `;` by themselves, so that most numbers need no search for it.
-    if from < text.len() {
-        if text[from] == b'#' {
-            let quick = charref::quick_number(text, from + 1);
-            let c = quick.c;
-            if c != 0 {
-                return tokens::char_step(c, quick.end + 1, openings, out);
-            }
-        }
+    let quick = tokens::quick_reference(text, from);
+    let c = quick.c;
+    if c != 0 {
+        return tokens::char_step(c, quick.end + 1, openings, out);
     }
     let end = tokens::name_end(text, from, false);
     if end == text.len() {
@@ -266,12 +262,7 @@ fn normalize_attr_step(
                 return stopped(17, at, 0);
             }
             if is_plain(&pool[start..last], newer) {
-                output::put_over(&pool[start..last], out);
-                return Step::Next {
-                    at: end + 1,
-                    len: last - start,
-                    openings: openings + 1,
-                };
+                return tokens::run_step(&pool[start..last], end + 1, openings + 1, out);
             }
             let walked = normalize_attr_steps(
                 &pool[start..last],

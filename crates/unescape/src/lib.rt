@@ -193,14 +193,10 @@ fn unescape_step(text: &[u8], i: usize, list: &[u8], pool: &[u8], out: &mut [u8]
 {
     let start = i + 1;
     // Digits end at the `;` by themselves, so that most numbers need no search for it.
-    if start < text.len() {
-        if text[start] == b'#' {
-            let quick = charref::quick_number(text, start + 1);
-            let c = quick.c;
-            if c != 0 {
-                return tokens::char_step(c, quick.end + 1, 0, out);
-            }
-        }
+    let quick = tokens::quick_reference(text, start);
+    let c = quick.c;
+    if c != 0 {
+        return tokens::char_step(c, quick.end + 1, 0, out);
     }
     let end = tokens::name_end(text, start, true);
     if end == text.len() {
@@ -295,6 +291,15 @@ fn count_step(text: &[u8], i: usize, list: &[u8], pool: &[u8]) -> Step
     ensures { λ r. ⌜ Referred (binding (now (list .entry)) (now (pool .entry))) (now (text .entry)) i [] [] r ⌝ }
 {
     let start = i + 1;
+    let quick = tokens::quick_reference(text, start);
+    let c = quick.c;
+    if c != 0 {
+        return Step::Next {
+            at: quick.end + 1,
+            len: charref::utf8_length(c),
+            openings: 0,
+        };
+    }
     let end = tokens::name_end(text, start, true);
     if end == text.len() {
         return Step::Stopped {

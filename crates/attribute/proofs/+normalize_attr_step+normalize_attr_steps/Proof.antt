@@ -1,9 +1,8 @@
 use Rattle.attribute.proofs.Single.{walk-run, counted-number, counted-walked, step-zero, step-blank, step-none, step-number, step-char, step-limit, step-text, step-unknown, step-predefined, stepped-told, walked-as, stepped-length, step-plain}
 use mathlib.Core.Bool.{false}
-use Rattle.output.proofs.Clip.{length-over}
 use lib.Seq.{length-take-le}
 use Rattle.tokens.proofs.References.{digits-from}
-use mathlib.Core.Path.{_≡_, ap, _∙_, subst}
+use mathlib.Core.Path.{_≡_, subst}
 use native.Mathlib.Omega.{arith}
 use lib.ListN.{length, take, drop, length-take, length-drop}
 use borrow.Author.Needs.{needs}
@@ -30,12 +29,13 @@ use Rattle.attribute.proofs.is_plain.Reads as is-plain-reads
 use Rattle.attribute.proofs.run_end.Reads as run-end-reads
 use Rattle.attribute.proofs.stopped.Reads as stopped-reads
 use Rattle.attribute.proofs.walked_step.Reads as walked-step-reads
-use Rattle.charref.proofs.quick_number.Reads as quick-number-reads
 use Rattle.output.proofs.least.Reads as least-reads
 use Rattle.output.proofs.put_over.Reads as put-over-reads
 use Rattle.tokens.proofs.char_step.Reads as char-step-reads
 use Rattle.tokens.proofs.name_end.Reads as name-end-reads
 use Rattle.tokens.proofs.number_step.Reads as number-step-reads
+use Rattle.tokens.proofs.quick_reference.Reads as quick-reference-reads
+use Rattle.tokens.proofs.run_step.Reads as run-step-reads
 use Rattle.attribute.proofs.+normalize_attr_step+normalize_attr_steps.{statement}
 use Rattle.attribute.proofs.+normalize_attr_step+normalize_attr_steps.Tie.{close}
 
@@ -84,8 +84,8 @@ normalize-attr-step-stopped-requires : (t : ℕ) → normalize-attr-step-lts.Nee
   blank-at-reads.Learnt,
   byte-step-reads.Asked,
   byte-step-reads.Learnt,
-  quick-number-reads.Asked,
-  quick-number-reads.Learnt,
+  quick-reference-reads.Asked,
+  quick-reference-reads.Learnt,
   char-step-reads.Asked,
   char-step-reads.Learnt,
   name-end-reads.Asked,
@@ -96,8 +96,8 @@ normalize-attr-step-stopped-requires : (t : ℕ) → normalize-attr-step-lts.Nee
   bound-to-reads.Learnt,
   is-plain-reads.Asked,
   is-plain-reads.Learnt,
-  put-over-reads.Asked,
-  put-over-reads.Learnt,
+  run-step-reads.Asked,
+  run-step-reads.Learnt,
   normalize-attr-steps-below t,
   normalize-attr-steps.Post,
   walked-step-reads.Asked,
@@ -112,8 +112,8 @@ normalize-attr-step-returns : (t : ℕ) → normalize-attr-step-lts.Need-returns
   blank-at-reads.Learnt,
   byte-step-reads.Asked,
   byte-step-reads.Learnt,
-  quick-number-reads.Asked,
-  quick-number-reads.Learnt,
+  quick-reference-reads.Asked,
+  quick-reference-reads.Learnt,
   char-step-reads.Asked,
   char-step-reads.Learnt,
   name-end-reads.Asked,
@@ -124,8 +124,8 @@ normalize-attr-step-returns : (t : ℕ) → normalize-attr-step-lts.Need-returns
   bound-to-reads.Learnt,
   is-plain-reads.Asked,
   is-plain-reads.Learnt,
-  put-over-reads.Asked,
-  put-over-reads.Learnt,
+  run-step-reads.Asked,
+  run-step-reads.Learnt,
   normalize-attr-steps-below t,
   normalize-attr-steps.Post,
   walked-step-reads.Asked,
@@ -141,8 +141,8 @@ normalize-attr-step-shared-slice-read-if2 :
       blank-at-reads.Learnt,
       byte-step-reads.Asked,
       byte-step-reads.Learnt,
-      quick-number-reads.Asked,
-      quick-number-reads.Learnt,
+      quick-reference-reads.Asked,
+      quick-reference-reads.Learnt,
       char-step-reads.Asked,
       char-step-reads.Learnt,
       name-end-reads.Asked,
@@ -153,8 +153,8 @@ normalize-attr-step-shared-slice-read-if2 :
       bound-to-reads.Learnt,
       is-plain-reads.Asked,
       is-plain-reads.Learnt,
-      put-over-reads.Asked,
-      put-over-reads.Learnt,
+      run-step-reads.Asked,
+      run-step-reads.Learnt,
       normalize-attr-steps-below t,
       normalize-attr-steps.Post,
       walked-step-reads.Asked,
@@ -169,8 +169,8 @@ normalize-attr-step-blank-at-requires : (t : ℕ) → normalize-attr-step-lts.Ne
   blank-at-reads.Learnt,
   byte-step-reads.Asked,
   byte-step-reads.Learnt,
-  quick-number-reads.Asked,
-  quick-number-reads.Learnt,
+  quick-reference-reads.Asked,
+  quick-reference-reads.Learnt,
   char-step-reads.Asked,
   char-step-reads.Learnt,
   name-end-reads.Asked,
@@ -181,8 +181,8 @@ normalize-attr-step-blank-at-requires : (t : ℕ) → normalize-attr-step-lts.Ne
   bound-to-reads.Learnt,
   is-plain-reads.Asked,
   is-plain-reads.Learnt,
-  put-over-reads.Asked,
-  put-over-reads.Learnt,
+  run-step-reads.Asked,
+  run-step-reads.Learnt,
   normalize-attr-steps-below t,
   normalize-attr-steps.Post,
   walked-step-reads.Asked,
@@ -197,8 +197,8 @@ normalize-attr-step-add-byte-step : (t : ℕ) → normalize-attr-step-lts.Need-a
   blank-at-reads.Learnt,
   byte-step-reads.Asked,
   byte-step-reads.Learnt,
-  quick-number-reads.Asked,
-  quick-number-reads.Learnt,
+  quick-reference-reads.Asked,
+  quick-reference-reads.Learnt,
   char-step-reads.Asked,
   char-step-reads.Learnt,
   name-end-reads.Asked,
@@ -209,8 +209,8 @@ normalize-attr-step-add-byte-step : (t : ℕ) → normalize-attr-step-lts.Need-a
   bound-to-reads.Learnt,
   is-plain-reads.Asked,
   is-plain-reads.Learnt,
-  put-over-reads.Asked,
-  put-over-reads.Learnt,
+  run-step-reads.Asked,
+  run-step-reads.Learnt,
   normalize-attr-steps-below t,
   normalize-attr-steps.Post,
   walked-step-reads.Asked,
@@ -225,8 +225,8 @@ normalize-attr-step-byte-step-requires : (t : ℕ) → normalize-attr-step-lts.N
   blank-at-reads.Learnt,
   byte-step-reads.Asked,
   byte-step-reads.Learnt,
-  quick-number-reads.Asked,
-  quick-number-reads.Learnt,
+  quick-reference-reads.Asked,
+  quick-reference-reads.Learnt,
   char-step-reads.Asked,
   char-step-reads.Learnt,
   name-end-reads.Asked,
@@ -237,8 +237,8 @@ normalize-attr-step-byte-step-requires : (t : ℕ) → normalize-attr-step-lts.N
   bound-to-reads.Learnt,
   is-plain-reads.Asked,
   is-plain-reads.Learnt,
-  put-over-reads.Asked,
-  put-over-reads.Learnt,
+  run-step-reads.Asked,
+  run-step-reads.Learnt,
   normalize-attr-steps-below t,
   normalize-attr-steps.Post,
   walked-step-reads.Asked,
@@ -253,8 +253,8 @@ normalize-attr-step-same-length : (t : ℕ) → normalize-attr-step-lts.Need-sam
   blank-at-reads.Learnt,
   byte-step-reads.Asked,
   byte-step-reads.Learnt,
-  quick-number-reads.Asked,
-  quick-number-reads.Learnt,
+  quick-reference-reads.Asked,
+  quick-reference-reads.Learnt,
   char-step-reads.Asked,
   char-step-reads.Learnt,
   name-end-reads.Asked,
@@ -265,8 +265,8 @@ normalize-attr-step-same-length : (t : ℕ) → normalize-attr-step-lts.Need-sam
   bound-to-reads.Learnt,
   is-plain-reads.Asked,
   is-plain-reads.Learnt,
-  put-over-reads.Asked,
-  put-over-reads.Learnt,
+  run-step-reads.Asked,
+  run-step-reads.Learnt,
   normalize-attr-steps-below t,
   normalize-attr-steps.Post,
   walked-step-reads.Asked,
@@ -281,8 +281,8 @@ normalize-attr-step-returns-2 : (t : ℕ) → normalize-attr-step-lts.Need-retur
   blank-at-reads.Learnt,
   byte-step-reads.Asked,
   byte-step-reads.Learnt,
-  quick-number-reads.Asked,
-  quick-number-reads.Learnt,
+  quick-reference-reads.Asked,
+  quick-reference-reads.Learnt,
   char-step-reads.Asked,
   char-step-reads.Learnt,
   name-end-reads.Asked,
@@ -293,8 +293,8 @@ normalize-attr-step-returns-2 : (t : ℕ) → normalize-attr-step-lts.Need-retur
   bound-to-reads.Learnt,
   is-plain-reads.Asked,
   is-plain-reads.Learnt,
-  put-over-reads.Asked,
-  put-over-reads.Learnt,
+  run-step-reads.Asked,
+  run-step-reads.Learnt,
   normalize-attr-steps-below t,
   normalize-attr-steps.Post,
   walked-step-reads.Asked,
@@ -309,8 +309,8 @@ normalize-attr-step-add-from : (t : ℕ) → normalize-attr-step-lts.Need-add-fr
   blank-at-reads.Learnt,
   byte-step-reads.Asked,
   byte-step-reads.Learnt,
-  quick-number-reads.Asked,
-  quick-number-reads.Learnt,
+  quick-reference-reads.Asked,
+  quick-reference-reads.Learnt,
   char-step-reads.Asked,
   char-step-reads.Learnt,
   name-end-reads.Asked,
@@ -321,8 +321,8 @@ normalize-attr-step-add-from : (t : ℕ) → normalize-attr-step-lts.Need-add-fr
   bound-to-reads.Learnt,
   is-plain-reads.Asked,
   is-plain-reads.Learnt,
-  put-over-reads.Asked,
-  put-over-reads.Learnt,
+  run-step-reads.Asked,
+  run-step-reads.Learnt,
   normalize-attr-steps-below t,
   normalize-attr-steps.Post,
   walked-step-reads.Asked,
@@ -330,16 +330,16 @@ normalize-attr-step-add-from : (t : ℕ) → normalize-attr-step-lts.Need-add-fr
 ) (normalize-attr-step-at t) normalize-attr-step.Post
 normalize-attr-step-add-from t c = omega (arith, c .before .before .before .before .before .before .before .pre .1 .1 .0)
 
-normalize-attr-step-shared-slice-read-if4 :
-    (t : ℕ) → normalize-attr-step-lts.Need-shared-slice-read-if4 (
+normalize-attr-step-quick-reference-requires :
+    (t : ℕ) → normalize-attr-step-lts.Need-quick-reference-requires (
       stopped-reads.Asked,
       stopped-reads.Learnt,
       blank-at-reads.Asked,
       blank-at-reads.Learnt,
       byte-step-reads.Asked,
       byte-step-reads.Learnt,
-      quick-number-reads.Asked,
-      quick-number-reads.Learnt,
+      quick-reference-reads.Asked,
+      quick-reference-reads.Learnt,
       char-step-reads.Asked,
       char-step-reads.Learnt,
       name-end-reads.Asked,
@@ -350,71 +350,14 @@ normalize-attr-step-shared-slice-read-if4 :
       bound-to-reads.Learnt,
       is-plain-reads.Asked,
       is-plain-reads.Learnt,
-      put-over-reads.Asked,
-      put-over-reads.Learnt,
+      run-step-reads.Asked,
+      run-step-reads.Learnt,
       normalize-attr-steps-below t,
       normalize-attr-steps.Post,
       walked-step-reads.Asked,
       walked-step-reads.Learnt,
     ) (normalize-attr-step-at t) normalize-attr-step.Post
-normalize-attr-step-shared-slice-read-if4 t c = c .before .if3 .taken
-
-normalize-attr-step-add-quick-number : (t : ℕ) → normalize-attr-step-lts.Need-add-quick-number (
-  stopped-reads.Asked,
-  stopped-reads.Learnt,
-  blank-at-reads.Asked,
-  blank-at-reads.Learnt,
-  byte-step-reads.Asked,
-  byte-step-reads.Learnt,
-  quick-number-reads.Asked,
-  quick-number-reads.Learnt,
-  char-step-reads.Asked,
-  char-step-reads.Learnt,
-  name-end-reads.Asked,
-  name-end-reads.Learnt,
-  number-step-reads.Asked,
-  number-step-reads.Learnt,
-  bound-to-reads.Asked,
-  bound-to-reads.Learnt,
-  is-plain-reads.Asked,
-  is-plain-reads.Learnt,
-  put-over-reads.Asked,
-  put-over-reads.Learnt,
-  normalize-attr-steps-below t,
-  normalize-attr-steps.Post,
-  walked-step-reads.Asked,
-  walked-step-reads.Learnt,
-) (normalize-attr-step-at t) normalize-attr-step.Post
-normalize-attr-step-add-quick-number t c = omega (arith, c .before .before .before .before .before .before .before .before .before .before .pre .1 .1 .0)
-
-normalize-attr-step-quick-number-requires :
-    (t : ℕ) → normalize-attr-step-lts.Need-quick-number-requires (
-      stopped-reads.Asked,
-      stopped-reads.Learnt,
-      blank-at-reads.Asked,
-      blank-at-reads.Learnt,
-      byte-step-reads.Asked,
-      byte-step-reads.Learnt,
-      quick-number-reads.Asked,
-      quick-number-reads.Learnt,
-      char-step-reads.Asked,
-      char-step-reads.Learnt,
-      name-end-reads.Asked,
-      name-end-reads.Learnt,
-      number-step-reads.Asked,
-      number-step-reads.Learnt,
-      bound-to-reads.Asked,
-      bound-to-reads.Learnt,
-      is-plain-reads.Asked,
-      is-plain-reads.Learnt,
-      put-over-reads.Asked,
-      put-over-reads.Learnt,
-      normalize-attr-steps-below t,
-      normalize-attr-steps.Post,
-      walked-step-reads.Asked,
-      walked-step-reads.Learnt,
-    ) (normalize-attr-step-at t) normalize-attr-step.Post
-normalize-attr-step-quick-number-requires t c κs = omega (arith, c .before .before .if3 .taken)
+normalize-attr-step-quick-reference-requires t c κs = omega (arith, c .before .before .before .before .before .before .before .pre .1 .1 .0)
 
 normalize-attr-step-add-char-step : (t : ℕ) → normalize-attr-step-lts.Need-add-char-step (
   stopped-reads.Asked,
@@ -423,8 +366,8 @@ normalize-attr-step-add-char-step : (t : ℕ) → normalize-attr-step-lts.Need-a
   blank-at-reads.Learnt,
   byte-step-reads.Asked,
   byte-step-reads.Learnt,
-  quick-number-reads.Asked,
-  quick-number-reads.Learnt,
+  quick-reference-reads.Asked,
+  quick-reference-reads.Learnt,
   char-step-reads.Asked,
   char-step-reads.Learnt,
   name-end-reads.Asked,
@@ -435,14 +378,14 @@ normalize-attr-step-add-char-step : (t : ℕ) → normalize-attr-step-lts.Need-a
   bound-to-reads.Learnt,
   is-plain-reads.Asked,
   is-plain-reads.Learnt,
-  put-over-reads.Asked,
-  put-over-reads.Learnt,
+  run-step-reads.Asked,
+  run-step-reads.Learnt,
   normalize-attr-steps-below t,
   normalize-attr-steps.Post,
   walked-step-reads.Asked,
   walked-step-reads.Learnt,
 ) (normalize-attr-step-at t) normalize-attr-step.Post
-normalize-attr-step-add-char-step t c = omega (arith, c .before .before .before .before .before .before .before .before .before .before .before .before .before .pre .1 .1 .0, c .before .before .quick-number .ensures (c .before .if5 .taken) .closed .inside)
+normalize-attr-step-add-char-step t c = omega (arith, c .before .before .before .before .before .before .before .before .before .before .pre .1 .1 .0, c .before .before .quick-reference .ensures (c .before .if3 .taken) .2 .closed .inside)
 
 normalize-attr-step-char-step-requires : (t : ℕ) → normalize-attr-step-lts.Need-char-step-requires (
   stopped-reads.Asked,
@@ -451,8 +394,8 @@ normalize-attr-step-char-step-requires : (t : ℕ) → normalize-attr-step-lts.N
   blank-at-reads.Learnt,
   byte-step-reads.Asked,
   byte-step-reads.Learnt,
-  quick-number-reads.Asked,
-  quick-number-reads.Learnt,
+  quick-reference-reads.Asked,
+  quick-reference-reads.Learnt,
   char-step-reads.Asked,
   char-step-reads.Learnt,
   name-end-reads.Asked,
@@ -463,14 +406,14 @@ normalize-attr-step-char-step-requires : (t : ℕ) → normalize-attr-step-lts.N
   bound-to-reads.Learnt,
   is-plain-reads.Asked,
   is-plain-reads.Learnt,
-  put-over-reads.Asked,
-  put-over-reads.Learnt,
+  run-step-reads.Asked,
+  run-step-reads.Learnt,
   normalize-attr-steps-below t,
   normalize-attr-steps.Post,
   walked-step-reads.Asked,
   walked-step-reads.Learnt,
 ) (normalize-attr-step-at t) normalize-attr-step.Post
-normalize-attr-step-char-step-requires t c κs = omega (arith, c .before .before .before .quick-number .ensures (c .before .before .if5 .taken) .low)
+normalize-attr-step-char-step-requires t c κs = omega (arith, c .before .before .before .quick-reference .ensures (c .before .before .if3 .taken) .2 .low)
 
 normalize-attr-step-same-length-2 : (t : ℕ) → normalize-attr-step-lts.Need-same-length-2 (
   stopped-reads.Asked,
@@ -479,8 +422,8 @@ normalize-attr-step-same-length-2 : (t : ℕ) → normalize-attr-step-lts.Need-s
   blank-at-reads.Learnt,
   byte-step-reads.Asked,
   byte-step-reads.Learnt,
-  quick-number-reads.Asked,
-  quick-number-reads.Learnt,
+  quick-reference-reads.Asked,
+  quick-reference-reads.Learnt,
   char-step-reads.Asked,
   char-step-reads.Learnt,
   name-end-reads.Asked,
@@ -491,8 +434,8 @@ normalize-attr-step-same-length-2 : (t : ℕ) → normalize-attr-step-lts.Need-s
   bound-to-reads.Learnt,
   is-plain-reads.Asked,
   is-plain-reads.Learnt,
-  put-over-reads.Asked,
-  put-over-reads.Learnt,
+  run-step-reads.Asked,
+  run-step-reads.Learnt,
   normalize-attr-steps-below t,
   normalize-attr-steps.Post,
   walked-step-reads.Asked,
@@ -507,8 +450,8 @@ normalize-attr-step-returns-3 : (t : ℕ) → normalize-attr-step-lts.Need-retur
   blank-at-reads.Learnt,
   byte-step-reads.Asked,
   byte-step-reads.Learnt,
-  quick-number-reads.Asked,
-  quick-number-reads.Learnt,
+  quick-reference-reads.Asked,
+  quick-reference-reads.Learnt,
   char-step-reads.Asked,
   char-step-reads.Learnt,
   name-end-reads.Asked,
@@ -519,15 +462,16 @@ normalize-attr-step-returns-3 : (t : ℕ) → normalize-attr-step-lts.Need-retur
   bound-to-reads.Learnt,
   is-plain-reads.Asked,
   is-plain-reads.Learnt,
-  put-over-reads.Asked,
-  put-over-reads.Learnt,
+  run-step-reads.Asked,
+  run-step-reads.Learnt,
   normalize-attr-steps-below t,
   normalize-attr-steps.Post,
   walked-step-reads.Asked,
   walked-step-reads.Learnt,
 ) (normalize-attr-step-at t) normalize-attr-step.Post
 normalize-attr-step-returns-3 t c =
-    step-char (c .before .before .before .before .before .before .before .before .before .before .before .before .before .before .before .before .before .args .newer) (c .before .before .before .before .before .before .before .before .before .before .before .before .before .before .before .before .before .args .list .now) (c .before .before .before .before .before .before .before .before .before .before .before .before .before .before .before .before .before .args .pool .now) (c .before .before .before .before .before .before .before .before .before .before .before .before .before .before .before .before .before .args .limit) (c .before .before .before .before .before .before .before .before .before .before .before .before .before .before .before .before .before .args .depth) (c .before .before .before .before .before .before .before .before .before .before .before .before .before .before .before .before .before .args .text .now) (c .before .before .before .before .before .before .before .before .before .before .before .before .before .before .before .before .before .args .at) (c .before .before .before .before .before .before .before .before .before .before .before .before .before .before .before .before .before .args .openings) (c .before .before .before .before .before .before .before .before .before .before .before .before .if1 .left) (c .before .before .before .before .before .before .quick-number .result) (c .before .before .before .before .before .before .before .before .before .before .if2 .left) (c .before .before .before .before .before .before .before .if4 .taken) (c .before .before .before .before .before .before .quick-number .ensures (c .before .before .before .before .before .if5 .taken)) (c .before .before .before .before .before .before .before .before .before .before .before .before .before .before .before .before .before .pre .1 .1 .1 .1 .0) (c .before .before .char-step .ensures)
+    let found = c .before .before .before .before .before .before .quick-reference .ensures (c .before .before .before .before .before .if3 .taken) in
+    step-char (c .before .before .before .before .before .before .before .before .before .before .before .before .before .before .args .newer) (c .before .before .before .before .before .before .before .before .before .before .before .before .before .before .args .list .now) (c .before .before .before .before .before .before .before .before .before .before .before .before .before .before .args .pool .now) (c .before .before .before .before .before .before .before .before .before .before .before .before .before .before .args .limit) (c .before .before .before .before .before .before .before .before .before .before .before .before .before .before .args .depth) (c .before .before .before .before .before .before .before .before .before .before .before .before .before .before .args .text .now) (c .before .before .before .before .before .before .before .before .before .before .before .before .before .before .args .at) (c .before .before .before .before .before .before .before .before .before .before .before .before .before .before .args .openings) (c .before .before .before .before .before .before .before .before .before .if1 .left) (c .before .before .before .before .before .before .quick-reference .result) (c .before .before .before .before .before .before .before .if2 .left) (found .1) (found .2) (c .before .before .before .before .before .before .before .before .before .before .before .before .before .before .pre .1 .1 .1 .1 .0) (c .before .before .char-step .ensures)
 
 normalize-attr-step-name-end-requires : (t : ℕ) → normalize-attr-step-lts.Need-name-end-requires (
   stopped-reads.Asked,
@@ -536,8 +480,8 @@ normalize-attr-step-name-end-requires : (t : ℕ) → normalize-attr-step-lts.Ne
   blank-at-reads.Learnt,
   byte-step-reads.Asked,
   byte-step-reads.Learnt,
-  quick-number-reads.Asked,
-  quick-number-reads.Learnt,
+  quick-reference-reads.Asked,
+  quick-reference-reads.Learnt,
   char-step-reads.Asked,
   char-step-reads.Learnt,
   name-end-reads.Asked,
@@ -548,14 +492,14 @@ normalize-attr-step-name-end-requires : (t : ℕ) → normalize-attr-step-lts.Ne
   bound-to-reads.Learnt,
   is-plain-reads.Asked,
   is-plain-reads.Learnt,
-  put-over-reads.Asked,
-  put-over-reads.Learnt,
+  run-step-reads.Asked,
+  run-step-reads.Learnt,
   normalize-attr-steps-below t,
   normalize-attr-steps.Post,
   walked-step-reads.Asked,
   walked-step-reads.Learnt,
 ) (normalize-attr-step-at t) normalize-attr-step.Post
-normalize-attr-step-name-end-requires t c κs = omega (arith, c .before .before .before .before .before .before .before .before .pre .1 .1 .0)
+normalize-attr-step-name-end-requires t c κs = omega (arith, c .before .before .before .before .before .before .before .before .before .pre .1 .1 .0)
 
 normalize-attr-step-stopped-requires-2 : (t : ℕ) → normalize-attr-step-lts.Need-stopped-requires-2 (
   stopped-reads.Asked,
@@ -564,8 +508,8 @@ normalize-attr-step-stopped-requires-2 : (t : ℕ) → normalize-attr-step-lts.N
   blank-at-reads.Learnt,
   byte-step-reads.Asked,
   byte-step-reads.Learnt,
-  quick-number-reads.Asked,
-  quick-number-reads.Learnt,
+  quick-reference-reads.Asked,
+  quick-reference-reads.Learnt,
   char-step-reads.Asked,
   char-step-reads.Learnt,
   name-end-reads.Asked,
@@ -576,8 +520,8 @@ normalize-attr-step-stopped-requires-2 : (t : ℕ) → normalize-attr-step-lts.N
   bound-to-reads.Learnt,
   is-plain-reads.Asked,
   is-plain-reads.Learnt,
-  put-over-reads.Asked,
-  put-over-reads.Learnt,
+  run-step-reads.Asked,
+  run-step-reads.Learnt,
   normalize-attr-steps-below t,
   normalize-attr-steps.Post,
   walked-step-reads.Asked,
@@ -592,8 +536,8 @@ normalize-attr-step-returns-4 : (t : ℕ) → normalize-attr-step-lts.Need-retur
   blank-at-reads.Learnt,
   byte-step-reads.Asked,
   byte-step-reads.Learnt,
-  quick-number-reads.Asked,
-  quick-number-reads.Learnt,
+  quick-reference-reads.Asked,
+  quick-reference-reads.Learnt,
   char-step-reads.Asked,
   char-step-reads.Learnt,
   name-end-reads.Asked,
@@ -604,25 +548,25 @@ normalize-attr-step-returns-4 : (t : ℕ) → normalize-attr-step-lts.Need-retur
   bound-to-reads.Learnt,
   is-plain-reads.Asked,
   is-plain-reads.Learnt,
-  put-over-reads.Asked,
-  put-over-reads.Learnt,
+  run-step-reads.Asked,
+  run-step-reads.Learnt,
   normalize-attr-steps-below t,
   normalize-attr-steps.Post,
   walked-step-reads.Asked,
   walked-step-reads.Learnt,
 ) (normalize-attr-step-at t) normalize-attr-step.Post
-normalize-attr-step-returns-4 t c = (step-none (c .before .before .before .before .before .before .before .before .before .before .before .args .newer) (c .before .before .before .before .before .before .before .before .before .before .before .args .list .now) (c .before .before .before .before .before .before .before .before .before .before .before .args .pool .now) (c .before .before .before .before .before .before .before .before .before .before .before .args .limit) (c .before .before .before .before .before .before .before .before .before .before .before .args .depth) (c .before .before .before .before .before .before .before .before .before .before .before .args .text .now) (c .before .before .before .before .before .before .before .before .before .before .before .args .at) (c .before .before .before .before .before .before .before .before .before .before .before .args .openings) (c .before .before .before .before .before .before .if1 .left) (c .before .before .name-end .result) (c .before .before .before .before .if2 .left) (c .before .before .name-end .ensures) (c .before .if6 .taken) (c .stopped2 .ensures), rw (c .stopped2 .ensures) tt)
+normalize-attr-step-returns-4 t c = (step-none (c .before .before .before .before .before .before .before .before .before .before .before .before .args .newer) (c .before .before .before .before .before .before .before .before .before .before .before .before .args .list .now) (c .before .before .before .before .before .before .before .before .before .before .before .before .args .pool .now) (c .before .before .before .before .before .before .before .before .before .before .before .before .args .limit) (c .before .before .before .before .before .before .before .before .before .before .before .before .args .depth) (c .before .before .before .before .before .before .before .before .before .before .before .before .args .text .now) (c .before .before .before .before .before .before .before .before .before .before .before .before .args .at) (c .before .before .before .before .before .before .before .before .before .before .before .before .args .openings) (c .before .before .before .before .before .before .before .if1 .left) (c .before .before .name-end .result) (c .before .before .before .before .before .if2 .left) (c .before .before .name-end .ensures) (c .before .if4 .taken) (c .stopped2 .ensures), rw (c .stopped2 .ensures) tt)
 
-normalize-attr-step-shared-slice-read-if7 :
-    (t : ℕ) → normalize-attr-step-lts.Need-shared-slice-read-if7 (
+normalize-attr-step-shared-slice-read-if5 :
+    (t : ℕ) → normalize-attr-step-lts.Need-shared-slice-read-if5 (
       stopped-reads.Asked,
       stopped-reads.Learnt,
       blank-at-reads.Asked,
       blank-at-reads.Learnt,
       byte-step-reads.Asked,
       byte-step-reads.Learnt,
-      quick-number-reads.Asked,
-      quick-number-reads.Learnt,
+      quick-reference-reads.Asked,
+      quick-reference-reads.Learnt,
       char-step-reads.Asked,
       char-step-reads.Learnt,
       name-end-reads.Asked,
@@ -633,14 +577,14 @@ normalize-attr-step-shared-slice-read-if7 :
       bound-to-reads.Learnt,
       is-plain-reads.Asked,
       is-plain-reads.Learnt,
-      put-over-reads.Asked,
-      put-over-reads.Learnt,
+      run-step-reads.Asked,
+      run-step-reads.Learnt,
       normalize-attr-steps-below t,
       normalize-attr-steps.Post,
       walked-step-reads.Asked,
       walked-step-reads.Learnt,
     ) (normalize-attr-step-at t) normalize-attr-step.Post
-normalize-attr-step-shared-slice-read-if7 t c = omega (arith, c .before .before .name-end .ensures .from, c .before .before .name-end .ensures .to, c .before .if6 .left)
+normalize-attr-step-shared-slice-read-if5 t c = omega (arith, c .before .before .name-end .ensures .from, c .before .before .name-end .ensures .to, c .before .if4 .left)
 
 normalize-attr-step-add-number-step : (t : ℕ) → normalize-attr-step-lts.Need-add-number-step (
   stopped-reads.Asked,
@@ -649,8 +593,8 @@ normalize-attr-step-add-number-step : (t : ℕ) → normalize-attr-step-lts.Need
   blank-at-reads.Learnt,
   byte-step-reads.Asked,
   byte-step-reads.Learnt,
-  quick-number-reads.Asked,
-  quick-number-reads.Learnt,
+  quick-reference-reads.Asked,
+  quick-reference-reads.Learnt,
   char-step-reads.Asked,
   char-step-reads.Learnt,
   name-end-reads.Asked,
@@ -661,14 +605,14 @@ normalize-attr-step-add-number-step : (t : ℕ) → normalize-attr-step-lts.Need
   bound-to-reads.Learnt,
   is-plain-reads.Asked,
   is-plain-reads.Learnt,
-  put-over-reads.Asked,
-  put-over-reads.Learnt,
+  run-step-reads.Asked,
+  run-step-reads.Learnt,
   normalize-attr-steps-below t,
   normalize-attr-steps.Post,
   walked-step-reads.Asked,
   walked-step-reads.Learnt,
 ) (normalize-attr-step-at t) normalize-attr-step.Post
-normalize-attr-step-add-number-step t c = omega (arith, c .before .before .before .before .before .before .before .before .before .before .before .before .pre .1 .1 .0)
+normalize-attr-step-add-number-step t c = omega (arith, c .before .before .before .before .before .before .before .before .before .before .before .before .before .pre .1 .1 .0)
 
 normalize-attr-step-sub-number-step : (t : ℕ) → normalize-attr-step-lts.Need-sub-number-step (
   stopped-reads.Asked,
@@ -677,8 +621,8 @@ normalize-attr-step-sub-number-step : (t : ℕ) → normalize-attr-step-lts.Need
   blank-at-reads.Learnt,
   byte-step-reads.Asked,
   byte-step-reads.Learnt,
-  quick-number-reads.Asked,
-  quick-number-reads.Learnt,
+  quick-reference-reads.Asked,
+  quick-reference-reads.Learnt,
   char-step-reads.Asked,
   char-step-reads.Learnt,
   name-end-reads.Asked,
@@ -689,14 +633,14 @@ normalize-attr-step-sub-number-step : (t : ℕ) → normalize-attr-step-lts.Need
   bound-to-reads.Learnt,
   is-plain-reads.Asked,
   is-plain-reads.Learnt,
-  put-over-reads.Asked,
-  put-over-reads.Learnt,
+  run-step-reads.Asked,
+  run-step-reads.Learnt,
   normalize-attr-steps-below t,
   normalize-attr-steps.Post,
   walked-step-reads.Asked,
   walked-step-reads.Learnt,
 ) (normalize-attr-step-at t) normalize-attr-step.Post
-normalize-attr-step-sub-number-step t c = digits-from false (c .before .before .before .before .before .before .before .before .before .before .before .before .args .text .now) (c .before .before .before .before .before .before .before .before .before .before .before .before .args .at) (c .before .before .before .name-end .result) (c .before .before .before .name-end .ensures) (omega (arith, c .before .before .before .name-end .ensures .to, c .before .before .if6 .left)) (c .if7 .taken)
+normalize-attr-step-sub-number-step t c = digits-from false (c .before .before .before .before .before .before .before .before .before .before .before .before .before .args .text .now) (c .before .before .before .before .before .before .before .before .before .before .before .before .before .args .at) (c .before .before .before .name-end .result) (c .before .before .before .name-end .ensures) (omega (arith, c .before .before .before .name-end .ensures .to, c .before .before .if4 .left)) (c .if5 .taken)
 
 normalize-attr-step-part-number-step-start :
     (t : ℕ) → normalize-attr-step-lts.Need-part-number-step-start (
@@ -706,8 +650,8 @@ normalize-attr-step-part-number-step-start :
       blank-at-reads.Learnt,
       byte-step-reads.Asked,
       byte-step-reads.Learnt,
-      quick-number-reads.Asked,
-      quick-number-reads.Learnt,
+      quick-reference-reads.Asked,
+      quick-reference-reads.Learnt,
       char-step-reads.Asked,
       char-step-reads.Learnt,
       name-end-reads.Asked,
@@ -718,14 +662,14 @@ normalize-attr-step-part-number-step-start :
       bound-to-reads.Learnt,
       is-plain-reads.Asked,
       is-plain-reads.Learnt,
-      put-over-reads.Asked,
-      put-over-reads.Learnt,
+      run-step-reads.Asked,
+      run-step-reads.Learnt,
       normalize-attr-steps-below t,
       normalize-attr-steps.Post,
       walked-step-reads.Asked,
       walked-step-reads.Learnt,
     ) (normalize-attr-step-at t) normalize-attr-step.Post
-normalize-attr-step-part-number-step-start t c = digits-from false (c .before .before .before .before .before .before .before .before .before .before .before .before .args .text .now) (c .before .before .before .before .before .before .before .before .before .before .before .before .args .at) (c .before .before .before .name-end .result) (c .before .before .before .name-end .ensures) (omega (arith, c .before .before .before .name-end .ensures .to, c .before .before .if6 .left)) (c .if7 .taken)
+normalize-attr-step-part-number-step-start t c = digits-from false (c .before .before .before .before .before .before .before .before .before .before .before .before .before .args .text .now) (c .before .before .before .before .before .before .before .before .before .before .before .before .before .args .at) (c .before .before .before .name-end .result) (c .before .before .before .name-end .ensures) (omega (arith, c .before .before .before .name-end .ensures .to, c .before .before .if4 .left)) (c .if5 .taken)
 
 normalize-attr-step-part-number-step-end :
     (t : ℕ) → normalize-attr-step-lts.Need-part-number-step-end (
@@ -735,8 +679,8 @@ normalize-attr-step-part-number-step-end :
       blank-at-reads.Learnt,
       byte-step-reads.Asked,
       byte-step-reads.Learnt,
-      quick-number-reads.Asked,
-      quick-number-reads.Learnt,
+      quick-reference-reads.Asked,
+      quick-reference-reads.Learnt,
       char-step-reads.Asked,
       char-step-reads.Learnt,
       name-end-reads.Asked,
@@ -747,8 +691,8 @@ normalize-attr-step-part-number-step-end :
       bound-to-reads.Learnt,
       is-plain-reads.Asked,
       is-plain-reads.Learnt,
-      put-over-reads.Asked,
-      put-over-reads.Learnt,
+      run-step-reads.Asked,
+      run-step-reads.Learnt,
       normalize-attr-steps-below t,
       normalize-attr-steps.Post,
       walked-step-reads.Asked,
@@ -763,8 +707,8 @@ normalize-attr-step-add-number-step-2 : (t : ℕ) → normalize-attr-step-lts.Ne
   blank-at-reads.Learnt,
   byte-step-reads.Asked,
   byte-step-reads.Learnt,
-  quick-number-reads.Asked,
-  quick-number-reads.Learnt,
+  quick-reference-reads.Asked,
+  quick-reference-reads.Learnt,
   char-step-reads.Asked,
   char-step-reads.Learnt,
   name-end-reads.Asked,
@@ -775,14 +719,14 @@ normalize-attr-step-add-number-step-2 : (t : ℕ) → normalize-attr-step-lts.Ne
   bound-to-reads.Learnt,
   is-plain-reads.Asked,
   is-plain-reads.Learnt,
-  put-over-reads.Asked,
-  put-over-reads.Learnt,
+  run-step-reads.Asked,
+  run-step-reads.Learnt,
   normalize-attr-steps-below t,
   normalize-attr-steps.Post,
   walked-step-reads.Asked,
   walked-step-reads.Learnt,
 ) (normalize-attr-step-at t) normalize-attr-step.Post
-normalize-attr-step-add-number-step-2 t c = omega (arith, c .before .before .before .before .before .before .before .before .before .before .before .before .before .pre .1 .1 .0, c .before .before .before .before .name-end .ensures .to)
+normalize-attr-step-add-number-step-2 t c = omega (arith, c .before .before .before .before .before .before .before .before .before .before .before .before .before .before .pre .1 .1 .0, c .before .before .before .before .name-end .ensures .to)
 
 normalize-attr-step-number-step-requires :
     (t : ℕ) → normalize-attr-step-lts.Need-number-step-requires (
@@ -792,8 +736,8 @@ normalize-attr-step-number-step-requires :
       blank-at-reads.Learnt,
       byte-step-reads.Asked,
       byte-step-reads.Learnt,
-      quick-number-reads.Asked,
-      quick-number-reads.Learnt,
+      quick-reference-reads.Asked,
+      quick-reference-reads.Learnt,
       char-step-reads.Asked,
       char-step-reads.Learnt,
       name-end-reads.Asked,
@@ -804,8 +748,8 @@ normalize-attr-step-number-step-requires :
       bound-to-reads.Learnt,
       is-plain-reads.Asked,
       is-plain-reads.Learnt,
-      put-over-reads.Asked,
-      put-over-reads.Learnt,
+      run-step-reads.Asked,
+      run-step-reads.Learnt,
       normalize-attr-steps-below t,
       normalize-attr-steps.Post,
       walked-step-reads.Asked,
@@ -820,8 +764,8 @@ normalize-attr-step-same-length-3 : (t : ℕ) → normalize-attr-step-lts.Need-s
   blank-at-reads.Learnt,
   byte-step-reads.Asked,
   byte-step-reads.Learnt,
-  quick-number-reads.Asked,
-  quick-number-reads.Learnt,
+  quick-reference-reads.Asked,
+  quick-reference-reads.Learnt,
   char-step-reads.Asked,
   char-step-reads.Learnt,
   name-end-reads.Asked,
@@ -832,8 +776,8 @@ normalize-attr-step-same-length-3 : (t : ℕ) → normalize-attr-step-lts.Need-s
   bound-to-reads.Learnt,
   is-plain-reads.Asked,
   is-plain-reads.Learnt,
-  put-over-reads.Asked,
-  put-over-reads.Learnt,
+  run-step-reads.Asked,
+  run-step-reads.Learnt,
   normalize-attr-steps-below t,
   normalize-attr-steps.Post,
   walked-step-reads.Asked,
@@ -848,8 +792,8 @@ normalize-attr-step-returns-5 : (t : ℕ) → normalize-attr-step-lts.Need-retur
   blank-at-reads.Learnt,
   byte-step-reads.Asked,
   byte-step-reads.Learnt,
-  quick-number-reads.Asked,
-  quick-number-reads.Learnt,
+  quick-reference-reads.Asked,
+  quick-reference-reads.Learnt,
   char-step-reads.Asked,
   char-step-reads.Learnt,
   name-end-reads.Asked,
@@ -860,16 +804,16 @@ normalize-attr-step-returns-5 : (t : ℕ) → normalize-attr-step-lts.Need-retur
   bound-to-reads.Learnt,
   is-plain-reads.Asked,
   is-plain-reads.Learnt,
-  put-over-reads.Asked,
-  put-over-reads.Learnt,
+  run-step-reads.Asked,
+  run-step-reads.Learnt,
   normalize-attr-steps-below t,
   normalize-attr-steps.Post,
   walked-step-reads.Asked,
   walked-step-reads.Learnt,
 ) (normalize-attr-step-at t) normalize-attr-step.Post
 normalize-attr-step-returns-5 t c =
-    let inside : c .before .before .before .before .before .before .before .before .name-end .result < length (c .before .before .before .before .before .before .before .before .before .before .before .before .before .before .before .before .before .args .text .now) = (omega (arith, c .before .before .before .before .before .before .before .before .name-end .ensures .to, c .before .before .before .before .before .before .before .if6 .left)) in
-    (step-number (c .before .before .before .before .before .before .before .before .before .before .before .before .before .before .before .before .before .args .newer) (c .before .before .before .before .before .before .before .before .before .before .before .before .before .before .before .before .before .args .list .now) (c .before .before .before .before .before .before .before .before .before .before .before .before .before .before .before .before .before .args .pool .now) (c .before .before .before .before .before .before .before .before .before .before .before .before .before .before .before .before .before .args .limit) (c .before .before .before .before .before .before .before .before .before .before .before .before .before .before .before .before .before .args .depth) (c .before .before .before .before .before .before .before .before .before .before .before .before .before .before .before .before .before .args .text .now) (c .before .before .before .before .before .before .before .before .before .before .before .before .before .before .before .before .before .args .at) (c .before .before .before .before .before .before .before .before .before .before .before .before .before .before .before .before .before .args .openings) (c .before .before .before .before .before .before .before .before .before .before .before .before .if1 .left) (c .before .before .before .before .before .before .before .before .name-end .result) (c .before .before .before .before .before .before .before .before .before .before .if2 .left) (c .before .before .before .before .before .before .before .before .name-end .ensures) inside (c .before .before .before .before .before .if7 .taken) (c .before .before .number-step .ensures), counted-number (length (c .before .before .before .before .before .before .before .before .before .before .before .before .before .before .before .before .before .args .text .now)) (c .before .before .before .before .before .before .before .before .before .before .before .before .before .before .before .before .before .args .at) (c .before .before .before .before .before .before .before .before .before .before .before .before .before .before .before .before .before .args .openings) (c .before .before .before .before .before .before .before .before .before .before .before .before .before .before .before .before .before .args .limit) (c .before .before .before .before .before .before .before .before .name-end .result) _ _ _ _ (omega (arith, c .before .before .before .before .before .before .before .before .name-end .ensures .from)) inside (c .before .before .before .before .before .before .before .before .before .before .before .before .before .before .before .before .before .pre .1 .1 .1 .1 .0) (c .before .before .number-step .ensures))
+    let inside : c .before .before .before .before .before .before .before .before .name-end .result < length (c .before .before .before .before .before .before .before .before .before .before .before .before .before .before .before .before .before .before .args .text .now) = (omega (arith, c .before .before .before .before .before .before .before .before .name-end .ensures .to, c .before .before .before .before .before .before .before .if4 .left)) in
+    (step-number (c .before .before .before .before .before .before .before .before .before .before .before .before .before .before .before .before .before .before .args .newer) (c .before .before .before .before .before .before .before .before .before .before .before .before .before .before .before .before .before .before .args .list .now) (c .before .before .before .before .before .before .before .before .before .before .before .before .before .before .before .before .before .before .args .pool .now) (c .before .before .before .before .before .before .before .before .before .before .before .before .before .before .before .before .before .before .args .limit) (c .before .before .before .before .before .before .before .before .before .before .before .before .before .before .before .before .before .before .args .depth) (c .before .before .before .before .before .before .before .before .before .before .before .before .before .before .before .before .before .before .args .text .now) (c .before .before .before .before .before .before .before .before .before .before .before .before .before .before .before .before .before .before .args .at) (c .before .before .before .before .before .before .before .before .before .before .before .before .before .before .before .before .before .before .args .openings) (c .before .before .before .before .before .before .before .before .before .before .before .before .before .if1 .left) (c .before .before .before .before .before .before .before .before .name-end .result) (c .before .before .before .before .before .before .before .before .before .before .before .if2 .left) (c .before .before .before .before .before .before .before .before .name-end .ensures) inside (c .before .before .before .before .before .if5 .taken) (c .before .before .number-step .ensures), counted-number (length (c .before .before .before .before .before .before .before .before .before .before .before .before .before .before .before .before .before .before .args .text .now)) (c .before .before .before .before .before .before .before .before .before .before .before .before .before .before .before .before .before .before .args .at) (c .before .before .before .before .before .before .before .before .before .before .before .before .before .before .before .before .before .before .args .openings) (c .before .before .before .before .before .before .before .before .before .before .before .before .before .before .before .before .before .before .args .limit) (c .before .before .before .before .before .before .before .before .name-end .result) _ _ _ _ (omega (arith, c .before .before .before .before .before .before .before .before .name-end .ensures .from)) inside (c .before .before .before .before .before .before .before .before .before .before .before .before .before .before .before .before .before .before .pre .1 .1 .1 .1 .0) (c .before .before .number-step .ensures))
 
 normalize-attr-step-sub-bound-to : (t : ℕ) → normalize-attr-step-lts.Need-sub-bound-to (
   stopped-reads.Asked,
@@ -878,8 +822,8 @@ normalize-attr-step-sub-bound-to : (t : ℕ) → normalize-attr-step-lts.Need-su
   blank-at-reads.Learnt,
   byte-step-reads.Asked,
   byte-step-reads.Learnt,
-  quick-number-reads.Asked,
-  quick-number-reads.Learnt,
+  quick-reference-reads.Asked,
+  quick-reference-reads.Learnt,
   char-step-reads.Asked,
   char-step-reads.Learnt,
   name-end-reads.Asked,
@@ -890,8 +834,8 @@ normalize-attr-step-sub-bound-to : (t : ℕ) → normalize-attr-step-lts.Need-su
   bound-to-reads.Learnt,
   is-plain-reads.Asked,
   is-plain-reads.Learnt,
-  put-over-reads.Asked,
-  put-over-reads.Learnt,
+  run-step-reads.Asked,
+  run-step-reads.Learnt,
   normalize-attr-steps-below t,
   normalize-attr-steps.Post,
   walked-step-reads.Asked,
@@ -907,8 +851,8 @@ normalize-attr-step-part-bound-to-start :
       blank-at-reads.Learnt,
       byte-step-reads.Asked,
       byte-step-reads.Learnt,
-      quick-number-reads.Asked,
-      quick-number-reads.Learnt,
+      quick-reference-reads.Asked,
+      quick-reference-reads.Learnt,
       char-step-reads.Asked,
       char-step-reads.Learnt,
       name-end-reads.Asked,
@@ -919,8 +863,8 @@ normalize-attr-step-part-bound-to-start :
       bound-to-reads.Learnt,
       is-plain-reads.Asked,
       is-plain-reads.Learnt,
-      put-over-reads.Asked,
-      put-over-reads.Learnt,
+      run-step-reads.Asked,
+      run-step-reads.Learnt,
       normalize-attr-steps-below t,
       normalize-attr-steps.Post,
       walked-step-reads.Asked,
@@ -935,8 +879,8 @@ normalize-attr-step-part-bound-to-end : (t : ℕ) → normalize-attr-step-lts.Ne
   blank-at-reads.Learnt,
   byte-step-reads.Asked,
   byte-step-reads.Learnt,
-  quick-number-reads.Asked,
-  quick-number-reads.Learnt,
+  quick-reference-reads.Asked,
+  quick-reference-reads.Learnt,
   char-step-reads.Asked,
   char-step-reads.Learnt,
   name-end-reads.Asked,
@@ -947,8 +891,8 @@ normalize-attr-step-part-bound-to-end : (t : ℕ) → normalize-attr-step-lts.Ne
   bound-to-reads.Learnt,
   is-plain-reads.Asked,
   is-plain-reads.Learnt,
-  put-over-reads.Asked,
-  put-over-reads.Learnt,
+  run-step-reads.Asked,
+  run-step-reads.Learnt,
   normalize-attr-steps-below t,
   normalize-attr-steps.Post,
   walked-step-reads.Asked,
@@ -963,8 +907,8 @@ normalize-attr-step-bound-to-requires : (t : ℕ) → normalize-attr-step-lts.Ne
   blank-at-reads.Learnt,
   byte-step-reads.Asked,
   byte-step-reads.Learnt,
-  quick-number-reads.Asked,
-  quick-number-reads.Learnt,
+  quick-reference-reads.Asked,
+  quick-reference-reads.Learnt,
   char-step-reads.Asked,
   char-step-reads.Learnt,
   name-end-reads.Asked,
@@ -975,14 +919,14 @@ normalize-attr-step-bound-to-requires : (t : ℕ) → normalize-attr-step-lts.Ne
   bound-to-reads.Learnt,
   is-plain-reads.Asked,
   is-plain-reads.Learnt,
-  put-over-reads.Asked,
-  put-over-reads.Learnt,
+  run-step-reads.Asked,
+  run-step-reads.Learnt,
   normalize-attr-steps-below t,
   normalize-attr-steps.Post,
   walked-step-reads.Asked,
   walked-step-reads.Learnt,
 ) (normalize-attr-step-at t) normalize-attr-step.Post
-normalize-attr-step-bound-to-requires t c κs = c .before .before .before .before .before .before .before .before .before .before .before .before .before .pre .1 .0
+normalize-attr-step-bound-to-requires t c κs = c .before .before .before .before .before .before .before .before .before .before .before .before .before .before .pre .1 .0
 
 normalize-attr-step-enum-known-start : (t : ℕ) → normalize-attr-step-lts.Need-enum-known-start (
   stopped-reads.Asked,
@@ -991,8 +935,8 @@ normalize-attr-step-enum-known-start : (t : ℕ) → normalize-attr-step-lts.Nee
   blank-at-reads.Learnt,
   byte-step-reads.Asked,
   byte-step-reads.Learnt,
-  quick-number-reads.Asked,
-  quick-number-reads.Learnt,
+  quick-reference-reads.Asked,
+  quick-reference-reads.Learnt,
   char-step-reads.Asked,
   char-step-reads.Learnt,
   name-end-reads.Asked,
@@ -1003,8 +947,8 @@ normalize-attr-step-enum-known-start : (t : ℕ) → normalize-attr-step-lts.Nee
   bound-to-reads.Learnt,
   is-plain-reads.Asked,
   is-plain-reads.Learnt,
-  put-over-reads.Asked,
-  put-over-reads.Learnt,
+  run-step-reads.Asked,
+  run-step-reads.Learnt,
   normalize-attr-steps-below t,
   normalize-attr-steps.Post,
   walked-step-reads.Asked,
@@ -1019,8 +963,8 @@ normalize-attr-step-stopped-requires-3 : (t : ℕ) → normalize-attr-step-lts.N
   blank-at-reads.Learnt,
   byte-step-reads.Asked,
   byte-step-reads.Learnt,
-  quick-number-reads.Asked,
-  quick-number-reads.Learnt,
+  quick-reference-reads.Asked,
+  quick-reference-reads.Learnt,
   char-step-reads.Asked,
   char-step-reads.Learnt,
   name-end-reads.Asked,
@@ -1031,8 +975,8 @@ normalize-attr-step-stopped-requires-3 : (t : ℕ) → normalize-attr-step-lts.N
   bound-to-reads.Learnt,
   is-plain-reads.Asked,
   is-plain-reads.Learnt,
-  put-over-reads.Asked,
-  put-over-reads.Learnt,
+  run-step-reads.Asked,
+  run-step-reads.Learnt,
   normalize-attr-steps-below t,
   normalize-attr-steps.Post,
   walked-step-reads.Asked,
@@ -1047,8 +991,8 @@ normalize-attr-step-returns-6 : (t : ℕ) → normalize-attr-step-lts.Need-retur
   blank-at-reads.Learnt,
   byte-step-reads.Asked,
   byte-step-reads.Learnt,
-  quick-number-reads.Asked,
-  quick-number-reads.Learnt,
+  quick-reference-reads.Asked,
+  quick-reference-reads.Learnt,
   char-step-reads.Asked,
   char-step-reads.Learnt,
   name-end-reads.Asked,
@@ -1059,15 +1003,15 @@ normalize-attr-step-returns-6 : (t : ℕ) → normalize-attr-step-lts.Need-retur
   bound-to-reads.Learnt,
   is-plain-reads.Asked,
   is-plain-reads.Learnt,
-  put-over-reads.Asked,
-  put-over-reads.Learnt,
+  run-step-reads.Asked,
+  run-step-reads.Learnt,
   normalize-attr-steps-below t,
   normalize-attr-steps.Post,
   walked-step-reads.Asked,
   walked-step-reads.Learnt,
 ) (normalize-attr-step-at t) normalize-attr-step.Post
 normalize-attr-step-returns-6 t c =
-    (step-limit (c .before .before .before .before .before .before .before .before .before .before .before .before .before .before .before .before .before .before .before .args .newer) (c .before .before .before .before .before .before .before .before .before .before .before .before .before .before .before .before .before .before .before .args .list .now) (c .before .before .before .before .before .before .before .before .before .before .before .before .before .before .before .before .before .before .before .args .pool .now) (c .before .before .before .before .before .before .before .before .before .before .before .before .before .before .before .before .before .before .before .args .limit) (c .before .before .before .before .before .before .before .before .before .before .before .before .before .before .before .before .before .before .before .args .depth) (c .before .before .before .before .before .before .before .before .before .before .before .before .before .before .before .before .before .before .before .args .text .now) (c .before .before .before .before .before .before .before .before .before .before .before .before .before .before .before .before .before .before .before .args .at) (c .before .before .before .before .before .before .before .before .before .before .before .before .before .before .before .before .before .before .before .args .openings) (c .before .before .before .before .before .before .before .before .before .before .before .before .before .before .if1 .left) (c .before .before .before .before .before .before .before .before .before .before .name-end .result) (c .before .before .before .before .before .before .before .before .before .before .before .before .if2 .left) (c .before .before .before .before .before .before .before .before .before .before .name-end .ensures) (omega (arith, c .before .before .before .before .before .before .before .before .before .before .name-end .ensures .to, c .before .before .before .before .before .before .before .before .before .if6 .left)) (c .before .before .before .before .before .before .before .if7 .left) (c .before .before .before .before .before .bound-to .result) (c .before .before .before .before .before .bound-to .ensures .0) (c .before .before .before .start .given .0 .0) (c .before .before .before .start .given .0 .1 .0) (c .before .before .before .start .given .1) (c .before .if8 .taken) (c .stopped3 .ensures), rw (c .stopped3 .ensures) tt)
+    (step-limit (c .before .before .before .before .before .before .before .before .before .before .before .before .before .before .before .before .before .before .before .before .args .newer) (c .before .before .before .before .before .before .before .before .before .before .before .before .before .before .before .before .before .before .before .before .args .list .now) (c .before .before .before .before .before .before .before .before .before .before .before .before .before .before .before .before .before .before .before .before .args .pool .now) (c .before .before .before .before .before .before .before .before .before .before .before .before .before .before .before .before .before .before .before .before .args .limit) (c .before .before .before .before .before .before .before .before .before .before .before .before .before .before .before .before .before .before .before .before .args .depth) (c .before .before .before .before .before .before .before .before .before .before .before .before .before .before .before .before .before .before .before .before .args .text .now) (c .before .before .before .before .before .before .before .before .before .before .before .before .before .before .before .before .before .before .before .before .args .at) (c .before .before .before .before .before .before .before .before .before .before .before .before .before .before .before .before .before .before .before .before .args .openings) (c .before .before .before .before .before .before .before .before .before .before .before .before .before .before .before .if1 .left) (c .before .before .before .before .before .before .before .before .before .before .name-end .result) (c .before .before .before .before .before .before .before .before .before .before .before .before .before .if2 .left) (c .before .before .before .before .before .before .before .before .before .before .name-end .ensures) (omega (arith, c .before .before .before .before .before .before .before .before .before .before .name-end .ensures .to, c .before .before .before .before .before .before .before .before .before .if4 .left)) (c .before .before .before .before .before .before .before .if5 .left) (c .before .before .before .before .before .bound-to .result) (c .before .before .before .before .before .bound-to .ensures .0) (c .before .before .before .start .given .0 .0) (c .before .before .before .start .given .0 .1 .0) (c .before .before .before .start .given .1) (c .before .if6 .taken) (c .stopped3 .ensures), rw (c .stopped3 .ensures) tt)
 
 normalize-attr-step-sub-is-plain : (t : ℕ) → normalize-attr-step-lts.Need-sub-is-plain (
   stopped-reads.Asked,
@@ -1076,8 +1020,8 @@ normalize-attr-step-sub-is-plain : (t : ℕ) → normalize-attr-step-lts.Need-su
   blank-at-reads.Learnt,
   byte-step-reads.Asked,
   byte-step-reads.Learnt,
-  quick-number-reads.Asked,
-  quick-number-reads.Learnt,
+  quick-reference-reads.Asked,
+  quick-reference-reads.Learnt,
   char-step-reads.Asked,
   char-step-reads.Learnt,
   name-end-reads.Asked,
@@ -1088,14 +1032,14 @@ normalize-attr-step-sub-is-plain : (t : ℕ) → normalize-attr-step-lts.Need-su
   bound-to-reads.Learnt,
   is-plain-reads.Asked,
   is-plain-reads.Learnt,
-  put-over-reads.Asked,
-  put-over-reads.Learnt,
+  run-step-reads.Asked,
+  run-step-reads.Learnt,
   normalize-attr-steps-below t,
   normalize-attr-steps.Post,
   walked-step-reads.Asked,
   walked-step-reads.Learnt,
 ) (normalize-attr-step-at t) normalize-attr-step.Post
-normalize-attr-step-sub-is-plain t c = subst (Lies (c .before .before .before .before .before .before .before .before .before .before .before .before .before .before .before .before .before .before .args .pool .now)) (c .before .before .start .given .1) (c .before .before .before .before .bound-to .ensures .1) .0
+normalize-attr-step-sub-is-plain t c = subst (Lies (c .before .before .before .before .before .before .before .before .before .before .before .before .before .before .before .before .before .before .before .args .pool .now)) (c .before .before .start .given .1) (c .before .before .before .before .bound-to .ensures .1) .0
 
 normalize-attr-step-part-is-plain-start :
     (t : ℕ) → normalize-attr-step-lts.Need-part-is-plain-start (
@@ -1105,8 +1049,8 @@ normalize-attr-step-part-is-plain-start :
       blank-at-reads.Learnt,
       byte-step-reads.Asked,
       byte-step-reads.Learnt,
-      quick-number-reads.Asked,
-      quick-number-reads.Learnt,
+      quick-reference-reads.Asked,
+      quick-reference-reads.Learnt,
       char-step-reads.Asked,
       char-step-reads.Learnt,
       name-end-reads.Asked,
@@ -1117,14 +1061,14 @@ normalize-attr-step-part-is-plain-start :
       bound-to-reads.Learnt,
       is-plain-reads.Asked,
       is-plain-reads.Learnt,
-      put-over-reads.Asked,
-      put-over-reads.Learnt,
+      run-step-reads.Asked,
+      run-step-reads.Learnt,
       normalize-attr-steps-below t,
       normalize-attr-steps.Post,
       walked-step-reads.Asked,
       walked-step-reads.Learnt,
     ) (normalize-attr-step-at t) normalize-attr-step.Post
-normalize-attr-step-part-is-plain-start t c = subst (Lies (c .before .before .before .before .before .before .before .before .before .before .before .before .before .before .before .before .before .before .args .pool .now)) (c .before .before .start .given .1) (c .before .before .before .before .bound-to .ensures .1) .0
+normalize-attr-step-part-is-plain-start t c = subst (Lies (c .before .before .before .before .before .before .before .before .before .before .before .before .before .before .before .before .before .before .before .args .pool .now)) (c .before .before .start .given .1) (c .before .before .before .before .bound-to .ensures .1) .0
 
 normalize-attr-step-part-is-plain-end : (t : ℕ) → normalize-attr-step-lts.Need-part-is-plain-end (
   stopped-reads.Asked,
@@ -1133,8 +1077,8 @@ normalize-attr-step-part-is-plain-end : (t : ℕ) → normalize-attr-step-lts.Ne
   blank-at-reads.Learnt,
   byte-step-reads.Asked,
   byte-step-reads.Learnt,
-  quick-number-reads.Asked,
-  quick-number-reads.Learnt,
+  quick-reference-reads.Asked,
+  quick-reference-reads.Learnt,
   char-step-reads.Asked,
   char-step-reads.Learnt,
   name-end-reads.Asked,
@@ -1145,14 +1089,14 @@ normalize-attr-step-part-is-plain-end : (t : ℕ) → normalize-attr-step-lts.Ne
   bound-to-reads.Learnt,
   is-plain-reads.Asked,
   is-plain-reads.Learnt,
-  put-over-reads.Asked,
-  put-over-reads.Learnt,
+  run-step-reads.Asked,
+  run-step-reads.Learnt,
   normalize-attr-steps-below t,
   normalize-attr-steps.Post,
   walked-step-reads.Asked,
   walked-step-reads.Learnt,
 ) (normalize-attr-step-at t) normalize-attr-step.Post
-normalize-attr-step-part-is-plain-end t c = subst (Lies (c .before .before .before .before .before .before .before .before .before .before .before .before .before .before .before .before .before .before .args .pool .now)) (c .before .before .start .given .1) (c .before .before .before .before .bound-to .ensures .1) .1
+normalize-attr-step-part-is-plain-end t c = subst (Lies (c .before .before .before .before .before .before .before .before .before .before .before .before .before .before .before .before .before .before .before .args .pool .now)) (c .before .before .start .given .1) (c .before .before .before .before .bound-to .ensures .1) .1
 
 normalize-attr-step-is-plain-requires : (t : ℕ) → normalize-attr-step-lts.Need-is-plain-requires (
   stopped-reads.Asked,
@@ -1161,8 +1105,8 @@ normalize-attr-step-is-plain-requires : (t : ℕ) → normalize-attr-step-lts.Ne
   blank-at-reads.Learnt,
   byte-step-reads.Asked,
   byte-step-reads.Learnt,
-  quick-number-reads.Asked,
-  quick-number-reads.Learnt,
+  quick-reference-reads.Asked,
+  quick-reference-reads.Learnt,
   char-step-reads.Asked,
   char-step-reads.Learnt,
   name-end-reads.Asked,
@@ -1173,8 +1117,8 @@ normalize-attr-step-is-plain-requires : (t : ℕ) → normalize-attr-step-lts.Ne
   bound-to-reads.Learnt,
   is-plain-reads.Asked,
   is-plain-reads.Learnt,
-  put-over-reads.Asked,
-  put-over-reads.Learnt,
+  run-step-reads.Asked,
+  run-step-reads.Learnt,
   normalize-attr-steps-below t,
   normalize-attr-steps.Post,
   walked-step-reads.Asked,
@@ -1182,15 +1126,15 @@ normalize-attr-step-is-plain-requires : (t : ℕ) → normalize-attr-step-lts.Ne
 ) (normalize-attr-step-at t) normalize-attr-step.Post
 normalize-attr-step-is-plain-requires t c κs = tt
 
-normalize-attr-step-sub-put-over : (t : ℕ) → normalize-attr-step-lts.Need-sub-put-over (
+normalize-attr-step-sub-run-step : (t : ℕ) → normalize-attr-step-lts.Need-sub-run-step (
   stopped-reads.Asked,
   stopped-reads.Learnt,
   blank-at-reads.Asked,
   blank-at-reads.Learnt,
   byte-step-reads.Asked,
   byte-step-reads.Learnt,
-  quick-number-reads.Asked,
-  quick-number-reads.Learnt,
+  quick-reference-reads.Asked,
+  quick-reference-reads.Learnt,
   char-step-reads.Asked,
   char-step-reads.Learnt,
   name-end-reads.Asked,
@@ -1201,25 +1145,25 @@ normalize-attr-step-sub-put-over : (t : ℕ) → normalize-attr-step-lts.Need-su
   bound-to-reads.Learnt,
   is-plain-reads.Asked,
   is-plain-reads.Learnt,
-  put-over-reads.Asked,
-  put-over-reads.Learnt,
+  run-step-reads.Asked,
+  run-step-reads.Learnt,
   normalize-attr-steps-below t,
   normalize-attr-steps.Post,
   walked-step-reads.Asked,
   walked-step-reads.Learnt,
 ) (normalize-attr-step-at t) normalize-attr-step.Post
-normalize-attr-step-sub-put-over t c = subst (Lies (c .before .before .before .before .before .before .before .before .before .before .before .before .before .before .before .before .before .before .before .before .before .args .pool .now)) (c .before .before .before .before .before .start .given .1) (c .before .before .before .before .before .before .before .bound-to .ensures .1) .0
+normalize-attr-step-sub-run-step t c = subst (Lies (c .before .before .before .before .before .before .before .before .before .before .before .before .before .before .before .before .before .before .before .before .before .before .args .pool .now)) (c .before .before .before .before .before .start .given .1) (c .before .before .before .before .before .before .before .bound-to .ensures .1) .0
 
-normalize-attr-step-part-put-over-start :
-    (t : ℕ) → normalize-attr-step-lts.Need-part-put-over-start (
+normalize-attr-step-part-run-step-start :
+    (t : ℕ) → normalize-attr-step-lts.Need-part-run-step-start (
       stopped-reads.Asked,
       stopped-reads.Learnt,
       blank-at-reads.Asked,
       blank-at-reads.Learnt,
       byte-step-reads.Asked,
       byte-step-reads.Learnt,
-      quick-number-reads.Asked,
-      quick-number-reads.Learnt,
+      quick-reference-reads.Asked,
+      quick-reference-reads.Learnt,
       char-step-reads.Asked,
       char-step-reads.Learnt,
       name-end-reads.Asked,
@@ -1230,24 +1174,24 @@ normalize-attr-step-part-put-over-start :
       bound-to-reads.Learnt,
       is-plain-reads.Asked,
       is-plain-reads.Learnt,
-      put-over-reads.Asked,
-      put-over-reads.Learnt,
+      run-step-reads.Asked,
+      run-step-reads.Learnt,
       normalize-attr-steps-below t,
       normalize-attr-steps.Post,
       walked-step-reads.Asked,
       walked-step-reads.Learnt,
     ) (normalize-attr-step-at t) normalize-attr-step.Post
-normalize-attr-step-part-put-over-start t c = subst (Lies (c .before .before .before .before .before .before .before .before .before .before .before .before .before .before .before .before .before .before .before .before .before .args .pool .now)) (c .before .before .before .before .before .start .given .1) (c .before .before .before .before .before .before .before .bound-to .ensures .1) .0
+normalize-attr-step-part-run-step-start t c = subst (Lies (c .before .before .before .before .before .before .before .before .before .before .before .before .before .before .before .before .before .before .before .before .before .before .args .pool .now)) (c .before .before .before .before .before .start .given .1) (c .before .before .before .before .before .before .before .bound-to .ensures .1) .0
 
-normalize-attr-step-part-put-over-end : (t : ℕ) → normalize-attr-step-lts.Need-part-put-over-end (
+normalize-attr-step-part-run-step-end : (t : ℕ) → normalize-attr-step-lts.Need-part-run-step-end (
   stopped-reads.Asked,
   stopped-reads.Learnt,
   blank-at-reads.Asked,
   blank-at-reads.Learnt,
   byte-step-reads.Asked,
   byte-step-reads.Learnt,
-  quick-number-reads.Asked,
-  quick-number-reads.Learnt,
+  quick-reference-reads.Asked,
+  quick-reference-reads.Learnt,
   char-step-reads.Asked,
   char-step-reads.Learnt,
   name-end-reads.Asked,
@@ -1258,24 +1202,24 @@ normalize-attr-step-part-put-over-end : (t : ℕ) → normalize-attr-step-lts.Ne
   bound-to-reads.Learnt,
   is-plain-reads.Asked,
   is-plain-reads.Learnt,
-  put-over-reads.Asked,
-  put-over-reads.Learnt,
+  run-step-reads.Asked,
+  run-step-reads.Learnt,
   normalize-attr-steps-below t,
   normalize-attr-steps.Post,
   walked-step-reads.Asked,
   walked-step-reads.Learnt,
 ) (normalize-attr-step-at t) normalize-attr-step.Post
-normalize-attr-step-part-put-over-end t c = subst (Lies (c .before .before .before .before .before .before .before .before .before .before .before .before .before .before .before .before .before .before .before .before .before .args .pool .now)) (c .before .before .before .before .before .start .given .1) (c .before .before .before .before .before .before .before .bound-to .ensures .1) .1
+normalize-attr-step-part-run-step-end t c = subst (Lies (c .before .before .before .before .before .before .before .before .before .before .before .before .before .before .before .before .before .before .before .before .before .before .args .pool .now)) (c .before .before .before .before .before .start .given .1) (c .before .before .before .before .before .before .before .bound-to .ensures .1) .1
 
-normalize-attr-step-put-over-requires : (t : ℕ) → normalize-attr-step-lts.Need-put-over-requires (
+normalize-attr-step-add-run-step : (t : ℕ) → normalize-attr-step-lts.Need-add-run-step (
   stopped-reads.Asked,
   stopped-reads.Learnt,
   blank-at-reads.Asked,
   blank-at-reads.Learnt,
   byte-step-reads.Asked,
   byte-step-reads.Learnt,
-  quick-number-reads.Asked,
-  quick-number-reads.Learnt,
+  quick-reference-reads.Asked,
+  quick-reference-reads.Learnt,
   char-step-reads.Asked,
   char-step-reads.Learnt,
   name-end-reads.Asked,
@@ -1286,24 +1230,24 @@ normalize-attr-step-put-over-requires : (t : ℕ) → normalize-attr-step-lts.Ne
   bound-to-reads.Learnt,
   is-plain-reads.Asked,
   is-plain-reads.Learnt,
-  put-over-reads.Asked,
-  put-over-reads.Learnt,
+  run-step-reads.Asked,
+  run-step-reads.Learnt,
   normalize-attr-steps-below t,
   normalize-attr-steps.Post,
   walked-step-reads.Asked,
   walked-step-reads.Learnt,
 ) (normalize-attr-step-at t) normalize-attr-step.Post
-normalize-attr-step-put-over-requires t c κs = tt
+normalize-attr-step-add-run-step t c = omega (arith, c .before .before .before .before .before .before .before .before .before .before .before .before .before .before .before .before .before .before .before .before .before .before .before .pre .1 .1 .0, c .before .before .before .before .before .before .before .before .before .before .before .before .before .name-end .ensures .to)
 
-normalize-attr-step-add-t56 : (t : ℕ) → normalize-attr-step-lts.Need-add-t56 (
+normalize-attr-step-add-run-step-2 : (t : ℕ) → normalize-attr-step-lts.Need-add-run-step-2 (
   stopped-reads.Asked,
   stopped-reads.Learnt,
   blank-at-reads.Asked,
   blank-at-reads.Learnt,
   byte-step-reads.Asked,
   byte-step-reads.Learnt,
-  quick-number-reads.Asked,
-  quick-number-reads.Learnt,
+  quick-reference-reads.Asked,
+  quick-reference-reads.Learnt,
   char-step-reads.Asked,
   char-step-reads.Learnt,
   name-end-reads.Asked,
@@ -1314,24 +1258,24 @@ normalize-attr-step-add-t56 : (t : ℕ) → normalize-attr-step-lts.Need-add-t56
   bound-to-reads.Learnt,
   is-plain-reads.Asked,
   is-plain-reads.Learnt,
-  put-over-reads.Asked,
-  put-over-reads.Learnt,
+  run-step-reads.Asked,
+  run-step-reads.Learnt,
   normalize-attr-steps-below t,
   normalize-attr-steps.Post,
   walked-step-reads.Asked,
   walked-step-reads.Learnt,
 ) (normalize-attr-step-at t) normalize-attr-step.Post
-normalize-attr-step-add-t56 t c = omega (arith, c .before .before .before .before .before .before .before .before .before .before .before .before .before .before .before .before .before .before .before .before .before .before .before .before .before .before .pre .1 .1 .0, c .before .before .before .before .before .before .before .before .before .before .before .before .before .before .before .before .before .name-end .ensures .to)
+normalize-attr-step-add-run-step-2 t c = omega (arith, c .before .before .before .before .before .before .before .before .before .before .before .before .before .before .before .before .before .before .before .before .before .before .before .pre .1 .1 .1 .1)
 
-normalize-attr-step-sub-t61 : (t : ℕ) → normalize-attr-step-lts.Need-sub-t61 (
+normalize-attr-step-run-step-requires : (t : ℕ) → normalize-attr-step-lts.Need-run-step-requires (
   stopped-reads.Asked,
   stopped-reads.Learnt,
   blank-at-reads.Asked,
   blank-at-reads.Learnt,
   byte-step-reads.Asked,
   byte-step-reads.Learnt,
-  quick-number-reads.Asked,
-  quick-number-reads.Learnt,
+  quick-reference-reads.Asked,
+  quick-reference-reads.Learnt,
   char-step-reads.Asked,
   char-step-reads.Learnt,
   name-end-reads.Asked,
@@ -1342,42 +1286,14 @@ normalize-attr-step-sub-t61 : (t : ℕ) → normalize-attr-step-lts.Need-sub-t61
   bound-to-reads.Learnt,
   is-plain-reads.Asked,
   is-plain-reads.Learnt,
-  put-over-reads.Asked,
-  put-over-reads.Learnt,
+  run-step-reads.Asked,
+  run-step-reads.Learnt,
   normalize-attr-steps-below t,
   normalize-attr-steps.Post,
   walked-step-reads.Asked,
   walked-step-reads.Learnt,
 ) (normalize-attr-step-at t) normalize-attr-step.Post
-normalize-attr-step-sub-t61 t c = subst (Lies (c .before .before .before .before .before .before .before .before .before .before .before .before .before .before .before .before .before .before .before .before .before .before .before .before .before .before .args .pool .now)) (c .before .before .before .before .before .before .before .before .before .before .start .given .1) (c .before .before .before .before .before .before .before .before .before .before .before .before .bound-to .ensures .1) .0
-
-normalize-attr-step-add-t62 : (t : ℕ) → normalize-attr-step-lts.Need-add-t62 (
-  stopped-reads.Asked,
-  stopped-reads.Learnt,
-  blank-at-reads.Asked,
-  blank-at-reads.Learnt,
-  byte-step-reads.Asked,
-  byte-step-reads.Learnt,
-  quick-number-reads.Asked,
-  quick-number-reads.Learnt,
-  char-step-reads.Asked,
-  char-step-reads.Learnt,
-  name-end-reads.Asked,
-  name-end-reads.Learnt,
-  number-step-reads.Asked,
-  number-step-reads.Learnt,
-  bound-to-reads.Asked,
-  bound-to-reads.Learnt,
-  is-plain-reads.Asked,
-  is-plain-reads.Learnt,
-  put-over-reads.Asked,
-  put-over-reads.Learnt,
-  normalize-attr-steps-below t,
-  normalize-attr-steps.Post,
-  walked-step-reads.Asked,
-  walked-step-reads.Learnt,
-) (normalize-attr-step-at t) normalize-attr-step.Post
-normalize-attr-step-add-t62 t c = omega (arith, c .before .before .before .before .before .before .before .before .before .before .before .before .before .before .before .before .before .before .before .before .before .before .before .before .before .before .pre .1 .1 .1 .1)
+normalize-attr-step-run-step-requires t c κs = tt
 
 normalize-attr-step-same-length-4 : (t : ℕ) → normalize-attr-step-lts.Need-same-length-4 (
   stopped-reads.Asked,
@@ -1386,8 +1302,8 @@ normalize-attr-step-same-length-4 : (t : ℕ) → normalize-attr-step-lts.Need-s
   blank-at-reads.Learnt,
   byte-step-reads.Asked,
   byte-step-reads.Learnt,
-  quick-number-reads.Asked,
-  quick-number-reads.Learnt,
+  quick-reference-reads.Asked,
+  quick-reference-reads.Learnt,
   char-step-reads.Asked,
   char-step-reads.Learnt,
   name-end-reads.Asked,
@@ -1398,17 +1314,14 @@ normalize-attr-step-same-length-4 : (t : ℕ) → normalize-attr-step-lts.Need-s
   bound-to-reads.Learnt,
   is-plain-reads.Asked,
   is-plain-reads.Learnt,
-  put-over-reads.Asked,
-  put-over-reads.Learnt,
+  run-step-reads.Asked,
+  run-step-reads.Learnt,
   normalize-attr-steps-below t,
   normalize-attr-steps.Post,
   walked-step-reads.Asked,
   walked-step-reads.Learnt,
 ) (normalize-attr-step-at t) normalize-attr-step.Post
-normalize-attr-step-same-length-4 t c =
-    let a = c .before .before .before .before .before .before .before .before .before .before .start .given .0 .0 in
-    let z = c .before .before .before .before .before .before .before .before .before .before .start .given .0 .1 .0 in
-    ap length (c .before .before .put-over .ensures) ∙ length-over (take (z - a) (drop a (c .before .before .before .before .before .before .before .before .before .before .before .before .before .before .before .before .before .before .before .before .before .before .before .before .before .before .args .pool .now))) (c .before .before .before .before .before .before .before .before .before .before .before .before .before .before .before .before .before .before .before .before .before .before .before .before .before .before .args .out .now)
+normalize-attr-step-same-length-4 t c = stepped-length (c .before .before .run-step .ensures)
 
 normalize-attr-step-returns-7 : (t : ℕ) → normalize-attr-step-lts.Need-returns-7 (
   stopped-reads.Asked,
@@ -1417,8 +1330,8 @@ normalize-attr-step-returns-7 : (t : ℕ) → normalize-attr-step-lts.Need-retur
   blank-at-reads.Learnt,
   byte-step-reads.Asked,
   byte-step-reads.Learnt,
-  quick-number-reads.Asked,
-  quick-number-reads.Learnt,
+  quick-reference-reads.Asked,
+  quick-reference-reads.Learnt,
   char-step-reads.Asked,
   char-step-reads.Learnt,
   name-end-reads.Asked,
@@ -1429,22 +1342,22 @@ normalize-attr-step-returns-7 : (t : ℕ) → normalize-attr-step-lts.Need-retur
   bound-to-reads.Learnt,
   is-plain-reads.Asked,
   is-plain-reads.Learnt,
-  put-over-reads.Asked,
-  put-over-reads.Learnt,
+  run-step-reads.Asked,
+  run-step-reads.Learnt,
   normalize-attr-steps-below t,
   normalize-attr-steps.Post,
   walked-step-reads.Asked,
   walked-step-reads.Learnt,
 ) (normalize-attr-step-at t) normalize-attr-step.Post
 normalize-attr-step-returns-7 t c =
-    let inside : c .before .before .before .before .before .before .before .before .before .before .before .before .before .before .before .before .before .name-end .result < length (c .before .before .before .before .before .before .before .before .before .before .before .before .before .before .before .before .before .before .before .before .before .before .before .before .before .before .args .text .now) = (omega (arith, c .before .before .before .before .before .before .before .before .before .before .before .before .before .before .before .before .before .name-end .ensures .to, c .before .before .before .before .before .before .before .before .before .before .before .before .before .before .before .before .if6 .left)) in
+    let inside : c .before .before .before .before .before .before .before .before .before .before .before .before .before .before .before .before .before .name-end .result < length (c .before .before .before .before .before .before .before .before .before .before .before .before .before .before .before .before .before .before .before .before .before .before .before .before .before .before .before .args .text .now) = (omega (arith, c .before .before .before .before .before .before .before .before .before .before .before .before .before .before .before .before .before .name-end .ensures .to, c .before .before .before .before .before .before .before .before .before .before .before .before .before .before .before .before .if4 .left)) in
     let a = c .before .before .before .before .before .before .before .before .before .before .start .given .0 .0 in
     let z = c .before .before .before .before .before .before .before .before .before .before .start .given .0 .1 .0 in
-    let lies = subst (Lies (c .before .before .before .before .before .before .before .before .before .before .before .before .before .before .before .before .before .before .before .before .before .before .before .before .before .before .args .pool .now)) (c .before .before .before .before .before .before .before .before .before .before .start .given .1) (c .before .before .before .before .before .before .before .before .before .before .before .before .bound-to .ensures .1) in
-    let size : length (take (z - a) (drop a (c .before .before .before .before .before .before .before .before .before .before .before .before .before .before .before .before .before .before .before .before .before .before .before .before .before .before .args .pool .now))) ≡ z - a = length-take-le (z - a) (drop a (c .before .before .before .before .before .before .before .before .before .before .before .before .before .before .before .before .before .before .before .before .before .before .before .before .before .before .args .pool .now)) (rw length-drop (omega (arith, lies .0, lies .1))) in
-    let room : c .before .before .before .before .before .before .before .before .before .before .before .before .before .before .before .before .before .before .before .before .before .before .before .before .before .before .args .openings + 1 ≤ c .before .before .before .before .before .before .before .before .before .before .before .before .before .before .before .before .before .before .before .before .before .before .before .before .before .before .args .limit = omega (arith, c .before .before .before .before .before .before .before .before .if8 .left, c .before .before .before .before .before .before .before .before .before .before .before .before .before .before .before .before .before .before .before .before .before .before .before .before .before .before .pre .1 .1 .1 .1 .0) in (
-      step-plain (c .before .before .before .before .before .before .before .before .before .before .before .before .before .before .before .before .before .before .before .before .before .before .before .before .before .before .args .newer) (c .before .before .before .before .before .before .before .before .before .before .before .before .before .before .before .before .before .before .before .before .before .before .before .before .before .before .args .list .now) (c .before .before .before .before .before .before .before .before .before .before .before .before .before .before .before .before .before .before .before .before .before .before .before .before .before .before .args .pool .now) (c .before .before .before .before .before .before .before .before .before .before .before .before .before .before .before .before .before .before .before .before .before .before .before .before .before .before .args .limit) (c .before .before .before .before .before .before .before .before .before .before .before .before .before .before .before .before .before .before .before .before .before .before .before .before .before .before .args .depth) (c .before .before .before .before .before .before .before .before .before .before .before .before .before .before .before .before .before .before .before .before .before .before .before .before .before .before .args .text .now) (c .before .before .before .before .before .before .before .before .before .before .before .before .before .before .before .before .before .before .before .before .before .before .before .before .before .before .args .at) (c .before .before .before .before .before .before .before .before .before .before .before .before .before .before .before .before .before .before .before .before .before .before .before .before .before .before .args .openings) (c .before .before .before .before .before .before .before .before .before .before .before .before .before .before .before .before .before .before .before .before .before .if1 .left) (c .before .before .before .before .before .before .before .before .before .before .before .before .before .before .before .before .before .name-end .result) (c .before .before .before .before .before .before .before .before .before .before .before .before .before .before .before .before .before .before .before .if2 .left) (c .before .before .before .before .before .before .before .before .before .before .before .before .before .before .before .before .before .name-end .ensures) inside (c .before .before .before .before .before .before .before .before .before .before .before .before .before .before .if7 .left) (c .before .before .before .before .before .before .before .before .before .before .before .before .bound-to .result) (c .before .before .before .before .before .before .before .before .before .before .before .before .bound-to .ensures .0) a z (c .before .before .before .before .before .before .before .before .before .before .start .given .1) (c .before .before .before .before .before .before .before .before .if8 .left) (c .before .before .before .before .before .before .is-plain .ensures (c .before .before .before .before .before .if9 .taken)) size (c .before .before .put-over .ensures),
-      (omega (arith, c .before .before .before .before .before .before .before .before .before .before .before .before .before .before .before .before .before .name-end .ensures .from), omega (arith, inside), omega arith, room, omega (arith, c .before .before .before .before .before .before .before .before .before .before .before .before .before .before .before .before .before .name-end .ensures .from, lies .0, lies .2)),
+    let lies = subst (Lies (c .before .before .before .before .before .before .before .before .before .before .before .before .before .before .before .before .before .before .before .before .before .before .before .before .before .before .before .args .pool .now)) (c .before .before .before .before .before .before .before .before .before .before .start .given .1) (c .before .before .before .before .before .before .before .before .before .before .before .before .bound-to .ensures .1) in
+    let size : length (take (z - a) (drop a (c .before .before .before .before .before .before .before .before .before .before .before .before .before .before .before .before .before .before .before .before .before .before .before .before .before .before .before .args .pool .now))) ≡ z - a = length-take-le (z - a) (drop a (c .before .before .before .before .before .before .before .before .before .before .before .before .before .before .before .before .before .before .before .before .before .before .before .before .before .before .before .args .pool .now)) (rw length-drop (omega (arith, lies .0, lies .1))) in
+    let room : c .before .before .before .before .before .before .before .before .before .before .before .before .before .before .before .before .before .before .before .before .before .before .before .before .before .before .before .args .openings + 1 ≤ c .before .before .before .before .before .before .before .before .before .before .before .before .before .before .before .before .before .before .before .before .before .before .before .before .before .before .before .args .limit = omega (arith, c .before .before .before .before .before .before .before .before .if6 .left, c .before .before .before .before .before .before .before .before .before .before .before .before .before .before .before .before .before .before .before .before .before .before .before .before .before .before .before .pre .1 .1 .1 .1 .0) in (
+      step-plain (c .before .before .before .before .before .before .before .before .before .before .before .before .before .before .before .before .before .before .before .before .before .before .before .before .before .before .before .args .newer) (c .before .before .before .before .before .before .before .before .before .before .before .before .before .before .before .before .before .before .before .before .before .before .before .before .before .before .before .args .list .now) (c .before .before .before .before .before .before .before .before .before .before .before .before .before .before .before .before .before .before .before .before .before .before .before .before .before .before .before .args .pool .now) (c .before .before .before .before .before .before .before .before .before .before .before .before .before .before .before .before .before .before .before .before .before .before .before .before .before .before .before .args .limit) (c .before .before .before .before .before .before .before .before .before .before .before .before .before .before .before .before .before .before .before .before .before .before .before .before .before .before .before .args .depth) (c .before .before .before .before .before .before .before .before .before .before .before .before .before .before .before .before .before .before .before .before .before .before .before .before .before .before .before .args .text .now) (c .before .before .before .before .before .before .before .before .before .before .before .before .before .before .before .before .before .before .before .before .before .before .before .before .before .before .before .args .at) (c .before .before .before .before .before .before .before .before .before .before .before .before .before .before .before .before .before .before .before .before .before .before .before .before .before .before .before .args .openings) (c .before .before .before .before .before .before .before .before .before .before .before .before .before .before .before .before .before .before .before .before .before .before .if1 .left) (c .before .before .before .before .before .before .before .before .before .before .before .before .before .before .before .before .before .name-end .result) (c .before .before .before .before .before .before .before .before .before .before .before .before .before .before .before .before .before .before .before .before .if2 .left) (c .before .before .before .before .before .before .before .before .before .before .before .before .before .before .before .before .before .name-end .ensures) inside (c .before .before .before .before .before .before .before .before .before .before .before .before .before .before .if5 .left) (c .before .before .before .before .before .before .before .before .before .before .before .before .bound-to .result) (c .before .before .before .before .before .before .before .before .before .before .before .before .bound-to .ensures .0) a z (c .before .before .before .before .before .before .before .before .before .before .start .given .1) (c .before .before .before .before .before .before .before .before .if6 .left) (c .before .before .before .before .before .before .is-plain .ensures (c .before .before .before .before .before .if7 .taken)) (c .before .before .run-step .ensures),
+      rw (c .before .before .run-step .ensures .answers) (omega (arith, c .before .before .before .before .before .before .before .before .before .before .before .before .before .before .before .before .before .name-end .ensures .from), omega (arith, inside), omega arith, room, omega (arith, c .before .before .before .before .before .before .before .before .before .before .before .before .before .before .before .before .before .name-end .ensures .from, lies .0, lies .2, size)),
     )
 
 normalize-attr-step-sub-normalize-attr-steps :
@@ -1455,8 +1368,8 @@ normalize-attr-step-sub-normalize-attr-steps :
       blank-at-reads.Learnt,
       byte-step-reads.Asked,
       byte-step-reads.Learnt,
-      quick-number-reads.Asked,
-      quick-number-reads.Learnt,
+      quick-reference-reads.Asked,
+      quick-reference-reads.Learnt,
       char-step-reads.Asked,
       char-step-reads.Learnt,
       name-end-reads.Asked,
@@ -1467,14 +1380,14 @@ normalize-attr-step-sub-normalize-attr-steps :
       bound-to-reads.Learnt,
       is-plain-reads.Asked,
       is-plain-reads.Learnt,
-      put-over-reads.Asked,
-      put-over-reads.Learnt,
+      run-step-reads.Asked,
+      run-step-reads.Learnt,
       normalize-attr-steps-below t,
       normalize-attr-steps.Post,
       walked-step-reads.Asked,
       walked-step-reads.Learnt,
     ) (normalize-attr-step-at t) normalize-attr-step.Post
-normalize-attr-step-sub-normalize-attr-steps t c = subst (Lies (c .before .before .before .before .before .before .before .before .before .before .before .before .before .before .before .before .before .before .before .before .before .args .pool .now)) (c .before .before .before .before .before .start .given .1) (c .before .before .before .before .before .before .before .bound-to .ensures .1) .0
+normalize-attr-step-sub-normalize-attr-steps t c = subst (Lies (c .before .before .before .before .before .before .before .before .before .before .before .before .before .before .before .before .before .before .before .before .before .before .args .pool .now)) (c .before .before .before .before .before .start .given .1) (c .before .before .before .before .before .before .before .bound-to .ensures .1) .0
 
 normalize-attr-step-part-normalize-attr-steps-start :
     (t : ℕ) → normalize-attr-step-lts.Need-part-normalize-attr-steps-start (
@@ -1484,8 +1397,8 @@ normalize-attr-step-part-normalize-attr-steps-start :
       blank-at-reads.Learnt,
       byte-step-reads.Asked,
       byte-step-reads.Learnt,
-      quick-number-reads.Asked,
-      quick-number-reads.Learnt,
+      quick-reference-reads.Asked,
+      quick-reference-reads.Learnt,
       char-step-reads.Asked,
       char-step-reads.Learnt,
       name-end-reads.Asked,
@@ -1496,14 +1409,14 @@ normalize-attr-step-part-normalize-attr-steps-start :
       bound-to-reads.Learnt,
       is-plain-reads.Asked,
       is-plain-reads.Learnt,
-      put-over-reads.Asked,
-      put-over-reads.Learnt,
+      run-step-reads.Asked,
+      run-step-reads.Learnt,
       normalize-attr-steps-below t,
       normalize-attr-steps.Post,
       walked-step-reads.Asked,
       walked-step-reads.Learnt,
     ) (normalize-attr-step-at t) normalize-attr-step.Post
-normalize-attr-step-part-normalize-attr-steps-start t c = subst (Lies (c .before .before .before .before .before .before .before .before .before .before .before .before .before .before .before .before .before .before .before .before .before .args .pool .now)) (c .before .before .before .before .before .start .given .1) (c .before .before .before .before .before .before .before .bound-to .ensures .1) .0
+normalize-attr-step-part-normalize-attr-steps-start t c = subst (Lies (c .before .before .before .before .before .before .before .before .before .before .before .before .before .before .before .before .before .before .before .before .before .before .args .pool .now)) (c .before .before .before .before .before .start .given .1) (c .before .before .before .before .before .before .before .bound-to .ensures .1) .0
 
 normalize-attr-step-part-normalize-attr-steps-end :
     (t : ℕ) → normalize-attr-step-lts.Need-part-normalize-attr-steps-end (
@@ -1513,8 +1426,8 @@ normalize-attr-step-part-normalize-attr-steps-end :
       blank-at-reads.Learnt,
       byte-step-reads.Asked,
       byte-step-reads.Learnt,
-      quick-number-reads.Asked,
-      quick-number-reads.Learnt,
+      quick-reference-reads.Asked,
+      quick-reference-reads.Learnt,
       char-step-reads.Asked,
       char-step-reads.Learnt,
       name-end-reads.Asked,
@@ -1525,14 +1438,14 @@ normalize-attr-step-part-normalize-attr-steps-end :
       bound-to-reads.Learnt,
       is-plain-reads.Asked,
       is-plain-reads.Learnt,
-      put-over-reads.Asked,
-      put-over-reads.Learnt,
+      run-step-reads.Asked,
+      run-step-reads.Learnt,
       normalize-attr-steps-below t,
       normalize-attr-steps.Post,
       walked-step-reads.Asked,
       walked-step-reads.Learnt,
     ) (normalize-attr-step-at t) normalize-attr-step.Post
-normalize-attr-step-part-normalize-attr-steps-end t c = subst (Lies (c .before .before .before .before .before .before .before .before .before .before .before .before .before .before .before .before .before .before .before .before .before .args .pool .now)) (c .before .before .before .before .before .start .given .1) (c .before .before .before .before .before .before .before .bound-to .ensures .1) .1
+normalize-attr-step-part-normalize-attr-steps-end t c = subst (Lies (c .before .before .before .before .before .before .before .before .before .before .before .before .before .before .before .before .before .before .before .before .before .before .args .pool .now)) (c .before .before .before .before .before .start .given .1) (c .before .before .before .before .before .before .before .bound-to .ensures .1) .1
 
 normalize-attr-step-sub-normalize-attr-steps-2 :
     (t : ℕ) → normalize-attr-step-lts.Need-sub-normalize-attr-steps-2 (
@@ -1542,8 +1455,8 @@ normalize-attr-step-sub-normalize-attr-steps-2 :
       blank-at-reads.Learnt,
       byte-step-reads.Asked,
       byte-step-reads.Learnt,
-      quick-number-reads.Asked,
-      quick-number-reads.Learnt,
+      quick-reference-reads.Asked,
+      quick-reference-reads.Learnt,
       char-step-reads.Asked,
       char-step-reads.Learnt,
       name-end-reads.Asked,
@@ -1554,14 +1467,14 @@ normalize-attr-step-sub-normalize-attr-steps-2 :
       bound-to-reads.Learnt,
       is-plain-reads.Asked,
       is-plain-reads.Learnt,
-      put-over-reads.Asked,
-      put-over-reads.Learnt,
+      run-step-reads.Asked,
+      run-step-reads.Learnt,
       normalize-attr-steps-below t,
       normalize-attr-steps.Post,
       walked-step-reads.Asked,
       walked-step-reads.Learnt,
     ) (normalize-attr-step-at t) normalize-attr-step.Post
-normalize-attr-step-sub-normalize-attr-steps-2 t c = omega (arith, c .before .before .before .before .before .before .before .before .before .before .before .before .before .before .before .before .before .if1 .left)
+normalize-attr-step-sub-normalize-attr-steps-2 t c = omega (arith, c .before .before .before .before .before .before .before .before .before .before .before .before .before .before .before .before .before .before .if1 .left)
 
 normalize-attr-step-add-normalize-attr-steps :
     (t : ℕ) → normalize-attr-step-lts.Need-add-normalize-attr-steps (
@@ -1571,8 +1484,8 @@ normalize-attr-step-add-normalize-attr-steps :
       blank-at-reads.Learnt,
       byte-step-reads.Asked,
       byte-step-reads.Learnt,
-      quick-number-reads.Asked,
-      quick-number-reads.Learnt,
+      quick-reference-reads.Asked,
+      quick-reference-reads.Learnt,
       char-step-reads.Asked,
       char-step-reads.Learnt,
       name-end-reads.Asked,
@@ -1583,14 +1496,14 @@ normalize-attr-step-add-normalize-attr-steps :
       bound-to-reads.Learnt,
       is-plain-reads.Asked,
       is-plain-reads.Learnt,
-      put-over-reads.Asked,
-      put-over-reads.Learnt,
+      run-step-reads.Asked,
+      run-step-reads.Learnt,
       normalize-attr-steps-below t,
       normalize-attr-steps.Post,
       walked-step-reads.Asked,
       walked-step-reads.Learnt,
     ) (normalize-attr-step-at t) normalize-attr-step.Post
-normalize-attr-step-add-normalize-attr-steps t c = omega (arith, c .before .before .before .before .before .before .before .before .before .before .before .before .before .before .before .before .before .before .before .before .before .before .pre .1 .1 .1 .1)
+normalize-attr-step-add-normalize-attr-steps t c = omega (arith, c .before .before .before .before .before .before .before .before .before .before .before .before .before .before .before .before .before .before .before .before .before .before .before .pre .1 .1 .1 .1)
 
 normalize-attr-step-normalize-attr-steps-requires :
     (t : ℕ) → normalize-attr-step-lts.Need-normalize-attr-steps-requires (
@@ -1600,8 +1513,8 @@ normalize-attr-step-normalize-attr-steps-requires :
       blank-at-reads.Learnt,
       byte-step-reads.Asked,
       byte-step-reads.Learnt,
-      quick-number-reads.Asked,
-      quick-number-reads.Learnt,
+      quick-reference-reads.Asked,
+      quick-reference-reads.Learnt,
       char-step-reads.Asked,
       char-step-reads.Learnt,
       name-end-reads.Asked,
@@ -1612,8 +1525,8 @@ normalize-attr-step-normalize-attr-steps-requires :
       bound-to-reads.Learnt,
       is-plain-reads.Asked,
       is-plain-reads.Learnt,
-      put-over-reads.Asked,
-      put-over-reads.Learnt,
+      run-step-reads.Asked,
+      run-step-reads.Learnt,
       normalize-attr-steps-below t,
       normalize-attr-steps.Post,
       walked-step-reads.Asked,
@@ -1622,11 +1535,11 @@ normalize-attr-step-normalize-attr-steps-requires :
 normalize-attr-step-normalize-attr-steps-requires t c κs =
     let a = c .before .before .before .before .before .before .before .start .given .0 .0 in
     let z = c .before .before .before .before .before .before .before .start .given .0 .1 .0 in
-    let lies = subst (Lies (c .before .before .before .before .before .before .before .before .before .before .before .before .before .before .before .before .before .before .before .before .before .before .before .args .pool .now)) (c .before .before .before .before .before .before .before .start .given .1) (c .before .before .before .before .before .before .before .before .before .bound-to .ensures .1) in
-    let less : (c .before .before .before .before .before .before .before .before .before .before .before .before .before .before .before .before .before .before .before .before .before .before .before .args .depth - 1) + (c .before .before .before .before .before .before .before .before .before .before .before .before .before .before .before .before .before .before .before .before .before .before .before .args .depth - 1) + 1 < t = omega (arith, c .before .before .before .before .before .before .before .before .before .before .before .before .before .before .before .before .before .before .before .before .before .before .before .pre .0, c .before .before .before .before .before .before .before .before .before .before .before .before .before .before .before .before .before .before .if1 .left) in
-    let short : length (take (z - a) (drop a (c .before .before .before .before .before .before .before .before .before .before .before .before .before .before .before .before .before .before .before .before .before .before .before .args .pool .now))) ≤ 16777216 = simp (length-take, length-drop) (omega (arith, lies .2)) in
-    let room : c .before .before .before .before .before .before .before .before .before .before .before .before .before .before .before .before .before .before .before .before .before .before .before .args .openings + 1 ≤ c .before .before .before .before .before .before .before .before .before .before .before .before .before .before .before .before .before .before .before .before .before .before .before .args .limit = omega (arith, c .before .before .before .before .before .if8 .left, c .before .before .before .before .before .before .before .before .before .before .before .before .before .before .before .before .before .before .before .before .before .before .before .pre .1 .1 .1 .1 .0) in
-    (less, (c .before .before .before .before .before .before .before .before .before .before .before .before .before .before .before .before .before .before .before .before .before .before .before .pre .1 .0, (short, (room, c .before .before .before .before .before .before .before .before .before .before .before .before .before .before .before .before .before .before .before .before .before .before .before .pre .1 .1 .1 .1 .1))))
+    let lies = subst (Lies (c .before .before .before .before .before .before .before .before .before .before .before .before .before .before .before .before .before .before .before .before .before .before .before .before .args .pool .now)) (c .before .before .before .before .before .before .before .start .given .1) (c .before .before .before .before .before .before .before .before .before .bound-to .ensures .1) in
+    let less : (c .before .before .before .before .before .before .before .before .before .before .before .before .before .before .before .before .before .before .before .before .before .before .before .before .args .depth - 1) + (c .before .before .before .before .before .before .before .before .before .before .before .before .before .before .before .before .before .before .before .before .before .before .before .before .args .depth - 1) + 1 < t = omega (arith, c .before .before .before .before .before .before .before .before .before .before .before .before .before .before .before .before .before .before .before .before .before .before .before .before .pre .0, c .before .before .before .before .before .before .before .before .before .before .before .before .before .before .before .before .before .before .before .if1 .left) in
+    let short : length (take (z - a) (drop a (c .before .before .before .before .before .before .before .before .before .before .before .before .before .before .before .before .before .before .before .before .before .before .before .before .args .pool .now))) ≤ 16777216 = simp (length-take, length-drop) (omega (arith, lies .2)) in
+    let room : c .before .before .before .before .before .before .before .before .before .before .before .before .before .before .before .before .before .before .before .before .before .before .before .before .args .openings + 1 ≤ c .before .before .before .before .before .before .before .before .before .before .before .before .before .before .before .before .before .before .before .before .before .before .before .before .args .limit = omega (arith, c .before .before .before .before .before .if6 .left, c .before .before .before .before .before .before .before .before .before .before .before .before .before .before .before .before .before .before .before .before .before .before .before .before .pre .1 .1 .1 .1 .0) in
+    (less, (c .before .before .before .before .before .before .before .before .before .before .before .before .before .before .before .before .before .before .before .before .before .before .before .before .pre .1 .0, (short, (room, c .before .before .before .before .before .before .before .before .before .before .before .before .before .before .before .before .before .before .before .before .before .before .before .before .pre .1 .1 .1 .1 .1))))
 
 normalize-attr-step-add-walked-step : (t : ℕ) → normalize-attr-step-lts.Need-add-walked-step (
   stopped-reads.Asked,
@@ -1635,8 +1548,8 @@ normalize-attr-step-add-walked-step : (t : ℕ) → normalize-attr-step-lts.Need
   blank-at-reads.Learnt,
   byte-step-reads.Asked,
   byte-step-reads.Learnt,
-  quick-number-reads.Asked,
-  quick-number-reads.Learnt,
+  quick-reference-reads.Asked,
+  quick-reference-reads.Learnt,
   char-step-reads.Asked,
   char-step-reads.Learnt,
   name-end-reads.Asked,
@@ -1647,14 +1560,14 @@ normalize-attr-step-add-walked-step : (t : ℕ) → normalize-attr-step-lts.Need
   bound-to-reads.Learnt,
   is-plain-reads.Asked,
   is-plain-reads.Learnt,
-  put-over-reads.Asked,
-  put-over-reads.Learnt,
+  run-step-reads.Asked,
+  run-step-reads.Learnt,
   normalize-attr-steps-below t,
   normalize-attr-steps.Post,
   walked-step-reads.Asked,
   walked-step-reads.Learnt,
 ) (normalize-attr-step-at t) normalize-attr-step.Post
-normalize-attr-step-add-walked-step t c = omega (arith, c .before .before .before .before .before .before .before .before .before .before .before .before .before .before .before .before .before .before .before .before .before .before .before .before .before .before .pre .1 .1 .0, c .before .before .before .before .before .before .before .before .before .before .before .before .before .before .before .before .before .name-end .ensures .to)
+normalize-attr-step-add-walked-step t c = omega (arith, c .before .before .before .before .before .before .before .before .before .before .before .before .before .before .before .before .before .before .before .before .before .before .before .before .before .before .before .pre .1 .1 .0, c .before .before .before .before .before .before .before .before .before .before .before .before .before .before .before .before .before .name-end .ensures .to)
 
 normalize-attr-step-walked-step-requires :
     (t : ℕ) → normalize-attr-step-lts.Need-walked-step-requires (
@@ -1664,8 +1577,8 @@ normalize-attr-step-walked-step-requires :
       blank-at-reads.Learnt,
       byte-step-reads.Asked,
       byte-step-reads.Learnt,
-      quick-number-reads.Asked,
-      quick-number-reads.Learnt,
+      quick-reference-reads.Asked,
+      quick-reference-reads.Learnt,
       char-step-reads.Asked,
       char-step-reads.Learnt,
       name-end-reads.Asked,
@@ -1676,8 +1589,8 @@ normalize-attr-step-walked-step-requires :
       bound-to-reads.Learnt,
       is-plain-reads.Asked,
       is-plain-reads.Learnt,
-      put-over-reads.Asked,
-      put-over-reads.Learnt,
+      run-step-reads.Asked,
+      run-step-reads.Learnt,
       normalize-attr-steps-below t,
       normalize-attr-steps.Post,
       walked-step-reads.Asked,
@@ -1692,8 +1605,8 @@ normalize-attr-step-enum-known-b : (t : ℕ) → normalize-attr-step-lts.Need-en
   blank-at-reads.Learnt,
   byte-step-reads.Asked,
   byte-step-reads.Learnt,
-  quick-number-reads.Asked,
-  quick-number-reads.Learnt,
+  quick-reference-reads.Asked,
+  quick-reference-reads.Learnt,
   char-step-reads.Asked,
   char-step-reads.Learnt,
   name-end-reads.Asked,
@@ -1704,8 +1617,8 @@ normalize-attr-step-enum-known-b : (t : ℕ) → normalize-attr-step-lts.Need-en
   bound-to-reads.Learnt,
   is-plain-reads.Asked,
   is-plain-reads.Learnt,
-  put-over-reads.Asked,
-  put-over-reads.Learnt,
+  run-step-reads.Asked,
+  run-step-reads.Learnt,
   normalize-attr-steps-below t,
   normalize-attr-steps.Post,
   walked-step-reads.Asked,
@@ -1720,8 +1633,8 @@ normalize-attr-step-add-byte-step-2 : (t : ℕ) → normalize-attr-step-lts.Need
   blank-at-reads.Learnt,
   byte-step-reads.Asked,
   byte-step-reads.Learnt,
-  quick-number-reads.Asked,
-  quick-number-reads.Learnt,
+  quick-reference-reads.Asked,
+  quick-reference-reads.Learnt,
   char-step-reads.Asked,
   char-step-reads.Learnt,
   name-end-reads.Asked,
@@ -1732,14 +1645,14 @@ normalize-attr-step-add-byte-step-2 : (t : ℕ) → normalize-attr-step-lts.Need
   bound-to-reads.Learnt,
   is-plain-reads.Asked,
   is-plain-reads.Learnt,
-  put-over-reads.Asked,
-  put-over-reads.Learnt,
+  run-step-reads.Asked,
+  run-step-reads.Learnt,
   normalize-attr-steps-below t,
   normalize-attr-steps.Post,
   walked-step-reads.Asked,
   walked-step-reads.Learnt,
 ) (normalize-attr-step-at t) normalize-attr-step.Post
-normalize-attr-step-add-byte-step-2 t c = omega (arith, c .before .before .before .before .before .before .before .before .before .before .before .before .before .before .before .before .before .pre .1 .1 .0, c .before .before .before .before .before .before .before .before .name-end .ensures .to)
+normalize-attr-step-add-byte-step-2 t c = omega (arith, c .before .before .before .before .before .before .before .before .before .before .before .before .before .before .before .before .before .before .pre .1 .1 .0, c .before .before .before .before .before .before .before .before .name-end .ensures .to)
 
 normalize-attr-step-byte-step-requires-2 :
     (t : ℕ) → normalize-attr-step-lts.Need-byte-step-requires-2 (
@@ -1749,8 +1662,8 @@ normalize-attr-step-byte-step-requires-2 :
       blank-at-reads.Learnt,
       byte-step-reads.Asked,
       byte-step-reads.Learnt,
-      quick-number-reads.Asked,
-      quick-number-reads.Learnt,
+      quick-reference-reads.Asked,
+      quick-reference-reads.Learnt,
       char-step-reads.Asked,
       char-step-reads.Learnt,
       name-end-reads.Asked,
@@ -1761,8 +1674,8 @@ normalize-attr-step-byte-step-requires-2 :
       bound-to-reads.Learnt,
       is-plain-reads.Asked,
       is-plain-reads.Learnt,
-      put-over-reads.Asked,
-      put-over-reads.Learnt,
+      run-step-reads.Asked,
+      run-step-reads.Learnt,
       normalize-attr-steps-below t,
       normalize-attr-steps.Post,
       walked-step-reads.Asked,
@@ -1777,8 +1690,8 @@ normalize-attr-step-enum-told : (t : ℕ) → normalize-attr-step-lts.Need-enum-
   blank-at-reads.Learnt,
   byte-step-reads.Asked,
   byte-step-reads.Learnt,
-  quick-number-reads.Asked,
-  quick-number-reads.Learnt,
+  quick-reference-reads.Asked,
+  quick-reference-reads.Learnt,
   char-step-reads.Asked,
   char-step-reads.Learnt,
   name-end-reads.Asked,
@@ -1789,8 +1702,8 @@ normalize-attr-step-enum-told : (t : ℕ) → normalize-attr-step-lts.Need-enum-
   bound-to-reads.Learnt,
   is-plain-reads.Asked,
   is-plain-reads.Learnt,
-  put-over-reads.Asked,
-  put-over-reads.Learnt,
+  run-step-reads.Asked,
+  run-step-reads.Learnt,
   normalize-attr-steps-below t,
   normalize-attr-steps.Post,
   walked-step-reads.Asked,
@@ -1805,8 +1718,8 @@ normalize-attr-step-stopped-requires-4 : (t : ℕ) → normalize-attr-step-lts.N
   blank-at-reads.Learnt,
   byte-step-reads.Asked,
   byte-step-reads.Learnt,
-  quick-number-reads.Asked,
-  quick-number-reads.Learnt,
+  quick-reference-reads.Asked,
+  quick-reference-reads.Learnt,
   char-step-reads.Asked,
   char-step-reads.Learnt,
   name-end-reads.Asked,
@@ -1817,8 +1730,8 @@ normalize-attr-step-stopped-requires-4 : (t : ℕ) → normalize-attr-step-lts.N
   bound-to-reads.Learnt,
   is-plain-reads.Asked,
   is-plain-reads.Learnt,
-  put-over-reads.Asked,
-  put-over-reads.Learnt,
+  run-step-reads.Asked,
+  run-step-reads.Learnt,
   normalize-attr-steps-below t,
   normalize-attr-steps.Post,
   walked-step-reads.Asked,
@@ -1833,8 +1746,8 @@ normalize-attr-step-same-length-5 : (t : ℕ) → normalize-attr-step-lts.Need-s
   blank-at-reads.Learnt,
   byte-step-reads.Asked,
   byte-step-reads.Learnt,
-  quick-number-reads.Asked,
-  quick-number-reads.Learnt,
+  quick-reference-reads.Asked,
+  quick-reference-reads.Learnt,
   char-step-reads.Asked,
   char-step-reads.Learnt,
   name-end-reads.Asked,
@@ -1845,8 +1758,8 @@ normalize-attr-step-same-length-5 : (t : ℕ) → normalize-attr-step-lts.Need-s
   bound-to-reads.Learnt,
   is-plain-reads.Asked,
   is-plain-reads.Learnt,
-  put-over-reads.Asked,
-  put-over-reads.Learnt,
+  run-step-reads.Asked,
+  run-step-reads.Learnt,
   normalize-attr-steps-below t,
   normalize-attr-steps.Post,
   walked-step-reads.Asked,
@@ -1861,8 +1774,8 @@ normalize-attr-step-returns-8 : (t : ℕ) → normalize-attr-step-lts.Need-retur
   blank-at-reads.Learnt,
   byte-step-reads.Asked,
   byte-step-reads.Learnt,
-  quick-number-reads.Asked,
-  quick-number-reads.Learnt,
+  quick-reference-reads.Asked,
+  quick-reference-reads.Learnt,
   char-step-reads.Asked,
   char-step-reads.Learnt,
   name-end-reads.Asked,
@@ -1873,21 +1786,21 @@ normalize-attr-step-returns-8 : (t : ℕ) → normalize-attr-step-lts.Need-retur
   bound-to-reads.Learnt,
   is-plain-reads.Asked,
   is-plain-reads.Learnt,
-  put-over-reads.Asked,
-  put-over-reads.Learnt,
+  run-step-reads.Asked,
+  run-step-reads.Learnt,
   normalize-attr-steps-below t,
   normalize-attr-steps.Post,
   walked-step-reads.Asked,
   walked-step-reads.Learnt,
 ) (normalize-attr-step-at t) normalize-attr-step.Post
 normalize-attr-step-returns-8 t c =
-    let inside : c .before .before .before .before .before .before .before .before .before .before .before .before .before .before .before .before .before .before .name-end .result < length (c .before .before .before .before .before .before .before .before .before .before .before .before .before .before .before .before .before .before .before .before .before .before .before .before .before .before .before .args .text .now) = (omega (arith, c .before .before .before .before .before .before .before .before .before .before .before .before .before .before .before .before .before .before .name-end .ensures .to, c .before .before .before .before .before .before .before .before .before .before .before .before .before .before .before .before .before .if6 .left)) in
+    let inside : c .before .before .before .before .before .before .before .before .before .before .before .before .before .before .before .before .before .before .name-end .result < length (c .before .before .before .before .before .before .before .before .before .before .before .before .before .before .before .before .before .before .before .before .before .before .before .before .before .before .before .before .args .text .now) = (omega (arith, c .before .before .before .before .before .before .before .before .before .before .before .before .before .before .before .before .before .before .name-end .ensures .to, c .before .before .before .before .before .before .before .before .before .before .before .before .before .before .before .before .before .if4 .left)) in
     let a = c .before .before .before .before .before .before .before .before .before .before .before .start .given .0 .0 in
     let z = c .before .before .before .before .before .before .before .before .before .before .before .start .given .0 .1 .0 in
-    let lies = subst (Lies (c .before .before .before .before .before .before .before .before .before .before .before .before .before .before .before .before .before .before .before .before .before .before .before .before .before .before .before .args .pool .now)) (c .before .before .before .before .before .before .before .before .before .before .before .start .given .1) (c .before .before .before .before .before .before .before .before .before .before .before .before .before .bound-to .ensures .1) in
-    let size : length (take (z - a) (drop a (c .before .before .before .before .before .before .before .before .before .before .before .before .before .before .before .before .before .before .before .before .before .before .before .before .before .before .before .args .pool .now))) ≡ z - a = length-take-le (z - a) (drop a (c .before .before .before .before .before .before .before .before .before .before .before .before .before .before .before .before .before .before .before .before .before .before .before .before .before .before .before .args .pool .now)) (rw length-drop (omega (arith, lies .0, lies .1))) in (
-      step-text (c .before .before .before .before .before .before .before .before .before .before .before .before .before .before .before .before .before .before .before .before .before .before .before .before .before .before .before .args .newer) (c .before .before .before .before .before .before .before .before .before .before .before .before .before .before .before .before .before .before .before .before .before .before .before .before .before .before .before .args .list .now) (c .before .before .before .before .before .before .before .before .before .before .before .before .before .before .before .before .before .before .before .before .before .before .before .before .before .before .before .args .pool .now) (c .before .before .before .before .before .before .before .before .before .before .before .before .before .before .before .before .before .before .before .before .before .before .before .before .before .before .before .args .limit) (c .before .before .before .before .before .before .before .before .before .before .before .before .before .before .before .before .before .before .before .before .before .before .before .before .before .before .before .args .depth) (c .before .before .before .before .before .before .before .before .before .before .before .before .before .before .before .before .before .before .before .before .before .before .before .before .before .before .before .args .text .now) (c .before .before .before .before .before .before .before .before .before .before .before .before .before .before .before .before .before .before .before .before .before .before .before .before .before .before .before .args .at) (c .before .before .before .before .before .before .before .before .before .before .before .before .before .before .before .before .before .before .before .before .before .before .before .before .before .before .before .args .openings) (c .before .before .before .before .before .before .before .before .before .before .before .before .before .before .before .before .before .before .before .before .before .before .if1 .left) (c .before .before .before .before .before .before .before .before .before .before .before .before .before .before .before .before .before .before .name-end .result) (c .before .before .before .before .before .before .before .before .before .before .before .before .before .before .before .before .before .before .before .before .if2 .left) (c .before .before .before .before .before .before .before .before .before .before .before .before .before .before .before .before .before .before .name-end .ensures) inside (c .before .before .before .before .before .before .before .before .before .before .before .before .before .before .before .if7 .left) (c .before .before .before .before .before .before .before .before .before .before .before .before .before .bound-to .result) (c .before .before .before .before .before .before .before .before .before .before .before .before .before .bound-to .ensures .0) a z (c .before .before .before .before .before .before .before .before .before .before .before .start .given .1) (c .before .before .before .before .before .before .before .before .before .if8 .left) (c .before .before .before .normalize-attr-steps .ensures .0) (c .walked-step .ensures),
-      counted-walked (length (c .before .before .before .before .before .before .before .before .before .before .before .before .before .before .before .before .before .before .before .before .before .before .before .before .before .before .before .args .text .now)) (c .before .before .before .before .before .before .before .before .before .before .before .before .before .before .before .before .before .before .before .before .before .before .before .before .before .before .before .args .at) (c .before .before .before .before .before .before .before .before .before .before .before .before .before .before .before .before .before .before .before .before .before .before .before .before .before .before .before .args .openings) (c .before .before .before .before .before .before .before .before .before .before .before .before .before .before .before .before .before .before .before .before .before .before .before .before .before .before .before .args .limit) (c .before .before .before .before .before .before .before .before .before .before .before .before .before .before .before .before .before .before .name-end .result) a z (c .before .before .before .normalize-attr-steps .result) (omega (arith, c .before .before .before .before .before .before .before .before .before .before .before .before .before .before .before .before .before .before .name-end .ensures .from)) inside (lies .0) (lies .2) (subst (λ (k : ℕ). Counted k (c .before .before .before .before .before .before .before .before .before .before .before .before .before .before .before .before .before .before .before .before .before .before .before .before .before .before .before .args .openings + 1) (c .before .before .before .before .before .before .before .before .before .before .before .before .before .before .before .before .before .before .before .before .before .before .before .before .before .before .before .args .limit) (c .before .before .before .normalize-attr-steps .result)) size (c .before .before .before .normalize-attr-steps .ensures .1)) (c .walked-step .ensures),
+    let lies = subst (Lies (c .before .before .before .before .before .before .before .before .before .before .before .before .before .before .before .before .before .before .before .before .before .before .before .before .before .before .before .before .args .pool .now)) (c .before .before .before .before .before .before .before .before .before .before .before .start .given .1) (c .before .before .before .before .before .before .before .before .before .before .before .before .before .bound-to .ensures .1) in
+    let size : length (take (z - a) (drop a (c .before .before .before .before .before .before .before .before .before .before .before .before .before .before .before .before .before .before .before .before .before .before .before .before .before .before .before .before .args .pool .now))) ≡ z - a = length-take-le (z - a) (drop a (c .before .before .before .before .before .before .before .before .before .before .before .before .before .before .before .before .before .before .before .before .before .before .before .before .before .before .before .before .args .pool .now)) (rw length-drop (omega (arith, lies .0, lies .1))) in (
+      step-text (c .before .before .before .before .before .before .before .before .before .before .before .before .before .before .before .before .before .before .before .before .before .before .before .before .before .before .before .before .args .newer) (c .before .before .before .before .before .before .before .before .before .before .before .before .before .before .before .before .before .before .before .before .before .before .before .before .before .before .before .before .args .list .now) (c .before .before .before .before .before .before .before .before .before .before .before .before .before .before .before .before .before .before .before .before .before .before .before .before .before .before .before .before .args .pool .now) (c .before .before .before .before .before .before .before .before .before .before .before .before .before .before .before .before .before .before .before .before .before .before .before .before .before .before .before .before .args .limit) (c .before .before .before .before .before .before .before .before .before .before .before .before .before .before .before .before .before .before .before .before .before .before .before .before .before .before .before .before .args .depth) (c .before .before .before .before .before .before .before .before .before .before .before .before .before .before .before .before .before .before .before .before .before .before .before .before .before .before .before .before .args .text .now) (c .before .before .before .before .before .before .before .before .before .before .before .before .before .before .before .before .before .before .before .before .before .before .before .before .before .before .before .before .args .at) (c .before .before .before .before .before .before .before .before .before .before .before .before .before .before .before .before .before .before .before .before .before .before .before .before .before .before .before .before .args .openings) (c .before .before .before .before .before .before .before .before .before .before .before .before .before .before .before .before .before .before .before .before .before .before .before .if1 .left) (c .before .before .before .before .before .before .before .before .before .before .before .before .before .before .before .before .before .before .name-end .result) (c .before .before .before .before .before .before .before .before .before .before .before .before .before .before .before .before .before .before .before .before .before .if2 .left) (c .before .before .before .before .before .before .before .before .before .before .before .before .before .before .before .before .before .before .name-end .ensures) inside (c .before .before .before .before .before .before .before .before .before .before .before .before .before .before .before .if5 .left) (c .before .before .before .before .before .before .before .before .before .before .before .before .before .bound-to .result) (c .before .before .before .before .before .before .before .before .before .before .before .before .before .bound-to .ensures .0) a z (c .before .before .before .before .before .before .before .before .before .before .before .start .given .1) (c .before .before .before .before .before .before .before .before .before .if6 .left) (c .before .before .before .normalize-attr-steps .ensures .0) (c .walked-step .ensures),
+      counted-walked (length (c .before .before .before .before .before .before .before .before .before .before .before .before .before .before .before .before .before .before .before .before .before .before .before .before .before .before .before .before .args .text .now)) (c .before .before .before .before .before .before .before .before .before .before .before .before .before .before .before .before .before .before .before .before .before .before .before .before .before .before .before .before .args .at) (c .before .before .before .before .before .before .before .before .before .before .before .before .before .before .before .before .before .before .before .before .before .before .before .before .before .before .before .before .args .openings) (c .before .before .before .before .before .before .before .before .before .before .before .before .before .before .before .before .before .before .before .before .before .before .before .before .before .before .before .before .args .limit) (c .before .before .before .before .before .before .before .before .before .before .before .before .before .before .before .before .before .before .name-end .result) a z (c .before .before .before .normalize-attr-steps .result) (omega (arith, c .before .before .before .before .before .before .before .before .before .before .before .before .before .before .before .before .before .before .name-end .ensures .from)) inside (lies .0) (lies .2) (subst (λ (k : ℕ). Counted k (c .before .before .before .before .before .before .before .before .before .before .before .before .before .before .before .before .before .before .before .before .before .before .before .before .before .before .before .before .args .openings + 1) (c .before .before .before .before .before .before .before .before .before .before .before .before .before .before .before .before .before .before .before .before .before .before .before .before .before .before .before .before .args .limit) (c .before .before .before .normalize-attr-steps .result)) size (c .before .before .before .normalize-attr-steps .ensures .1)) (c .walked-step .ensures),
     )
 
 normalize-attr-step-same-length-6 : (t : ℕ) → normalize-attr-step-lts.Need-same-length-6 (
@@ -1897,8 +1810,8 @@ normalize-attr-step-same-length-6 : (t : ℕ) → normalize-attr-step-lts.Need-s
   blank-at-reads.Learnt,
   byte-step-reads.Asked,
   byte-step-reads.Learnt,
-  quick-number-reads.Asked,
-  quick-number-reads.Learnt,
+  quick-reference-reads.Asked,
+  quick-reference-reads.Learnt,
   char-step-reads.Asked,
   char-step-reads.Learnt,
   name-end-reads.Asked,
@@ -1909,8 +1822,8 @@ normalize-attr-step-same-length-6 : (t : ℕ) → normalize-attr-step-lts.Need-s
   bound-to-reads.Learnt,
   is-plain-reads.Asked,
   is-plain-reads.Learnt,
-  put-over-reads.Asked,
-  put-over-reads.Learnt,
+  run-step-reads.Asked,
+  run-step-reads.Learnt,
   normalize-attr-steps-below t,
   normalize-attr-steps.Post,
   walked-step-reads.Asked,
@@ -1925,8 +1838,8 @@ normalize-attr-step-returns-9 : (t : ℕ) → normalize-attr-step-lts.Need-retur
   blank-at-reads.Learnt,
   byte-step-reads.Asked,
   byte-step-reads.Learnt,
-  quick-number-reads.Asked,
-  quick-number-reads.Learnt,
+  quick-reference-reads.Asked,
+  quick-reference-reads.Learnt,
   char-step-reads.Asked,
   char-step-reads.Learnt,
   name-end-reads.Asked,
@@ -1937,16 +1850,16 @@ normalize-attr-step-returns-9 : (t : ℕ) → normalize-attr-step-lts.Need-retur
   bound-to-reads.Learnt,
   is-plain-reads.Asked,
   is-plain-reads.Learnt,
-  put-over-reads.Asked,
-  put-over-reads.Learnt,
+  run-step-reads.Asked,
+  run-step-reads.Learnt,
   normalize-attr-steps-below t,
   normalize-attr-steps.Post,
   walked-step-reads.Asked,
   walked-step-reads.Learnt,
 ) (normalize-attr-step-at t) normalize-attr-step.Post
 normalize-attr-step-returns-9 t c =
-    let inside : c .before .before .before .before .before .before .before .before .before .before .before .before .name-end .result < length (c .before .before .before .before .before .before .before .before .before .before .before .before .before .before .before .before .before .before .before .before .before .args .text .now) = (omega (arith, c .before .before .before .before .before .before .before .before .before .before .before .before .name-end .ensures .to, c .before .before .before .before .before .before .before .before .before .before .before .if6 .left)) in
-    (step-predefined (c .before .before .before .before .before .before .before .before .before .before .before .before .before .before .before .before .before .before .before .before .before .args .newer) (c .before .before .before .before .before .before .before .before .before .before .before .before .before .before .before .before .before .before .before .before .before .args .list .now) (c .before .before .before .before .before .before .before .before .before .before .before .before .before .before .before .before .before .before .before .before .before .args .pool .now) (c .before .before .before .before .before .before .before .before .before .before .before .before .before .before .before .before .before .before .before .before .before .args .limit) (c .before .before .before .before .before .before .before .before .before .before .before .before .before .before .before .before .before .before .before .before .before .args .depth) (c .before .before .before .before .before .before .before .before .before .before .before .before .before .before .before .before .before .before .before .before .before .args .text .now) (c .before .before .before .before .before .before .before .before .before .before .before .before .before .before .before .before .before .before .before .before .before .args .at) (c .before .before .before .before .before .before .before .before .before .before .before .before .before .before .before .before .before .before .before .before .before .args .openings) (c .before .before .before .before .before .before .before .before .before .before .before .before .before .before .before .before .if1 .left) (c .before .before .before .before .before .before .before .before .before .before .before .before .name-end .result) (c .before .before .before .before .before .before .before .before .before .before .before .before .before .before .if2 .left) (c .before .before .before .before .before .before .before .before .before .before .before .before .name-end .ensures) inside (c .before .before .before .before .before .before .before .before .before .if7 .left) (c .before .before .before .before .before .before .before .bound-to .result) (c .before .before .before .before .before .before .before .bound-to .ensures .0) (c .before .before .before .before .before .b .given .0 .0) (c .before .before .before .before .before .b .given .1) (c .before .before .byte-step2 .ensures), rw (c .before .before .byte-step2 .ensures .answers) (omega (arith, c .before .before .before .before .before .before .before .before .before .before .before .before .name-end .ensures .from), omega (arith, inside), omega arith, c .before .before .before .before .before .before .before .before .before .before .before .before .before .before .before .before .before .before .before .before .before .pre .1 .1 .1 .1 .0, omega (arith, c .before .before .before .before .before .before .before .before .before .before .before .before .name-end .ensures .from)))
+    let inside : c .before .before .before .before .before .before .before .before .before .before .before .before .name-end .result < length (c .before .before .before .before .before .before .before .before .before .before .before .before .before .before .before .before .before .before .before .before .before .before .args .text .now) = (omega (arith, c .before .before .before .before .before .before .before .before .before .before .before .before .name-end .ensures .to, c .before .before .before .before .before .before .before .before .before .before .before .if4 .left)) in
+    (step-predefined (c .before .before .before .before .before .before .before .before .before .before .before .before .before .before .before .before .before .before .before .before .before .before .args .newer) (c .before .before .before .before .before .before .before .before .before .before .before .before .before .before .before .before .before .before .before .before .before .before .args .list .now) (c .before .before .before .before .before .before .before .before .before .before .before .before .before .before .before .before .before .before .before .before .before .before .args .pool .now) (c .before .before .before .before .before .before .before .before .before .before .before .before .before .before .before .before .before .before .before .before .before .before .args .limit) (c .before .before .before .before .before .before .before .before .before .before .before .before .before .before .before .before .before .before .before .before .before .before .args .depth) (c .before .before .before .before .before .before .before .before .before .before .before .before .before .before .before .before .before .before .before .before .before .before .args .text .now) (c .before .before .before .before .before .before .before .before .before .before .before .before .before .before .before .before .before .before .before .before .before .before .args .at) (c .before .before .before .before .before .before .before .before .before .before .before .before .before .before .before .before .before .before .before .before .before .before .args .openings) (c .before .before .before .before .before .before .before .before .before .before .before .before .before .before .before .before .before .if1 .left) (c .before .before .before .before .before .before .before .before .before .before .before .before .name-end .result) (c .before .before .before .before .before .before .before .before .before .before .before .before .before .before .before .if2 .left) (c .before .before .before .before .before .before .before .before .before .before .before .before .name-end .ensures) inside (c .before .before .before .before .before .before .before .before .before .if5 .left) (c .before .before .before .before .before .before .before .bound-to .result) (c .before .before .before .before .before .before .before .bound-to .ensures .0) (c .before .before .before .before .before .b .given .0 .0) (c .before .before .before .before .before .b .given .1) (c .before .before .byte-step2 .ensures), rw (c .before .before .byte-step2 .ensures .answers) (omega (arith, c .before .before .before .before .before .before .before .before .before .before .before .before .name-end .ensures .from), omega (arith, inside), omega arith, c .before .before .before .before .before .before .before .before .before .before .before .before .before .before .before .before .before .before .before .before .before .before .pre .1 .1 .1 .1 .0, omega (arith, c .before .before .before .before .before .before .before .before .before .before .before .before .name-end .ensures .from)))
 
 normalize-attr-step-returns-10 : (t : ℕ) → normalize-attr-step-lts.Need-returns-10 (
   stopped-reads.Asked,
@@ -1955,8 +1868,8 @@ normalize-attr-step-returns-10 : (t : ℕ) → normalize-attr-step-lts.Need-retu
   blank-at-reads.Learnt,
   byte-step-reads.Asked,
   byte-step-reads.Learnt,
-  quick-number-reads.Asked,
-  quick-number-reads.Learnt,
+  quick-reference-reads.Asked,
+  quick-reference-reads.Learnt,
   char-step-reads.Asked,
   char-step-reads.Learnt,
   name-end-reads.Asked,
@@ -1967,14 +1880,14 @@ normalize-attr-step-returns-10 : (t : ℕ) → normalize-attr-step-lts.Need-retu
   bound-to-reads.Learnt,
   is-plain-reads.Asked,
   is-plain-reads.Learnt,
-  put-over-reads.Asked,
-  put-over-reads.Learnt,
+  run-step-reads.Asked,
+  run-step-reads.Learnt,
   normalize-attr-steps-below t,
   normalize-attr-steps.Post,
   walked-step-reads.Asked,
   walked-step-reads.Learnt,
 ) (normalize-attr-step-at t) normalize-attr-step.Post
-normalize-attr-step-returns-10 t c = (step-unknown (c .before .before .before .before .before .before .before .before .before .before .before .before .before .before .before .before .before .args .newer) (c .before .before .before .before .before .before .before .before .before .before .before .before .before .before .before .before .before .args .list .now) (c .before .before .before .before .before .before .before .before .before .before .before .before .before .before .before .before .before .args .pool .now) (c .before .before .before .before .before .before .before .before .before .before .before .before .before .before .before .before .before .args .limit) (c .before .before .before .before .before .before .before .before .before .before .before .before .before .before .before .before .before .args .depth) (c .before .before .before .before .before .before .before .before .before .before .before .before .before .before .before .before .before .args .text .now) (c .before .before .before .before .before .before .before .before .before .before .before .before .before .before .before .before .before .args .at) (c .before .before .before .before .before .before .before .before .before .before .before .before .before .before .before .before .before .args .openings) (c .before .before .before .before .before .before .before .before .before .before .before .before .if1 .left) (c .before .before .before .before .before .before .before .before .name-end .result) (c .before .before .before .before .before .before .before .before .before .before .if2 .left) (c .before .before .before .before .before .before .before .before .name-end .ensures) (omega (arith, c .before .before .before .before .before .before .before .before .name-end .ensures .to, c .before .before .before .before .before .before .before .if6 .left)) (c .before .before .before .before .before .if7 .left) (c .before .before .before .bound-to .result) (c .before .before .before .bound-to .ensures .0) (c .before .enum-told .given .1) (c .stopped4 .ensures), rw (c .stopped4 .ensures) tt)
+normalize-attr-step-returns-10 t c = (step-unknown (c .before .before .before .before .before .before .before .before .before .before .before .before .before .before .before .before .before .before .args .newer) (c .before .before .before .before .before .before .before .before .before .before .before .before .before .before .before .before .before .before .args .list .now) (c .before .before .before .before .before .before .before .before .before .before .before .before .before .before .before .before .before .before .args .pool .now) (c .before .before .before .before .before .before .before .before .before .before .before .before .before .before .before .before .before .before .args .limit) (c .before .before .before .before .before .before .before .before .before .before .before .before .before .before .before .before .before .before .args .depth) (c .before .before .before .before .before .before .before .before .before .before .before .before .before .before .before .before .before .before .args .text .now) (c .before .before .before .before .before .before .before .before .before .before .before .before .before .before .before .before .before .before .args .at) (c .before .before .before .before .before .before .before .before .before .before .before .before .before .before .before .before .before .before .args .openings) (c .before .before .before .before .before .before .before .before .before .before .before .before .before .if1 .left) (c .before .before .before .before .before .before .before .before .name-end .result) (c .before .before .before .before .before .before .before .before .before .before .before .if2 .left) (c .before .before .before .before .before .before .before .before .name-end .ensures) (omega (arith, c .before .before .before .before .before .before .before .before .name-end .ensures .to, c .before .before .before .before .before .before .before .if4 .left)) (c .before .before .before .before .before .if5 .left) (c .before .before .before .bound-to .result) (c .before .before .before .bound-to .ensures .0) (c .before .enum-told .given .1) (c .stopped4 .ensures), rw (c .stopped4 .ensures) tt)
 
 abbrev normalize-attr-steps-Inv-loop : normalize-attr-steps-lts.InvT-loop
 normalize-attr-steps-Inv-loop text newer depth openings limit list pool out₀ at₀ len₀ made₀ out at len made = Progress (attributeHead (ruleFor newer)) (stopAnswer (readingOf (ruleFor newer) list pool limit) depth) text openings out₀ out at len made × (openings ≤ made) × (made ≤ limit) × (len + 262140 * openings ≤ 4 * at + 262140 * made)
@@ -2432,8 +2345,8 @@ pub +normalize-attr-step+normalize-attr-steps-spec : {M : Type 1} → statement 
       blank-at-reads.Learnt,
       byte-step-reads.Asked,
       byte-step-reads.Learnt,
-      quick-number-reads.Asked,
-      quick-number-reads.Learnt,
+      quick-reference-reads.Asked,
+      quick-reference-reads.Learnt,
       char-step-reads.Asked,
       char-step-reads.Learnt,
       name-end-reads.Asked,
@@ -2444,8 +2357,8 @@ pub +normalize-attr-step+normalize-attr-steps-spec : {M : Type 1} → statement 
       bound-to-reads.Learnt,
       is-plain-reads.Asked,
       is-plain-reads.Learnt,
-      put-over-reads.Asked,
-      put-over-reads.Learnt,
+      run-step-reads.Asked,
+      run-step-reads.Learnt,
       normalize-attr-steps-below t,
       normalize-attr-steps.Post,
       walked-step-reads.Asked,
@@ -2462,9 +2375,7 @@ pub +normalize-attr-step+normalize-attr-steps-spec : {M : Type 1} → statement 
     (normalize-attr-step-same-length t)
     (normalize-attr-step-returns-2 t)
     (normalize-attr-step-add-from t)
-    (normalize-attr-step-shared-slice-read-if4 t)
-    (normalize-attr-step-add-quick-number t)
-    (normalize-attr-step-quick-number-requires t)
+    (normalize-attr-step-quick-reference-requires t)
     (normalize-attr-step-add-char-step t)
     (normalize-attr-step-char-step-requires t)
     (normalize-attr-step-same-length-2 t)
@@ -2472,7 +2383,7 @@ pub +normalize-attr-step+normalize-attr-steps-spec : {M : Type 1} → statement 
     (normalize-attr-step-name-end-requires t)
     (normalize-attr-step-stopped-requires-2 t)
     (normalize-attr-step-returns-4 t)
-    (normalize-attr-step-shared-slice-read-if7 t)
+    (normalize-attr-step-shared-slice-read-if5 t)
     (normalize-attr-step-add-number-step t)
     (normalize-attr-step-sub-number-step t)
     (normalize-attr-step-part-number-step-start t)
@@ -2492,13 +2403,12 @@ pub +normalize-attr-step+normalize-attr-steps-spec : {M : Type 1} → statement 
     (normalize-attr-step-part-is-plain-start t)
     (normalize-attr-step-part-is-plain-end t)
     (normalize-attr-step-is-plain-requires t)
-    (normalize-attr-step-sub-put-over t)
-    (normalize-attr-step-part-put-over-start t)
-    (normalize-attr-step-part-put-over-end t)
-    (normalize-attr-step-put-over-requires t)
-    (normalize-attr-step-add-t56 t)
-    (normalize-attr-step-sub-t61 t)
-    (normalize-attr-step-add-t62 t)
+    (normalize-attr-step-sub-run-step t)
+    (normalize-attr-step-part-run-step-start t)
+    (normalize-attr-step-part-run-step-end t)
+    (normalize-attr-step-add-run-step t)
+    (normalize-attr-step-add-run-step-2 t)
+    (normalize-attr-step-run-step-requires t)
     (normalize-attr-step-same-length-4 t)
     (normalize-attr-step-returns-7 t)
     (normalize-attr-step-sub-normalize-attr-steps t)

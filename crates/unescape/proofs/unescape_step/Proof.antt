@@ -10,46 +10,40 @@ use Rattle.unescape.proofs.unescape_step.Tie as tie
 add-start : tie.Need-add-start
 add-start c = search needs
 
-shared-slice-read-if2 : tie.Need-shared-slice-read-if2
-shared-slice-read-if2 c = search needs
-
-add-quick-number : tie.Need-add-quick-number
-add-quick-number c = search needs
-
-quick-number-requires : tie.Need-quick-number-requires
-quick-number-requires c κs = search needs
+quick-reference-requires : tie.Need-quick-reference-requires
+quick-reference-requires c κs = search needs
 
 add-char-step : tie.Need-add-char-step
-add-char-step c = omega (arith, c .before .before .quick-number .ensures (c .before .if3 .taken) .closed .inside)
+add-char-step c = omega (arith, c .before .before .quick-reference .ensures (c .before .if1 .taken) .2 .closed .inside)
 
 char-step-requires : tie.Need-char-step-requires
-char-step-requires c κs = omega (arith, c .before .before .before .quick-number .ensures (c .before .before .if3 .taken) .low)
+char-step-requires c κs = omega (arith, c .before .before .before .quick-reference .ensures (c .before .before .if1 .taken) .2 .low)
 
 same-length : tie.Need-same-length
 same-length c = search needs
 
 returns : tie.Need-returns
 returns c =
-    referred-char (binding (c .before .before .before .before .before .before .before .before .before .before .before .before .before .before .args .list .now) (c .before .before .before .before .before .before .before .before .before .before .before .before .before .before .args .pool .now)) (c .before .before .before .before .before .before .before .before .before .before .before .before .before .before .args .text .now) (c .before .before .before .before .before .before .before .before .before .before .before .before .before .before .args .i) (c .before .before .before .before .before .before .quick-number .result) (c .before .before .before .before .before .before .before .before .before .before .before .before .before .before .pre .1 .0 .1) (c .before .before .before .before .before .before .before .if2 .taken) (c .before .before .before .before .before .before .quick-number .ensures (c .before .before .before .before .before .if3 .taken)) (c .before .before .char-step .ensures)
+    let found = c .before .before .before .before .before .before .quick-reference .ensures (c .before .before .before .before .before .if1 .taken) in
+    referred-char (binding (c .before .before .before .before .before .before .before .before .before .before .before .args .list .now) (c .before .before .before .before .before .before .before .before .before .before .before .args .pool .now)) (c .before .before .before .before .before .before .before .before .before .before .before .args .text .now) (c .before .before .before .before .before .before .before .before .before .before .before .args .i) (c .before .before .before .before .before .before .quick-reference .result) (c .before .before .before .before .before .before .before .before .before .before .before .pre .1 .0 .1) (found .1) (found .2) (c .before .before .char-step .ensures)
 
 name-end-requires : tie.Need-name-end-requires
 name-end-requires c κs = search needs
 
 returns-2 : tie.Need-returns-2
-returns-2 c =
-    referred-none (binding (c .before .before .before .before .before .before .before .args .list .now) (c .before .before .before .before .before .before .before .args .pool .now)) (c .before .before .before .before .before .before .before .args .text .now) (c .before .before .before .before .before .before .before .args .i) (c .before .name-end .result) (c .before .before .before .before .before .before .before .pre .1 .0 .1) (c .before .name-end .ensures) (c .if4 .taken)
+returns-2 c = referred-none (binding (c .before .before .before .before .before .before .before .before .args .list .now) (c .before .before .before .before .before .before .before .before .args .pool .now)) (c .before .before .before .before .before .before .before .before .args .text .now) (c .before .before .before .before .before .before .before .before .args .i) (c .before .name-end .result) (c .before .before .before .before .before .before .before .before .pre .1 .0 .1) (c .before .name-end .ensures) (c .if2 .taken)
 
-shared-slice-read-if5 : tie.Need-shared-slice-read-if5
-shared-slice-read-if5 c = search needs
+shared-slice-read-if3 : tie.Need-shared-slice-read-if3
+shared-slice-read-if3 c = search needs
 
 add-number-step : tie.Need-add-number-step
 add-number-step c = search needs
 
 sub-number-step : tie.Need-sub-number-step
-sub-number-step c = digits-from true (c .before .before .before .before .before .before .before .before .before .args .text .now) (c .before .before .before .before .before .before .before .before .before .args .i) (c .before .before .before .name-end .result) (c .before .before .before .name-end .ensures) (omega (arith, c .before .before .before .name-end .ensures .to, c .before .before .if4 .left)) (c .if5 .taken)
+sub-number-step c = digits-from true (c .before .before .before .before .before .before .before .before .before .before .args .text .now) (c .before .before .before .before .before .before .before .before .before .before .args .i) (c .before .before .before .name-end .result) (c .before .before .before .name-end .ensures) (omega (arith, c .before .before .before .name-end .ensures .to, c .before .before .if2 .left)) (c .if3 .taken)
 
 part-number-step-start : tie.Need-part-number-step-start
-part-number-step-start c = digits-from true (c .before .before .before .before .before .before .before .before .before .args .text .now) (c .before .before .before .before .before .before .before .before .before .args .i) (c .before .before .before .name-end .result) (c .before .before .before .name-end .ensures) (omega (arith, c .before .before .before .name-end .ensures .to, c .before .before .if4 .left)) (c .if5 .taken)
+part-number-step-start c = digits-from true (c .before .before .before .before .before .before .before .before .before .before .args .text .now) (c .before .before .before .before .before .before .before .before .before .before .args .i) (c .before .before .before .name-end .result) (c .before .before .before .name-end .ensures) (omega (arith, c .before .before .before .name-end .ensures .to, c .before .before .if2 .left)) (c .if3 .taken)
 
 part-number-step-end : tie.Need-part-number-step-end
 part-number-step-end c = search needs
@@ -64,9 +58,7 @@ same-length-2 : tie.Need-same-length-2
 same-length-2 c = search needs
 
 returns-3 : tie.Need-returns-3
-returns-3 c =
-    referred-number (binding (c .before .before .before .before .before .before .before .before .before .before .before .before .before .before .args .list .now) (c .before .before .before .before .before .before .before .before .before .before .before .before .before .before .args .pool .now)) (c .before .before .before .before .before .before .before .before .before .before .before .before .before .before .args .text .now) (c .before .before .before .before .before .before .before .before .before .before .before .before .before .before .args .i) (c .before .before .before .before .before .before .before .before .name-end .result) (c .before .before .before .before .before .before .before .before .before .before .before .before .before .before .pre .1 .0 .1) (c .before .before .before .before .before .before .before .before .name-end .ensures)
-    (omega (arith, c .before .before .before .before .before .before .before .before .name-end .ensures .to, c .before .before .before .before .before .before .before .if4 .left)) (c .before .before .before .before .before .if5 .taken) (c .before .before .number-step .ensures)
+returns-3 c = referred-number (binding (c .before .before .before .before .before .before .before .before .before .before .before .before .before .before .before .args .list .now) (c .before .before .before .before .before .before .before .before .before .before .before .before .before .before .before .args .pool .now)) (c .before .before .before .before .before .before .before .before .before .before .before .before .before .before .before .args .text .now) (c .before .before .before .before .before .before .before .before .before .before .before .before .before .before .before .args .i) (c .before .before .before .before .before .before .before .before .name-end .result) (c .before .before .before .before .before .before .before .before .before .before .before .before .before .before .before .pre .1 .0 .1) (c .before .before .before .before .before .before .before .before .name-end .ensures) (omega (arith, c .before .before .before .before .before .before .before .before .name-end .ensures .to, c .before .before .before .before .before .before .before .if2 .left)) (c .before .before .before .before .before .if3 .taken) (c .before .before .number-step .ensures)
 
 sub-name-step : tie.Need-sub-name-step
 sub-name-step c = search needs
@@ -87,25 +79,21 @@ same-length-3 : tie.Need-same-length-3
 same-length-3 c = search needs
 
 returns-4 : tie.Need-returns-4
-returns-4 c =
-    referred-name (binding (c .before .before .before .before .before .before .before .before .before .before .before .before .before .before .args .list .now) (c .before .before .before .before .before .before .before .before .before .before .before .before .before .before .args .pool .now)) (c .before .before .before .before .before .before .before .before .before .before .before .before .before .before .args .text .now) (c .before .before .before .before .before .before .before .before .before .before .before .before .before .before .args .i) (c .before .before .before .before .before .before .before .before .name-end .result) (c .before .before .before .before .before .before .before .before .before .before .before .before .before .before .pre .1 .0 .1) (c .before .before .before .before .before .before .before .before .name-end .ensures)
-    (omega (arith, c .before .before .before .before .before .before .before .before .name-end .ensures .to, c .before .before .before .before .before .before .before .if4 .left)) (c .before .before .before .before .before .if5 .left) (c .before .before .name-step .ensures)
+returns-4 c = referred-name (binding (c .before .before .before .before .before .before .before .before .before .before .before .before .before .before .before .args .list .now) (c .before .before .before .before .before .before .before .before .before .before .before .before .before .before .before .args .pool .now)) (c .before .before .before .before .before .before .before .before .before .before .before .before .before .before .before .args .text .now) (c .before .before .before .before .before .before .before .before .before .before .before .before .before .before .before .args .i) (c .before .before .before .before .before .before .before .before .name-end .result) (c .before .before .before .before .before .before .before .before .before .before .before .before .before .before .before .pre .1 .0 .1) (c .before .before .before .before .before .before .before .before .name-end .ensures) (omega (arith, c .before .before .before .before .before .before .before .before .name-end .ensures .to, c .before .before .before .before .before .before .before .if2 .left)) (c .before .before .before .before .before .if3 .left) (c .before .before .name-step .ensures)
 
 pub unescape-step-spec : {M : Type 1} → statement M
 unescape-step-spec =
     tie.close
     (tie.spec
     add-start
-    shared-slice-read-if2
-    add-quick-number
-    quick-number-requires
+    quick-reference-requires
     add-char-step
     char-step-requires
     same-length
     returns
     name-end-requires
     returns-2
-    shared-slice-read-if5
+    shared-slice-read-if3
     add-number-step
     sub-number-step
     part-number-step-start
