@@ -6,6 +6,8 @@ use mathlib.Core.List.{List}
 use lib.ListN.{length, getD, take, drop}
 use lib.Dec.{eqb}
 use Rattle.entity.specs.Binding.{Bound}
+use Rattle.entity.specs.declared.Binding.{Binding}
+use Rattle.entity.specs.declared.Binding.the-variants.{Text, Predefined, Unknown}
 use Rattle.output.specs.Over.{over}
 use Rattle.output.specs.Runs.{Plain}
 use Rattle.tokens.specs.Tokens.{tokenOf}
@@ -38,6 +40,12 @@ Short (refused before openings number first second) = Unit {0}
 abbrev pub Near : List ℕ → ℕ → Step → Type 0
 Near text i (Next at len openings) = (i < at) × (at ≤ length text) × (len ≤ 65535) × (openings ≡ 0)
 Near text i (Stopped number first second) = Unit {0}
+
+-- a text of the table has a length
+abbrev pub Ordered : Binding → Type 0
+Ordered (Text start end) = start ≤ end
+Ordered (Predefined b) = Unit {0}
+Ordered Unknown = Unit {0}
 
 -- the step at a name that is so bound, whose `&` is at `i`
 pub record Named (bound : Bound) (name : List ℕ) (i next : ℕ) (old new : List ℕ) (r : Step) : Type 0 where

@@ -1,17 +1,17 @@
 // Unescaping: references become the characters and the texts that they stand for.
 ghost use mathlib.Core.Path.{_≡_};
 ghost use mathlib.Core.Bool.{false};
-ghost use mathlib.Core.List.{[], _∷_};
-ghost use Prim.Native.Nat.{_+_, _≤_, _<_};
+ghost use mathlib.Core.List.{List, [], _∷_};
+ghost use Prim.Native.Nat.{ℕ, _+_, _≤_, _<_};
 ghost use lib.ListN.{length, getD};
 ghost use Rattle.text.specs.Call.{callOf};
 ghost use Rattle.entity.specs.Table.{ValidTable};
-ghost use Rattle.entity.specs.Binding.{binding};
+ghost use Rattle.entity.specs.Binding.{binding, boundTo, Lies};
 ghost use Rattle.tokens.specs.Outcome.{finished};
 ghost use Rattle.output.specs.Runs.{Plain};
 ghost use Rattle.tokens.specs.Walking.{RunEnd, Walked};
 ghost use Rattle.unescape.specs.Unescape.{unescape};
-ghost use Rattle.unescape.specs.Steps.{isAmp, Within, Put, Named, Referred};
+ghost use Rattle.unescape.specs.Steps.{isAmp, Within, Put, Ordered, Named, Referred};
 use entity::Binding;
 use text::Answer;
 use tokens::Step;
@@ -153,13 +153,20 @@ fn put_to_amp(text: &[u8], from: usize, out: &mut [u8]) -> usize
     put_far(text, near, &mut out[8..])
 }
 
-// The name whose `&` is at i is looked up; a text of the table is copied as a part of the pool.
-fn name_step(name: &[u8], i: usize, next: usize, list: &[u8], pool: &[u8], out: &mut [u8]) -> Step
-    requires { ⌜ i + 1 + length (now name) ≤ 16777216 ⌝ }
-    requires { ⌜ ValidTable (now list) (now pool) ⌝ }
-    ensures { λ r. ⌜ Named (binding (now (list .entry)) (now (pool .entry)) (now (name .entry))) (now (name .entry)) i next (now (out .entry)) (now (out .exit)) r ⌝ }
+// What a bound name of `size` bytes stands for, its `&` at i: a text of the table is copied as a part of the pool.
+fn bound_step(
+    bound: Binding,
+    size: usize,
+    i: usize,
+    next: usize,
+    pool: &[u8],
+    out: &mut [u8],
+) -> Step
+    requires { ⌜ i + 1 + size ≤ 16777216 ⌝ }
+    requires { ⌜ Lies (now pool) bound ⌝ }
+    ensures { λ r. ⌜ ((name : List ℕ) → length name ≡ size → Named (boundTo (now (pool .entry)) bound) name i next (now (out .entry)) (now (out .exit)) r) ⌝ }
 {
-    match entity::resolve_entity(list, pool, name) {
+    match bound {
         Binding::Text { start, end } => {
             output::put_over(&pool[start..end], out);
             Step::Next {
@@ -179,9 +186,35 @@ fn name_step(name: &[u8], i: usize, next: usize, list: &[u8], pool: &[u8], out: 
         Binding::Unknown => Step::Stopped {
             number: 11,
             first: (i + 1) as u64,
-            second: (i + 1 + name.len()) as u64,
+            second: (i + 1 + size) as u64,
         },
     }
+}
+
+// The name whose `&` is at i is looked up. Most names are short, and their lookup is compiled into the walk.
+fn name_step(name: &[u8], i: usize, next: usize, list: &[u8], pool: &[u8], out: &mut [u8]) -> Step
+    requires { ⌜ i + 1 + length (now name) ≤ 16777216 ⌝ }
+    requires { ⌜ ValidTable (now list) (now pool) ⌝ }
+    ensures { λ r. ⌜ Named (binding (now (list .entry)) (now (pool .entry)) (now (name .entry))) (now (name .entry)) i next (now (out .entry)) (now (out .exit)) r ⌝ }
+{
+    if name.len() < 8 {
+        return bound_step(
+            entity::resolve_short(list, pool, name),
+            name.len(),
+            i,
+            next,
+            pool,
+            out,
+        );
+    }
+    bound_step(
+        entity::resolve_entity(list, pool, name),
+        name.len(),
+        i,
+        next,
+        pool,
+        out,
+    )
 }
 
 // The reference whose `&` is at i. `out` is the rest of the output.
@@ -255,13 +288,13 @@ fn unescape_runs(text: &[u8], list: &[u8], pool: &[u8], out: &mut [u8]) -> Answe
     }
 }
 
-// As `name_step`, without an output.
-fn name_length(name: &[u8], i: usize, next: usize, list: &[u8], pool: &[u8]) -> Step
-    requires { ⌜ i + 1 + length (now name) ≤ 16777216 ⌝ }
-    requires { ⌜ ValidTable (now list) (now pool) ⌝ }
-    ensures { λ r. ⌜ Named (binding (now (list .entry)) (now (pool .entry)) (now (name .entry))) (now (name .entry)) i next [] [] r ⌝ }
+// As `bound_step`, without an output.
+fn bound_length(bound: Binding, size: usize, i: usize, next: usize) -> Step
+    requires { ⌜ i + 1 + size ≤ 16777216 ⌝ }
+    requires { ⌜ Ordered bound ⌝ }
+    ensures { λ r. ⌜ ((pool name : List ℕ) → Lies pool bound → length name ≡ size → Named (boundTo pool bound) name i next [] [] r) ⌝ }
 {
-    match entity::resolve_entity(list, pool, name) {
+    match bound {
         Binding::Text { start, end } => Step::Next {
             at: next,
             len: end - start,
@@ -277,10 +310,27 @@ fn name_length(name: &[u8], i: usize, next: usize, list: &[u8], pool: &[u8]) -> 
             Step::Stopped {
                 number: 11,
                 first: first as u64,
-                second: (first + name.len()) as u64,
+                second: (first + size) as u64,
             }
         }
     }
+}
+
+// As `name_step`, without an output.
+fn name_length(name: &[u8], i: usize, next: usize, list: &[u8], pool: &[u8]) -> Step
+    requires { ⌜ i + 1 + length (now name) ≤ 16777216 ⌝ }
+    requires { ⌜ ValidTable (now list) (now pool) ⌝ }
+    ensures { λ r. ⌜ Named (binding (now (list .entry)) (now (pool .entry)) (now (name .entry))) (now (name .entry)) i next [] [] r ⌝ }
+{
+    if name.len() < 8 {
+        return bound_length(entity::resolve_short(list, pool, name), name.len(), i, next);
+    }
+    bound_length(
+        entity::resolve_entity(list, pool, name),
+        name.len(),
+        i,
+        next,
+    )
 }
 
 // As `unescape_step`, without an output.

@@ -1,89 +1,55 @@
-use mathlib.Core.Path.{sym, ap, subst, _∙_}
-use Rattle.entity.specs.Binding.{Lies, boundTo}
-use Rattle.unescape.proofs.Stops.{named-text, named-predefined, named-unknown}
+use mathlib.Core.Path.{refl}
+use Rattle.unescape.proofs.Stops.{named-as}
 use borrow.Author.Needs.{needs}
 use Rattle.unescape.proofs.name_step.Statement.{statement}
 use Rattle.unescape.proofs.name_step.Tie as tie
+use Rattle.unescape.proofs.name_step.Reads as reads
+use Rattle.unescape.proofs.name_step.Lts as lts
+use Rattle.entity.proofs.resolve_entity.Reads as resolve-entity-reads
+use Rattle.entity.proofs.resolve_short.Reads as resolve-short-reads
+use Rattle.unescape.proofs.bound_step.Reads as bound-step-reads
 
-resolve-entity-requires : tie.Need-resolve-entity-requires
-resolve-entity-requires c κs = search needs
+-- src/lib.rt:202:13
+resolve-short-requires : tie.Need-resolve-short-requires
+resolve-short-requires c κs = search needs
 
-enum-known-start : tie.Need-enum-known-start
-enum-known-start c = search needs
+-- src/lib.rt:201:9
+bound-step-requires : tie.Need-bound-step-requires
+bound-step-requires c κs = search needs
 
-sub-put-over : tie.Need-sub-put-over
-sub-put-over c = subst (Lies (c .before .before .before .before .before .before .before .before .args .pool .now)) (c .before .start .given .1) (c .before .before .before .resolve-entity .ensures .1) .0
-
-part-put-over-start : tie.Need-part-put-over-start
-part-put-over-start c = subst (Lies (c .before .before .before .before .before .before .before .before .args .pool .now)) (c .before .start .given .1) (c .before .before .before .resolve-entity .ensures .1) .0
-
-part-put-over-end : tie.Need-part-put-over-end
-part-put-over-end c = subst (Lies (c .before .before .before .before .before .before .before .before .args .pool .now)) (c .before .start .given .1) (c .before .before .before .resolve-entity .ensures .1) .1
-
-put-over-requires : tie.Need-put-over-requires
-put-over-requires c κs = search needs
-
-sub-t14 : tie.Need-sub-t14
-sub-t14 c = subst (Lies (c .before .before .before .before .before .before .before .before .before .before .before .before .before .args .pool .now)) (c .before .before .before .before .before .before .start .given .1) (c .before .before .before .before .before .before .before .before .resolve-entity .ensures .1) .0
-
-enum-known-b : tie.Need-enum-known-b
-enum-known-b c = search needs
-
-put-byte-requires : tie.Need-put-byte-requires
-put-byte-requires c κs = search needs
-
-enum-told : tie.Need-enum-told
-enum-told c = search needs
-
-add-t22 : tie.Need-add-t22
-add-t22 c = search needs
-
-add-t24 : tie.Need-add-t24
-add-t24 c = search needs
-
-add-t26 : tie.Need-add-t26
-add-t26 c = search needs
-
+-- src/lib.rt:201:9
 same-length : tie.Need-same-length
 same-length c = search needs
 
+-- src/lib.rt:201:9
 returns : tie.Need-returns
-returns c =
-    named-text (c .before .before .before .before .before .before .before .before .before .before .before .before .before .args .pool .now) (c .before .before .before .before .before .before .before .before .before .before .before .before .before .args .name .now) (c .before .before .before .before .before .before .before .before .before .before .before .before .before .args .i) (c .before .before .before .before .before .before .before .before .before .before .before .before .before .args .next) (c .before .before .before .before .before .before .start .given .0 .0) (c .before .before .before .before .before .before .start .given .0 .1 .0)
-    (ap (boundTo (c .before .before .before .before .before .before .before .before .before .before .before .before .before .args .pool .now)) (sym (c .before .before .before .before .before .before .start .given .1)) ∙ c .before .before .before .before .before .before .before .before .resolve-entity .ensures .0) (subst (Lies (c .before .before .before .before .before .before .before .before .before .before .before .before .before .args .pool .now)) (c .before .before .before .before .before .before .start .given .1) (c .before .before .before .before .before .before .before .before .resolve-entity .ensures .1)) (c .before .before .put-over .ensures)
+returns c = named-as (c .before .before .before .before .before .before .before .before .before .before .args .pool .now) (c .before .before .before .before .before .before .before .before .before .before .args .name .now) (c .before .before .before .before .before .before .before .before .before .before .args .i) (c .before .before .before .before .before .before .before .before .before .before .args .next) (c .before .before .before .before .resolve-short .ensures .0) (c .before .before .bound-step .ensures (c .before .before .before .before .before .before .before .before .before .before .args .name .now) refl)
 
+-- src/lib.rt:211:9
+resolve-entity-requires : tie.Need-resolve-entity-requires
+resolve-entity-requires c κs = search needs
+
+-- src/lib.rt:210:5
+bound-step-requires-2 : tie.Need-bound-step-requires-2
+bound-step-requires-2 c κs = search needs
+
+-- src/lib.rt:195:1
 same-length-2 : tie.Need-same-length-2
 same-length-2 c = search needs
 
+-- src/lib.rt:195:1
 returns-2 : tie.Need-returns-2
-returns-2 c =
-    named-predefined (c .before .before .before .before .before .before .before .before .before .before .before .before .args .pool .now) (c .before .before .before .before .before .before .before .before .before .before .before .before .args .name .now) (c .before .before .before .before .before .before .before .before .before .before .before .before .args .i) (c .before .before .before .before .before .before .before .before .before .before .before .before .args .next) (c .before .before .before .before .before .b .given .0 .0)
-    (ap (boundTo (c .before .before .before .before .before .before .before .before .before .before .before .before .args .pool .now)) (sym (c .before .before .before .before .before .b .given .1)) ∙ c .before .before .before .before .before .before .before .resolve-entity .ensures .0) (c .before .before .put-byte .ensures)
-
-returns-3 : tie.Need-returns-3
-returns-3 c =
-    named-unknown (c .before .before .before .before .before .before .before .args .pool .now) (c .before .before .before .before .before .before .before .args .name .now) (c .before .before .before .before .before .before .before .args .i) (c .before .before .before .before .before .before .before .args .next)
-    (ap (boundTo (c .before .before .before .before .before .before .before .args .pool .now)) (sym (c .enum-told .given .1)) ∙ c .before .before .resolve-entity .ensures .0)
+returns-2 c = named-as (c .before .before .before .before .before .before .before .before .before .before .args .pool .now) (c .before .before .before .before .before .before .before .before .before .before .args .name .now) (c .before .before .before .before .before .before .before .before .before .before .args .i) (c .before .before .before .before .before .before .before .before .before .before .args .next) (c .before .before .before .before .resolve-entity .ensures .0) (c .before .before .bound-step2 .ensures (c .before .before .before .before .before .before .before .before .before .before .args .name .now) refl)
 
 pub name-step-spec : {M : Type 1} → statement M
 name-step-spec =
     tie.close
     (tie.spec
-    resolve-entity-requires
-    enum-known-start
-    sub-put-over
-    part-put-over-start
-    part-put-over-end
-    put-over-requires
-    sub-t14
-    enum-known-b
-    put-byte-requires
-    enum-told
-    add-t22
-    add-t24
-    add-t26
+    resolve-short-requires
+    bound-step-requires
     same-length
     returns
+    resolve-entity-requires
+    bound-step-requires-2
     same-length-2
-    returns-2
-    returns-3)
+    returns-2)
