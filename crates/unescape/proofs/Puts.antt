@@ -1,5 +1,5 @@
 -- A run that is copied while it is searched: what lies in the output so far. Assumes nothing.
-use mathlib.Core.Path.{_≡_, sym, ap, _∙_}
+use mathlib.Core.Path.{_≡_, refl, sym, ap, _∙_}
 use mathlib.Core.Bool.{Bool, true, false, _&&_, _||_}
 use mathlib.Core.List.{List, [], _∷_, _++_}
 use Prim.Native.Nat.{ℕ, suc, _+_, _-_, _≤_, _<_, min}
@@ -18,7 +18,7 @@ use Rattle.output.proofs.Laid.{rest-part}
 use Rattle.output.proofs.Runs.{plain-none, plain-join}
 use Rattle.tokens.specs.Walking.{RunEnd}
 use Rattle.unescape.specs.Steps.{Within, Put}
-use Rattle.unescape.proofs.Search.{plain-next, within-here, within-none, end-far}
+use Rattle.unescape.proofs.Search.{plain-next, within-here, within-none, end-after, end-far}
 
 piece-length : (text : List ℕ) (i e : ℕ) → e ≤ length text → length (take (e - i) (drop i text)) ≡ e - i
 piece-length text i e h = length-take-le (e - i) (drop i text) (rw length-drop (omega arith))
@@ -134,8 +134,8 @@ pub record Blocks (stops : ℕ → Bool) (text : List ℕ) (i : ℕ) (old out : 
   pub room : k ≤ length out
   pub holds : Put text i e old out
 
-pub both-fit : (a b : ℕ) → leb 16 a && leb 16 b ≡ true → (16 ≤ a) × (16 ≤ b)
-both-fit a b e = (leb-true 16 a (and-left (leb 16 a) (leb 16 b) e), leb-true 16 b (and-right (leb 16 a) (leb 16 b) e))
+pub both-fit : (n a b : ℕ) → leb n a && leb n b ≡ true → (n ≤ a) × (n ≤ b)
+both-fit n a b e = (leb-true n a (and-left (leb n a) (leb n b) e), leb-true n b (and-right (leb n a) (leb n b) e))
 
 pub block-fits : (text : List ℕ) (i : ℕ) (out : List ℕ) (k : ℕ) → 16 ≤ length text - i → 16 ≤ length out - k
     → (length (take (i + 16 - i) (drop i text)) ≡ 16) × (16 ≤ length (midOf k (length out - k) out))
@@ -158,3 +158,41 @@ module _ (stops : ℕ → Bool) (text : List ℕ) (i : ℕ) (old : List ℕ) whe
         room = omega (arith, b .room, put-length text i old (e + 16) put, put-length text i old e (b .holds));
         holds = put;
       }
+
+  module _ {out : List ℕ} {e k : ℕ} (b : Blocks stops text i old out e k) where
+    pub blocks-done : (Plain stops text i e × Put text i e old out) × (e - i ≤ length old)
+    blocks-done = ((b .run, b .holds), omega (arith, b .count, b .room, put-length text i old e (b .holds)))
+
+    module _ {f : ℕ} {part : List ℕ} where
+      -- a piece more, by a call that is lent the rest of the output
+      blocks-piece : Plain stops text e f → Put text e f (midOf k (length out - k) out) part → f - e ≤ length out - k
+          → Blocks stops text i old (putMid k (length out - k) out part) f (f - i)
+      blocks-piece p q room =
+          let put = put-more text i old e (b .holds) (b .run .from) {f = f} (p .from) (p .to) (omega (arith, b .count, b .room)) q in
+          record {
+            run = plain-join stops text i e f (b .run) p;
+            count = refl;
+            room = omega (arith, b .count, b .room, room, b .run .from, p .from, put-length text i old f put, put-length text i old e (b .holds));
+            holds = put;
+          }
+
+      pub blocks-near : {n : ℕ} → n ≤ length out - k → Within stops text e n f × Put text e f (midOf k (length out - k) out) part
+          → Blocks stops text i old (putMid k (length out - k) out part) f (f - i)
+      blocks-near room w = blocks-piece (w .0 .run) (w .1) (omega (arith, room, w .0 .to))
+
+      pub blocks-nears : (Plain stops text e f × Put text e f (midOf k (length out - k) out) part) × (f - e ≤ length (midOf k (length out - k) out))
+          → Blocks stops text i old (putMid k (length out - k) out part) f (f - i)
+      blocks-nears w = blocks-piece (w .0 .0) (w .0 .1) (rw (rest-part k out, length-drop k out) at (w .1))
+
+      -- and the rest of the run
+      pub blocks-rest : RunEnd stops text e f × Put text e f (midOf k (length out - k) out) part
+          → RunEnd stops text i f × Put text i f old (putMid k (length out - k) out part)
+      blocks-rest r = (
+        end-after stops text i (b .run) (r .0),
+        put-more text i old e (b .holds) (b .run .from) (r .0 .run .from) (r .0 .run .to) (omega (arith, b .count, b .room)) (r .1),
+      )
+
+  -- what a call over blocks leaves behind
+  pub blocks-of : {out : List ℕ} {e : ℕ} → (Plain stops text i e × Put text i e old out) × (e - i ≤ length old) → Blocks stops text i old out e (e - i)
+  blocks-of {out} {e} r =
+      record { run = r .0 .0; count = refl; room = omega (arith, r .1, put-length text i old e (r .0 .1)); holds = r .0 .1 }

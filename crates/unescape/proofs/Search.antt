@@ -23,9 +23,13 @@ module _ (stops : ℕ → Bool) (text : List ℕ) (i : ℕ) where
   pub within-none : (n : ℕ) → Plain stops text i (i + n) → Within stops text i n (i + n)
   within-none n p = record { run = p; to = omega arith; ends = λ l. absurd (omega arith) }
 
+  -- the rest of a run
+  pub end-after : {e f : ℕ} → Plain stops text i e → RunEnd stops text e f → RunEnd stops text i f
+  end-after {e} {f} p r = record { run = plain-join stops text i e f p (r .run); ends = r .ends }
+
   module _ {n e : ℕ} (w : Within stops text i n e) where
     pub end-near : e < i + n → RunEnd stops text i e
     end-near h = record { run = w .run; ends = λ l. w .ends h }
 
     pub end-far : {f : ℕ} → RunEnd stops text e f → RunEnd stops text i f
-    end-far {f} r = record { run = plain-join stops text i e f (w .run) (r .run); ends = r .ends }
+    end-far {f} r = end-after (w .run) r

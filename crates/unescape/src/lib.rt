@@ -2,7 +2,7 @@
 ghost use mathlib.Core.Path.{_≡_};
 ghost use mathlib.Core.Bool.{false};
 ghost use mathlib.Core.List.{List, [], _∷_};
-ghost use Prim.Native.Nat.{ℕ, _+_, _≤_, _<_};
+ghost use Prim.Native.Nat.{ℕ, _+_, _-_, _≤_, _<_};
 ghost use lib.ListN.{length, getD};
 ghost use Rattle.text.specs.Call.{callOf};
 ghost use Rattle.entity.specs.Table.{ValidTable};
@@ -56,13 +56,12 @@ fn near_amp(text: &[u8], from: usize) -> usize
     from + 8
 }
 
-// The next `&` from `from` on, or the text's end, by blocks.
-fn far_amp(text: &[u8], from: usize) -> usize
+// The next `&` from `from` on, or the text's end, byte by byte.
+fn bytes_amp(text: &[u8], from: usize) -> usize
     requires { ⌜ from ≤ length (now text) ⌝ }
     ensures { λ r. ⌜ RunEnd isAmp (now (text .entry)) from r ⌝ }
 {
-    let block = amp_blocks(text, from, 32);
-    let mut i = amp_blocks(text, block, 8);
+    let mut i = from;
     while i < text.len() {
         if text[i] == b'&' {
             return i;
@@ -70,6 +69,31 @@ fn far_amp(text: &[u8], from: usize) -> usize
         i += 1;
     }
     i
+}
+
+// Passes eight bytes at a time, up to a `&` or to where fewer are left.
+fn nears_amp(text: &[u8], from: usize) -> usize
+    requires { ⌜ from ≤ length (now text) ⌝ }
+    ensures { λ r. ⌜ Plain isAmp (now (text .entry)) from r ⌝ }
+{
+    let mut i = from;
+    while 8 <= text.len() - i {
+        let near = near_amp(text, i);
+        if near < i + 8 {
+            return near;
+        }
+        i = near;
+    }
+    i
+}
+
+// The next `&` from `from` on, or the text's end, by blocks.
+fn far_amp(text: &[u8], from: usize) -> usize
+    requires { ⌜ from ≤ length (now text) ⌝ }
+    ensures { λ r. ⌜ RunEnd isAmp (now (text .entry)) from r ⌝ }
+{
+    let block = amp_blocks(text, from, 32);
+    bytes_amp(text, nears_amp(text, block))
 }
 
 // The same. A `&` is often near, and a test of a block tells only that there is one.
@@ -91,6 +115,7 @@ fn amp_end(text: &[u8], from: usize) -> usize
 fn put_blocks(text: &[u8], from: usize, out: &mut [u8]) -> usize
     requires { ⌜ from ≤ length (now text) ⌝ }
     ensures { λ r. ⌜ Plain isAmp (now (text .entry)) from r × Put (now (text .entry)) from r (now (out .entry)) (now (out .exit)) ⌝ }
+    ensures { λ r. ⌜ r - from ≤ length (now (out .entry)) ⌝ }
 {
     let mut i = from;
     let mut k: usize = 0;
@@ -101,23 +126,6 @@ fn put_blocks(text: &[u8], from: usize, out: &mut [u8]) -> usize
         output::put_block(&text[i..i + 16], &mut out[k..]);
         i += 16;
         k += 16;
-    }
-    i
-}
-
-// The next `&` from `from` on, or the text's end; the bytes before it are copied while it is searched, by blocks.
-fn put_far(text: &[u8], from: usize, out: &mut [u8]) -> usize
-    requires { ⌜ from ≤ length (now text) ⌝ }
-    ensures { λ r. ⌜ RunEnd isAmp (now (text .entry)) from r × Put (now (text .entry)) from r (now (out .entry)) (now (out .exit)) ⌝ }
-{
-    let mut i = put_blocks(text, from, out);
-    while i < text.len() {
-        let b = text[i];
-        if b == b'&' {
-            return i;
-        }
-        output::put_byte(b, i - from, out);
-        i += 1;
     }
     i
 }
@@ -138,13 +146,57 @@ fn put_near(text: &[u8], from: usize, out: &mut [u8]) -> usize
     from + 8
 }
 
-// As `put_far`, byte by byte where the `&` is near.
+// Copies eight bytes at a time, up to a `&` or to where fewer are left, of the text or of the output.
+fn put_nears(text: &[u8], from: usize, out: &mut [u8]) -> usize
+    requires { ⌜ from ≤ length (now text) ⌝ }
+    ensures { λ r. ⌜ Plain isAmp (now (text .entry)) from r × Put (now (text .entry)) from r (now (out .entry)) (now (out .exit)) ⌝ }
+    ensures { λ r. ⌜ r - from ≤ length (now (out .entry)) ⌝ }
+{
+    let mut i = from;
+    while (8 <= text.len() - i) & (8 <= out.len() - (i - from)) {
+        let near = put_near(text, i, &mut out[i - from..]);
+        if near < i + 8 {
+            return near;
+        }
+        i = near;
+    }
+    i
+}
+
+// The next `&` from `from` on, or the text's end; the bytes before it are copied while it is searched, one by one.
+fn put_bytes(text: &[u8], from: usize, out: &mut [u8]) -> usize
+    requires { ⌜ from ≤ length (now text) ⌝ }
+    ensures { λ r. ⌜ RunEnd isAmp (now (text .entry)) from r × Put (now (text .entry)) from r (now (out .entry)) (now (out .exit)) ⌝ }
+{
+    let mut i = from;
+    while i < text.len() {
+        let b = text[i];
+        if b == b'&' {
+            return i;
+        }
+        output::put_byte(b, i - from, out);
+        i += 1;
+    }
+    i
+}
+
+// The same, by blocks.
+fn put_far(text: &[u8], from: usize, out: &mut [u8]) -> usize
+    requires { ⌜ from ≤ length (now text) ⌝ }
+    ensures { λ r. ⌜ RunEnd isAmp (now (text .entry)) from r × Put (now (text .entry)) from r (now (out .entry)) (now (out .exit)) ⌝ }
+{
+    let block = put_blocks(text, from, out);
+    let near = put_nears(text, block, &mut out[block - from..]);
+    put_bytes(text, near, &mut out[near - from..])
+}
+
+// The same. A `&` is often near, or the text short.
 fn put_to_amp(text: &[u8], from: usize, out: &mut [u8]) -> usize
     requires { ⌜ from ≤ length (now text) ⌝ }
     ensures { λ r. ⌜ RunEnd isAmp (now (text .entry)) from r × Put (now (text .entry)) from r (now (out .entry)) (now (out .exit)) ⌝ }
 {
     if (text.len() - from < 8) | (out.len() < 8) {
-        return put_far(text, from, out);
+        return put_bytes(text, from, out);
     }
     let near = put_near(text, from, out);
     if near < from + 8 {

@@ -1,59 +1,31 @@
-use Prim.Native.Nat.{_-_}
-use native.Mathlib.Omega.{arith}
-use lib.ListN.{length}
-use borrow.Author.Tests.{eq-eqb, ne-eqb}
-use borrow.Author.Needs.{needs}
-use Rattle.output.specs.Runs.{Plain}
-use Rattle.output.proofs.Runs.{plain-byte, plain-join}
+use Rattle.output.proofs.Runs.{plain-join}
 use Rattle.unescape.specs.Steps.{isAmp}
+use Rattle.unescape.proofs.Search.{end-after}
+use borrow.Author.Needs.{needs}
 use Rattle.unescape.proofs.far_amp.Statement.{statement}
 use Rattle.unescape.proofs.far_amp.Tie as tie
+use Rattle.unescape.proofs.far_amp.Reads as reads
+use Rattle.unescape.proofs.far_amp.Lts as lts
+use Rattle.unescape.proofs.amp_blocks.Reads as amp-blocks-reads
+use Rattle.unescape.proofs.bytes_amp.Reads as bytes-amp-reads
+use Rattle.unescape.proofs.nears_amp.Reads as nears-amp-reads
 
-abbrev Inv-loop : tie.InvT-loop
-Inv-loop text from block i₀ i = Plain isAmp text from i
-
-abbrev μ-loop : tie.MeasureT-loop
-μ-loop text from block i₀ i = length text - i
-
-amp-blocks-requires : tie.Need-amp-blocks-requires Inv-loop μ-loop
+-- src/lib.rt:95:9
+amp-blocks-requires : tie.Need-amp-blocks-requires
 amp-blocks-requires c κs = search needs
 
-amp-blocks-requires-2 : tie.Need-amp-blocks-requires-2 Inv-loop μ-loop
-amp-blocks-requires-2 c κs = search needs
+-- src/lib.rt:96:21
+nears-amp-requires : tie.Need-nears-amp-requires
+nears-amp-requires c κs = search needs
 
-loop-holds : tie.Need-loop-holds Inv-loop μ-loop
-loop-holds c = plain-join isAmp (c .before .before .before .args .text .now) (c .before .before .before .args .from) (c .before .amp-blocks .result) _ (c .before .amp-blocks .ensures) (c .amp-blocks2 .ensures)
+-- src/lib.rt:96:5
+bytes-amp-requires : tie.Need-bytes-amp-requires
+bytes-amp-requires c κs = search needs
 
-shared-slice-read-if1 : tie.Need-shared-slice-read-if1 Inv-loop μ-loop
-shared-slice-read-if1 c = search needs
-
-returns : tie.Need-returns Inv-loop μ-loop
-returns c = record { run = c .before .before .before .loop .inv; ends = λ h. eq-eqb _ 38 (c .if1 .taken) }
-
-add-i : tie.Need-add-i Inv-loop μ-loop
-add-i c = search needs
-
-loop-less : tie.Need-loop-less Inv-loop μ-loop
-loop-less c = search needs
-
-loop-again : tie.Need-loop-again Inv-loop μ-loop
-loop-again c = plain-join isAmp (c .before .before .before .before .before .before .before .args .text .now) (c .before .before .before .before .before .before .before .args .from) (c .before .before .before .loop .i) _ (c .before .before .before .loop .inv) (plain-byte isAmp (c .before .before .before .before .before .before .before .args .text .now) (c .before .before .before .loop .i) (c .before .before .loop-test .taken) (ne-eqb _ 38 (c .if1 .left)))
-
-returns-2 : tie.Need-returns-2 Inv-loop μ-loop
-returns-2 c = record { run = c .before .loop .inv; ends = λ h. absurd (omega (arith, c .loop-test .left)) }
+-- src/lib.rt:91:1
+returns : tie.Need-returns
+returns c = end-after isAmp (c .before .before .before .before .args .text .now) (c .before .before .before .before .args .from) (plain-join isAmp (c .before .before .before .before .args .text .now) (c .before .before .before .before .args .from) (c .before .before .amp-blocks .result) (c .before .nears-amp .result) (c .before .before .amp-blocks .ensures) (c .before .nears-amp .ensures)) (c .bytes-amp .ensures)
 
 pub far-amp-spec : {M : Type 1} → statement M
 far-amp-spec =
-    tie.close
-    (tie.spec
-    Inv-loop
-    μ-loop
-    amp-blocks-requires
-    amp-blocks-requires-2
-    loop-holds
-    shared-slice-read-if1
-    returns
-    add-i
-    loop-less
-    loop-again
-    returns-2)
+    tie.close (tie.spec amp-blocks-requires nears-amp-requires bytes-amp-requires returns)

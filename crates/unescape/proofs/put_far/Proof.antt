@@ -1,74 +1,84 @@
-use Prim.Native.Nat.{ℕ, _-_}
-use mathlib.Core.Path.{refl, _∙_}
-use mathlib.Core.List.{List}
-use native.Mathlib.Omega.{arith}
-use lib.ListN.{length}
-use borrow.Author.Tests.{eq-eqb, ne-eqb}
+use Rattle.unescape.specs.Steps.{isAmp}
+use Rattle.unescape.proofs.Puts.{blocks-of, blocks-nears, blocks-rest}
 use borrow.Author.Needs.{needs}
-use Rattle.output.specs.Runs.{Plain}
-use Rattle.output.proofs.Runs.{plain-byte, plain-join}
-use Rattle.unescape.specs.Steps.{isAmp, Put}
-use Rattle.unescape.proofs.Puts.{put-next, put-length}
 use Rattle.unescape.proofs.put_far.Statement.{statement}
 use Rattle.unescape.proofs.put_far.Tie as tie
+use Rattle.unescape.proofs.put_far.Reads as reads
+use Rattle.unescape.proofs.put_far.Lts as lts
+use Rattle.unescape.proofs.put_blocks.Reads as put-blocks-reads
+use Rattle.unescape.proofs.put_bytes.Reads as put-bytes-reads
+use Rattle.unescape.proofs.put_nears.Reads as put-nears-reads
 
-abbrev Inv-loop : tie.InvT-loop
-Inv-loop text from out₀ i₀ out i = Plain isAmp text from i × ((old : List ℕ) → Put text from i₀ old out₀ → Put text from i old out)
-
-abbrev μ-loop : tie.MeasureT-loop
-μ-loop text from out₀ i₀ out i = length text - i
-
-put-blocks-requires : tie.Need-put-blocks-requires Inv-loop μ-loop
+-- src/lib.rt:188:9
+put-blocks-requires : tie.Need-put-blocks-requires
 put-blocks-requires c κs = search needs
 
-loop-holds : tie.Need-loop-holds Inv-loop μ-loop
-loop-holds c = (c .before .before .put-blocks .ensures .0, λ old p. p)
+-- src/lib.rt:189:48
+sub-put-nears : tie.Need-sub-put-nears
+sub-put-nears c = search needs
 
-shared-slice-read-b : tie.Need-shared-slice-read-b Inv-loop μ-loop
-shared-slice-read-b c = search needs
+-- src/lib.rt:189:39
+sub-put-nears-2 : tie.Need-sub-put-nears-2
+sub-put-nears-2 c = search needs
 
-same-length : tie.Need-same-length Inv-loop μ-loop
-same-length c = put-length (c .before .before .before .before .before .before .before .before .before .before .args .text .now) (c .before .before .before .before .before .before .before .before .before .before .args .from) (c .before .before .before .before .before .before .before .before .before .before .args .out .now) (c .before .before .before .loop .i) (c .before .before .before .loop .inv .1 (c .before .before .before .before .before .before .before .before .before .before .args .out .now) (c .before .before .before .before .before .before .put-blocks .ensures .1))
+-- src/lib.rt:189:39
+part-put-nears-start : tie.Need-part-put-nears-start
+part-put-nears-start c = search needs
 
-returns : tie.Need-returns Inv-loop μ-loop
-returns c = (record { run = c .before .before .before .loop .inv .0; ends = λ h. eq-eqb _ 38 (c .if1 .taken) }, c .before .before .before .loop .inv .1 (c .before .before .before .before .before .before .before .before .before .before .args .out .now) (c .before .before .before .before .before .before .put-blocks .ensures .1))
+-- src/lib.rt:189:39
+part-put-nears-end : tie.Need-part-put-nears-end
+part-put-nears-end c = search needs
 
-sub-put-byte : tie.Need-sub-put-byte Inv-loop μ-loop
-sub-put-byte c = c .before .before .before .loop .inv .0 .from
+-- src/lib.rt:189:9
+put-nears-requires : tie.Need-put-nears-requires
+put-nears-requires c κs = search needs
 
-put-byte-requires : tie.Need-put-byte-requires Inv-loop μ-loop
-put-byte-requires c κs = tt
+-- src/lib.rt:190:36
+sub-put-bytes : tie.Need-sub-put-bytes
+sub-put-bytes c = search needs
 
-add-i : tie.Need-add-i Inv-loop μ-loop
-add-i c = search needs
+-- src/lib.rt:190:27
+sub-put-bytes-2 : tie.Need-sub-put-bytes-2
+sub-put-bytes-2 c = search needs
 
-loop-less : tie.Need-loop-less Inv-loop μ-loop
-loop-less c = search needs
+-- src/lib.rt:190:27
+part-put-bytes-start : tie.Need-part-put-bytes-start
+part-put-bytes-start c = search needs
 
-loop-again : tie.Need-loop-again Inv-loop μ-loop
-loop-again c = (plain-join isAmp (c .before .before .before .before .before .before .before .before .before .before .before .before .before .before .args .text .now) (c .before .before .before .before .before .before .before .before .before .before .before .before .before .before .args .from) (c .before .before .before .before .before .before .before .loop .i) _ (c .before .before .before .before .before .before .before .loop .inv .0) (plain-byte isAmp (c .before .before .before .before .before .before .before .before .before .before .before .before .before .before .args .text .now) (c .before .before .before .before .before .before .before .loop .i) (c .before .before .before .before .before .before .loop-test .taken) (ne-eqb _ 38 (c .before .before .before .before .if1 .left))), λ old p. c .before .before .put-byte .ensures ∙ put-next (c .before .before .before .before .before .before .before .before .before .before .before .before .before .before .args .text .now) (c .before .before .before .before .before .before .before .before .before .before .before .before .before .before .args .from) old (c .before .before .before .before .before .before .before .loop .i) (c .before .before .before .before .before .before .before .loop .inv .1 old p) (c .before .before .before .before .before .before .before .loop .inv .0 .from) refl (c .before .before .before .before .before .before .loop-test .taken))
+-- src/lib.rt:190:27
+part-put-bytes-end : tie.Need-part-put-bytes-end
+part-put-bytes-end c = search needs
 
-same-length-2 : tie.Need-same-length-2 Inv-loop μ-loop
-same-length-2 c = put-length (c .before .before .before .before .before .before .before .before .args .text .now) (c .before .before .before .before .before .before .before .before .args .from) (c .before .before .before .before .before .before .before .before .args .out .now) (c .before .loop .i) (c .before .loop .inv .1 (c .before .before .before .before .before .before .before .before .args .out .now) (c .before .before .before .before .put-blocks .ensures .1))
+-- src/lib.rt:190:5
+put-bytes-requires : tie.Need-put-bytes-requires
+put-bytes-requires c κs = search needs
 
-returns-2 : tie.Need-returns-2 Inv-loop μ-loop
-returns-2 c = (record { run = c .before .loop .inv .0; ends = λ h. absurd (omega (arith, c .loop-test .left)) }, c .before .loop .inv .1 (c .before .before .before .before .before .before .before .before .args .out .now) (c .before .before .before .before .put-blocks .ensures .1))
+-- src/lib.rt:184:1
+same-length : tie.Need-same-length
+same-length c = search needs
+
+-- src/lib.rt:184:1
+returns : tie.Need-returns
+returns c =
+    let t = c .before .before .before .before .before .before .before .before .before .before .before .before .before .before .args .text .now in
+    let i = c .before .before .before .before .before .before .before .before .before .before .before .before .before .before .args .from in
+    let old = c .before .before .before .before .before .before .before .before .before .before .before .before .before .before .args .out .now in
+    blocks-rest isAmp t i old (blocks-nears isAmp t i old (blocks-of isAmp t i old (c .before .before .before .before .before .before .before .before .before .before .put-blocks .ensures)) (c .before .before .before .before .before .before .put-nears .ensures)) (c .before .before .put-bytes .ensures)
 
 pub put-far-spec : {M : Type 1} → statement M
 put-far-spec =
     tie.close
     (tie.spec
-    Inv-loop
-    μ-loop
     put-blocks-requires
-    loop-holds
-    shared-slice-read-b
+    sub-put-nears
+    sub-put-nears-2
+    part-put-nears-start
+    part-put-nears-end
+    put-nears-requires
+    sub-put-bytes
+    sub-put-bytes-2
+    part-put-bytes-start
+    part-put-bytes-end
+    put-bytes-requires
     same-length
-    returns
-    sub-put-byte
-    put-byte-requires
-    add-i
-    loop-less
-    loop-again
-    same-length-2
-    returns-2)
+    returns)
