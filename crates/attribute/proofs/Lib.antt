@@ -3,6 +3,7 @@ pub mod Heads
 pub mod Values
 pub mod Stops
 pub mod Single
+pub mod Whole
 pub mod Reread
 pub mod Deeper
 pub mod Checked

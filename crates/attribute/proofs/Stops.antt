@@ -1,15 +1,16 @@
 -- The stops of the attribute walk: which bytes are none, what stands for a blank, where a stop's token ends. Assumes nothing.
 use mathlib.Core.Path.{_≡_, refl, sym, ap, subst, _∙_}
 use mathlib.Core.Logic.{_≢_}
-use mathlib.Core.Bool.{Bool, true, false, _&&_, _||_, true≢false}
+use mathlib.Core.Bool.{Bool, true, false, not, _&&_, _||_, true≢false}
 use mathlib.Core.List.{List, [], _∷_}
 use Prim.Native.Nat.{ℕ, zero, suc, _+_, _-_, _≤_, _<_}
 use native.Mathlib.Omega.{arith}
+use native.Mathlib.Nat.{le-trans}
 use native.Mathlib.Numerals.{add-one}
-use lib.Dec.{eqb, leb}
+use lib.Dec.{eqb, leb, ltb}
 use lib.ListN.{length, drop, getD, length-drop}
 use lib.Seq.{drop-cons}
-use borrow.Author.Tests.{eqb-true, eqb-false, eq-eqb, ne-eqb, leb-true}
+use borrow.Author.Tests.{eqb-true, eqb-false, eq-eqb, ne-eqb, leb-true, ltb-true, ltb-false}
 use Rattle.text.specs.Bytes.{pick, begins}
 use Rattle.text.specs.Version.{Rule, xml10, xml11}
 use Rattle.text.proofs.Bytes.{pick-both, pick-by, or-left, or-right, and-left, and-right}
@@ -42,6 +43,29 @@ common-plain b e newer =
 -- no stop before the text's end
 pub plain-whole : {stops : ℕ → Bool} {t : List ℕ} {e : ℕ} → RunEnd stops t 0 e → eqb e (length t) ≡ true → Plain stops t 0 (length t)
 plain-whole {stops} {t} {e} r q = subst (Plain stops t 0) (eqb-true e (length t) q) (r .run)
+
+-- runs that overlap
+pub plain-overlap : {stops : ℕ → Bool} {t : List ℕ} {i b c e : ℕ} → Plain stops t i b → Plain stops t c e → c ≤ b → b ≤ e → Plain stops t i e
+plain-overlap {stops} {t} {i} {b} {c} {e} p q h g = record { from = le-trans (p .from) g; to = q .to; none = λ k l m. go k (ltb k b) refl l m }
+  where
+    go : (k : ℕ) (x : Bool) → ltb k b ≡ x → i ≤ k → k < e → stops (getD t k 0) ≡ false
+    go k true z l m = p .none k l (ltb-true k b z)
+    go k false z l m = q .none k (le-trans h (ltb-false k b z)) m
+
+-- no stop among the last 32 bytes, or in a shorter text
+pub last-short : {stops : ℕ → Bool} {t : List ℕ} {e : ℕ} → RunEnd stops t 0 e → length t < 32 → not (eqb e (length t)) ≡ false → Plain stops t (length t - 32) (length t)
+last-short {stops} {t} {e} r h q =
+    let z : 0 ≡ length t - 32 = omega (arith, h) in
+    subst (λ (i : ℕ). Plain stops t i (length t)) z (plain-whole r (told (eqb e (length t)) q))
+  where
+    told : (x : Bool) → not x ≡ false → x ≡ true
+    told true k = refl
+    told false k = absurd (true≢false k)
+
+pub last-block : {stops : ℕ → Bool} {t : List ℕ} → 32 ≤ length t → Plain stops t (length t - 32) (length t - 32 + 32) → Plain stops t (length t - 32) (length t)
+last-block {stops} {t} h p =
+    let z : length t - 32 + 32 ≡ length t = omega (arith, h) in
+    subst (Plain stops t (length t - 32)) z p
 
 -- ---- bytes that are copied
 

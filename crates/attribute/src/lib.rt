@@ -2,7 +2,7 @@
 ghost use mathlib.Core.Path.{_≡_};
 ghost use mathlib.Core.Bool.{Bool, true, false};
 ghost use mathlib.Core.List.{[], _∷_};
-ghost use Prim.Native.Nat.{ℕ, _+_, _≤_, _<_};
+ghost use Prim.Native.Nat.{ℕ, _+_, _-_, _≤_, _<_};
 ghost use lib.ListN.{length, getD};
 ghost use Rattle.text.specs.Call.{callOf, finish};
 ghost use Rattle.text.specs.Version.{ruleOf};
@@ -389,6 +389,46 @@ fn normalize_into(
     normalize_attr_steps(text, newer, depth, 0, limit, list, pool, out)
 }
 
+// Is there no stop in the text? The last block is looked at first: it may overlap with the one before it.
+fn is_whole(text: &[u8], newer: bool) -> bool
+    requires { ⌜ length (now text) ≤ 16777216 ⌝ }
+    ensures { λ r. ⌜ (r ≡ true → Plain (stopByte newer) (now (text .entry)) 0 (length (now (text .entry)))) ⌝ }
+{
+    if any_last(text, newer) {
+        return false;
+    }
+    text.len() < plain_blocks(text, 0, newer, 32) + 32
+}
+
+// Is there a stop among the last 32 bytes, or in all of a shorter text?
+fn any_last(text: &[u8], newer: bool) -> bool
+    ensures { λ r. ⌜ (r ≡ false → Plain (stopByte newer) (now (text .entry)) (length (now (text .entry)) - 32) (length (now (text .entry)))) ⌝ }
+{
+    let n = text.len();
+    if n < 32 {
+        return bytes_stop(text, 0, newer) != n;
+    }
+    any_stop(text, n - 32, newer, 32)
+}
+
+// A text that is its own value goes to the start of `out`; a buffer that is too short is refused by the number given.
+fn copied_whole(text: &[u8], short: u32, out: &mut [u8]) -> Answer
+    ensures { λ r. ⌜ Ended short (done (now (text .entry)) 0) (now (out .entry)) (now (out .exit)) r ⌝ }
+{
+    if out.len() < text.len() {
+        return Answer::Refused {
+            number: short,
+            first: text.len() as u64,
+            second: 0,
+        };
+    }
+    output::put_run(text, out);
+    Answer::Done {
+        first: text.len() as u64,
+        second: 0,
+    }
+}
+
 // Refusals 2, 3 and 4.
 pub fn check_settings(version: u8, depth: u64, limit: u64) -> Answer
     ensures { λ r. ⌜ r ≡ settingsCheck version depth limit ⌝ }
@@ -425,7 +465,11 @@ pub fn normalize_attribute_value(
     requires { ⌜ limit ≤ 1000000 ⌝ }
     ensures { λ r. ⌜ callOf r (now (out .exit) ∷ []) ≡ finished (normalize (readingOf (ruleOf version) (now (list .entry)) (now (pool .entry)) limit) depth (now (text .entry))) (now (out .entry)) ⌝ }
 {
-    normalize_into(text, 1 < version, depth, limit, list, pool, 19, out)
+    let newer = 1 < version;
+    if is_whole(text, newer) {
+        return copied_whole(text, 19, out);
+    }
+    normalize_into(text, newer, depth, limit, list, pool, 19, out)
 }
 
 // The canonical form of a value that a scratch holds. Where the output has six times its length there is room: no count is needed.
@@ -467,7 +511,11 @@ pub fn canonical_form(
     ensures { λ r. ⌜ callOf r (now (scratch .exit) ∷ now (out .exit) ∷ []) ≡ formed (ruleOf version) (normalize (readingOf (ruleOf version) (now (list .entry)) (now (pool .entry)) limit) depth (now (text .entry))) (now (scratch .entry)) (now (out .entry)) ⌝ }
 {
     let newer = 1 < version;
-    let filled = normalize_into(text, newer, depth, limit, list, pool, 18, scratch);
+    let filled = if is_whole(text, newer) {
+        copied_whole(text, 18, scratch)
+    } else {
+        normalize_into(text, newer, depth, limit, list, pool, 18, scratch)
+    };
     let Answer::Done {
         first: len,
         second: openings,

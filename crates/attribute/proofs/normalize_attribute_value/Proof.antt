@@ -1,33 +1,66 @@
-use mathlib.Core.Path.{_≡_, refl, sym, ap, subst, _∙_}
-use mathlib.Core.List.{List, [], _∷_}
+use mathlib.Core.Path.{refl, ap, _∙_}
 use lib.Dec.{ltb}
-use Rattle.text.specs.Version.{Rule, ruleOf}
-use Rattle.text.specs.Call.{callOf}
+use Rattle.text.specs.Version.{Rule}
 use Rattle.eols.specs.Stops.{ruleFor}
 use Rattle.eols.proofs.LineEnds.{version-rule}
 use Rattle.tokens.specs.Outcome.{finished}
 use Rattle.tokens.proofs.Finished.{ended-call}
 use Rattle.attribute.specs.Walk.{normalize, readingOf}
+use Rattle.attribute.proofs.Whole.{whole-ended}
 use borrow.Author.Needs.{needs}
 use Rattle.attribute.proofs.normalize_attribute_value.Statement.{statement}
 use Rattle.attribute.proofs.normalize_attribute_value.Tie as tie
 use Rattle.attribute.proofs.normalize_attribute_value.Reads as reads
 use Rattle.attribute.proofs.normalize_attribute_value.Lts as lts
+use Rattle.attribute.proofs.copied_whole.Reads as copied-whole-reads
+use Rattle.attribute.proofs.is_whole.Reads as is-whole-reads
 use Rattle.attribute.proofs.normalize_into.Reads as normalize-into-reads
 
--- src/lib.rt:344:5
-normalize-into-requires : tie.Need-normalize-into-requires
-normalize-into-requires c κs = search needs
+-- src/lib.rt:469:8
+is-whole-requires : tie.Need-is-whole-requires
+is-whole-requires c κs = search needs
 
--- src/lib.rt:330:1
+-- src/lib.rt:470:9
+copied-whole-requires : tie.Need-copied-whole-requires
+copied-whole-requires c κs = search needs
+
+-- src/lib.rt:470:9
 same-length : tie.Need-same-length
 same-length c = search needs
 
--- src/lib.rt:330:1
+-- src/lib.rt:470:9
 returns : tie.Need-returns
 returns c =
-    ended-call (normalize (readingOf (ruleFor (ltb 1 (c .before .before .before .before .before .before .before .before .args .version))) (c .before .before .before .before .before .before .before .before .args .list .now) (c .before .before .before .before .before .before .before .before .args .pool .now) (c .before .before .before .before .before .before .before .before .args .limit)) (c .before .before .before .before .before .before .before .before .args .depth) (c .before .before .before .before .before .before .before .before .args .text .now)) (c .before .before .before .before .before .before .before .before .args .out .now) (c .before .before .normalize-into .ensures .0)
-    ∙ ap (λ (r : Rule). finished (normalize (readingOf r (c .before .before .before .before .before .before .before .before .args .list .now) (c .before .before .before .before .before .before .before .before .args .pool .now) (c .before .before .before .before .before .before .before .before .args .limit)) (c .before .before .before .before .before .before .before .before .args .depth) (c .before .before .before .before .before .before .before .before .args .text .now)) (c .before .before .before .before .before .before .before .before .args .out .now)) (version-rule (c .before .before .before .before .before .before .before .before .args .version) (ltb 1 (c .before .before .before .before .before .before .before .before .args .version)) refl)
+    let a = c .before .before .before .before .before .before .before .before .before .before .args in
+    let newer = ltb 1 (a .version) in
+    ended-call (normalize (readingOf (ruleFor newer) (a .list .now) (a .pool .now) (a .limit)) (a .depth) (a .text .now)) (a .out .now)
+    (whole-ended 19 (a .text .now) (a .out .now) (c .before .before .copied-whole .ensures) newer (a .list .now) (a .pool .now) (a .limit) (a .depth) (c .before .before .before .before .before .is-whole .ensures (c .before .before .before .before .if1 .taken)))
+    ∙ ap (λ (r : Rule). finished (normalize (readingOf r (a .list .now) (a .pool .now) (a .limit)) (a .depth) (a .text .now)) (a .out .now)) (version-rule (a .version) newer refl)
+
+-- src/lib.rt:472:5
+normalize-into-requires : tie.Need-normalize-into-requires
+normalize-into-requires c κs = search needs
+
+-- src/lib.rt:454:1
+same-length-2 : tie.Need-same-length-2
+same-length-2 c = search needs
+
+-- src/lib.rt:454:1
+returns-2 : tie.Need-returns-2
+returns-2 c =
+    let a = c .before .before .before .before .before .before .before .before .before .before .args in
+    let newer = ltb 1 (a .version) in
+    ended-call (normalize (readingOf (ruleFor newer) (a .list .now) (a .pool .now) (a .limit)) (a .depth) (a .text .now)) (a .out .now) (c .before .before .normalize-into .ensures .0)
+    ∙ ap (λ (r : Rule). finished (normalize (readingOf r (a .list .now) (a .pool .now) (a .limit)) (a .depth) (a .text .now)) (a .out .now)) (version-rule (a .version) newer refl)
 
 pub normalize-attribute-value-spec : {M : Type 1} → statement M
-normalize-attribute-value-spec = tie.close (tie.spec normalize-into-requires same-length returns)
+normalize-attribute-value-spec =
+    tie.close
+    (tie.spec
+    is-whole-requires
+    copied-whole-requires
+    same-length
+    returns
+    normalize-into-requires
+    same-length-2
+    returns-2)
