@@ -1,6 +1,6 @@
-use mathlib.Core.Path.{_≡_, refl, sym, ap, _∙_}
+use mathlib.Core.Path.{_≡_, sym, ap, _∙_}
 use native.Mathlib.Omega.{arith}
-use Prim.Native.Nat.{ℕ, _+_, _-_, _*_, _≤_, _<_}
+use Prim.Native.Nat.{_+_, _-_, _*_, _≤_, _<_}
 use lib.ListN.{length, drop, length-take}
 use Rattle.eols.specs.Stops.{ruleFor}
 use Rattle.canonical.specs.Canonical.{canonicalFrom, canonical}
@@ -8,13 +8,6 @@ use Rattle.canonical.proofs.Between.{canonical-over, run-length, run-mo
 use borrow.Author.Needs.{needs}
 use Rattle.canonical.proofs.canonical_length.Statement.{statement}
 use Rattle.canonical.proofs.canonical_length.Tie as tie
-use Rattle.canonical.proofs.canonical_length.Reads as reads
-use Rattle.canonical.proofs.canonical_length.Lts as lts
-use Rattle.canonical.proofs.next_special.Reads as next-special-reads
-use Rattle.canonical.proofs.special_length.Reads as special-length-reads
-use Rattle.canonical.proofs.special_width.Reads as special-width-reads
-use Rattle.escape.proofs.escape_chars.Reads as escape-chars-reads
-use Rattle.escape.proofs.escaped_length.Reads as escaped-length-reads
 
 abbrev Inv-loop : tie.InvT-loop
 Inv-loop value newer chars n₀ i₀ n i = (i ≤ length value) × (n ≤ 6 * i) × (length (canonical (ruleFor newer) value) ≡ n + length (canonicalFrom (ruleFor newer) 0 (drop i value)))
@@ -22,64 +15,49 @@ Inv-loop value newer chars n₀ i₀ n i = (i ≤ length value) × (n ≤ 6 * i)
 abbrev μ-loop : tie.MeasureT-loop
 μ-loop value newer chars n₀ i₀ n i = length value - i
 
--- src/lib.rt:109:9
 escape-chars-requires : tie.Need-escape-chars-requires Inv-loop μ-loop
 escape-chars-requires c κs = search needs
 
--- src/lib.rt:112:5
 loop-holds : tie.Need-loop-holds Inv-loop μ-loop
 unfolding canonical
 loop-holds c = (omega arith, omega arith, omega arith)
 
--- src/lib.rt:113:13
 next-special-requires : tie.Need-next-special-requires Inv-loop μ-loop
 next-special-requires c κs = c .loop .inv .0
 
--- src/lib.rt:114:37
 sub-escaped-length : tie.Need-sub-escaped-length Inv-loop μ-loop
 sub-escaped-length c = c .next-special .ensures .0 .from
 
--- src/lib.rt:114:37
 part-escaped-length-start : tie.Need-part-escaped-length-start Inv-loop μ-loop
 part-escaped-length-start c = c .next-special .ensures .0 .from
 
--- src/lib.rt:114:37
 part-escaped-length-end : tie.Need-part-escaped-length-end Inv-loop μ-loop
 part-escaped-length-end c = c .next-special .ensures .0 .to
 
--- src/lib.rt:114:14
 escaped-length-requires : tie.Need-escaped-length-requires Inv-loop μ-loop
 escaped-length-requires c κs = omega (arith, length-take (c .before .next-special .result - c .before .before .loop .i) (drop (c .before .before .loop .i) (c .before .before .before .before .before .args .value .now)), c .before .before .before .before .before .pre, c .before .next-special .ensures .0 .to)
 
--- src/lib.rt:114:9
 add-n : tie.Need-add-n Inv-loop μ-loop
 add-n c = omega (arith, c .before .before .before .before .before .before .pre, c .before .before .before .loop .inv .1, c .escaped-length .ensures, run-most _ _ _ _ (c .before .before .next-special .ensures .0) (c .before .before .before .before .escape-chars .ensures), c .before .before .next-special .ensures .0 .from, c .before .before .next-special .ensures .0 .to)
 
--- src/lib.rt:116:13
 returns : tie.Need-returns Inv-loop μ-loop
 returns c = sym (c .before .before .before .before .loop .inv .2 ∙ omega (arith, c .before .escaped-length .ensures, run-length _ _ _ _ (c .before .before .before .next-special .ensures .0) (c .before .before .before .before .before .escape-chars .ensures), ap length (canonical-over (ruleFor (c .before .before .before .before .before .before .before .args .newer)) (c .before .before .before .before .before .before .before .args .value .now) (c .before .before .before .next-special .result) (omega (arith, c .if1 .taken)))))
 
--- src/lib.rt:118:13
 special-width-requires : tie.Need-special-width-requires Inv-loop μ-loop
 special-width-requires c κs = omega (arith, c .if1 .left, c .before .before .before .next-special .ensures .0 .to)
 
--- src/lib.rt:119:14
 special-length-requires : tie.Need-special-length-requires Inv-loop μ-loop
 special-length-requires c κs = search needs
 
--- src/lib.rt:119:9
 add-n-2 : tie.Need-add-n-2 Inv-loop μ-loop
 add-n-2 c = omega (arith, c .before .before .before .before .before .before .before .before .before .pre, c .special-length .ensures .1, c .before .before .before .before .before .before .loop .inv .1, c .before .before .before .escaped-length .ensures, run-most _ _ _ _ (c .before .before .before .before .before .next-special .ensures .0) (c .before .before .before .before .before .before .before .escape-chars .ensures), c .before .before .before .before .before .next-special .ensures .0 .from, c .before .before .before .before .before .next-special .ensures .0 .to)
 
--- src/lib.rt:120:13
 add-i : tie.Need-add-i Inv-loop μ-loop
 add-i c = omega (arith, c .before .before .before .before .before .before .before .before .before .pre, own-inside (c .before .before .before .before .before .before .before .before .before .args .newer) (c .before .before .before .before .before .before .before .before .before .args .value .now) (c .before .before .before .before .before .next-special .result) (omega (arith, c .before .before .if1 .left, c .before .before .before .before .before .next-special .ensures .0 .to)) (c .before .before .before .before .before .next-special .ensures .1 (omega (arith, c .before .before .if1 .left, c .before .before .before .before .before .next-special .ensures .0 .to))) (c .before .special-width .ensures))
 
--- src/lib.rt:112:5
 loop-less : tie.Need-loop-less Inv-loop μ-loop
 loop-less c = omega (arith, c .before .before .before .before .before .next-special .ensures .0 .from, own-least (c .before .before .before .before .before .before .before .before .before .args .newer) (c .before .before .before .before .before .before .before .before .before .args .value .now) (c .before .before .before .before .before .next-special .result) (omega (arith, c .before .before .if1 .left, c .before .before .before .before .before .next-special .ensures .0 .to)) (c .before .before .before .before .before .next-special .ensures .1 (omega (arith, c .before .before .if1 .left, c .before .before .before .before .before .next-special .ensures .0 .to))) (c .before .special-width .ensures), own-inside (c .before .before .before .before .before .before .before .before .before .args .newer) (c .before .before .before .before .before .before .before .before .before .args .value .now) (c .before .before .before .before .before .next-special .result) (omega (arith, c .before .before .if1 .left, c .before .before .before .before .before .next-special .ensures .0 .to)) (c .before .before .before .before .before .next-special .ensures .1 (omega (arith, c .before .before .if1 .left, c .before .before .before .before .before .next-special .ensures .0 .to))) (c .before .special-width .ensures))
 
--- src/lib.rt:112:5
 loop-again : tie.Need-loop-again Inv-loop μ-loop
 loop-again c =
     let e = c .before .before .before .before .before .next-special .result in

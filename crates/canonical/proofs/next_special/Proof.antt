@@ -1,17 +1,12 @@
-use mathlib.Core.Path.{_≡_, refl, sym, ap, _∙_}
+use mathlib.Core.Path.{sym, _∙_}
 use native.Mathlib.Omega.{arith}
-use Prim.Native.Nat.{ℕ, _+_, _-_, _≤_, _<_}
+use Prim.Native.Nat.{_-_}
 use lib.ListN.{length, drop}
 use Rattle.text.specs.Version.{xml11}
-use Rattle.eols.specs.Stops.{ruleFor}
-use Rattle.canonical.specs.Runs.{special, Common}
+use Rattle.canonical.specs.Runs.{Common}
 use Rattle.canonical.proofs.Between.{common-older, common-join, common-one, common-newer, newer-special}
 use Rattle.canonical.proofs.next_special.Statement.{statement}
 use Rattle.canonical.proofs.next_special.Tie as tie
-use Rattle.canonical.proofs.next_special.Reads as reads
-use Rattle.canonical.proofs.next_special.Lts as lts
-use Rattle.canonical.proofs.skip_common.Reads as skip-common-reads
-use Rattle.canonical.proofs.special_width.Reads as special-width-reads
 
 abbrev Inv-loop : tie.InvT-loop
 Inv-loop value from newer i₀ i = Common xml11 value from i
@@ -19,39 +14,30 @@ Inv-loop value from newer i₀ i = Common xml11 value from i
 abbrev μ-loop : tie.MeasureT-loop
 μ-loop value from newer i₀ i = length value - i
 
--- src/lib.rt:71:9
 returns : tie.Need-returns Inv-loop μ-loop
 returns c = (common-older (c .before .before .args .newer) _ _ (c .if1 .taken) (c .before .before .pre), λ h. absurd (omega (arith, h)))
 
--- src/lib.rt:73:9
 skip-common-requires : tie.Need-skip-common-requires Inv-loop μ-loop
 skip-common-requires c κs = c .before .before .pre
 
--- src/lib.rt:74:5
 loop-holds : tie.Need-loop-holds Inv-loop μ-loop
 loop-holds c = c .skip-common .ensures
 
--- src/lib.rt:75:12
 special-width-requires : tie.Need-special-width-requires Inv-loop μ-loop
 special-width-requires c κs = c .loop-test .taken
 
--- src/lib.rt:76:13
 returns-2 : tie.Need-returns-2 Inv-loop μ-loop
 returns-2 c = (common-newer (c .before .before .before .before .before .before .before .args .newer) _ _ _ (c .before .before .before .before .before .if1 .left) (c .before .before .before .loop .inv), λ h. newer-special (c .before .before .before .before .before .before .before .args .newer) (drop (c .before .before .before .loop .i) (c .before .before .before .before .before .before .before .args .value .now)) (c .before .before .before .before .before .if1 .left) (omega (arith, c .before .special-width .ensures, c .if2 .taken)))
 
--- src/lib.rt:78:9
 add-i : tie.Need-add-i Inv-loop μ-loop
 add-i c = omega (arith, c .before .before .before .loop .inv .to, c .before .before .loop-test .taken)
 
--- src/lib.rt:74:5
 loop-less : tie.Need-loop-less Inv-loop μ-loop
 loop-less c = omega (arith, c .before .before .loop-test .taken)
 
--- src/lib.rt:74:5
 loop-again : tie.Need-loop-again Inv-loop μ-loop
 loop-again c = common-join xml11 _ _ (c .before .before .before .loop .i) _ (c .before .before .before .loop .inv) (common-one xml11 _ _ (c .before .before .loop-test .taken) (sym (c .before .special-width .ensures) ∙ c .if2 .left))
 
--- src/lib.rt:65:1
 returns-3 : tie.Need-returns-3 Inv-loop μ-loop
 returns-3 c = (common-newer (c .before .before .before .before .before .args .newer) _ _ _ (c .before .before .before .if1 .left) (c .before .loop .inv), λ h. absurd (omega (arith, h, c .loop-test .left)))
 

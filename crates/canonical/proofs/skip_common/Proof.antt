@@ -1,15 +1,11 @@
-use mathlib.Core.Path.{_≡_, refl, sym, ap, _∙_}
 use native.Mathlib.Omega.{arith}
-use Prim.Native.Nat.{ℕ, _+_, _-_, _≤_, _<_}
+use Prim.Native.Nat.{_-_}
 use lib.ListN.{length}
 use Rattle.text.specs.Version.{xml11}
 use Rattle.canonical.specs.Runs.{Common}
 use Rattle.canonical.proofs.Between.{common-none, common-join}
 use Rattle.canonical.proofs.skip_common.Statement.{statement}
 use Rattle.canonical.proofs.skip_common.Tie as tie
-use Rattle.canonical.proofs.skip_common.Reads as reads
-use Rattle.canonical.proofs.skip_common.Lts as lts
-use Rattle.canonical.proofs.any_special.Reads as any-special-reads
 
 abbrev Inv-loop : tie.InvT-loop
 Inv-loop value from i₀ i = Common xml11 value from i
@@ -17,35 +13,27 @@ Inv-loop value from i₀ i = Common xml11 value from i
 abbrev μ-loop : tie.MeasureT-loop
 μ-loop value from i₀ i = length value - i
 
--- src/lib.rt:39:5
 loop-holds : tie.Need-loop-holds Inv-loop μ-loop
 loop-holds c = common-none xml11 _ _ (c .before .pre)
 
--- src/lib.rt:39:17
 sub-loop : tie.Need-sub-loop Inv-loop μ-loop
 sub-loop c = c .loop .inv .to
 
--- src/lib.rt:40:12
 any-special-requires : tie.Need-any-special-requires Inv-loop μ-loop
 any-special-requires c κs = omega (arith, c .before .loop .inv .to, c .loop-test .taken)
 
--- src/lib.rt:41:13
 returns : tie.Need-returns Inv-loop μ-loop
 returns c = c .before .before .before .loop .inv
 
--- src/lib.rt:43:9
 add-i : tie.Need-add-i Inv-loop μ-loop
 add-i c = omega (arith, c .before .before .before .loop .inv .to, c .before .before .loop-test .taken)
 
--- src/lib.rt:39:5
 loop-less : tie.Need-loop-less Inv-loop μ-loop
 loop-less c = omega (arith, c .before .before .before .loop .inv .to, c .before .before .loop-test .taken)
 
--- src/lib.rt:39:5
 loop-again : tie.Need-loop-again Inv-loop μ-loop
 loop-again c = common-join xml11 _ _ (c .before .before .before .loop .i) _ (c .before .before .before .loop .inv) (c .before .any-special .ensures (c .if1 .left))
 
--- src/lib.rt:34:1
 returns-2 : tie.Need-returns-2 Inv-loop μ-loop
 returns-2 c = c .before .loop .inv
 

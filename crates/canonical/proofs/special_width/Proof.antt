@@ -1,6 +1,4 @@
-use mathlib.Core.Path.{_≡_, refl, sym, ap, _∙_}
-use mathlib.Core.Bool.{_&&_}
-use Prim.Native.Nat.{_+_}
+use mathlib.Core.Path.{sym, _∙_}
 use lib.ListN.{drop}
 use mathlib.Core.List.{[], _∷_}
 use Rattle.canonical.proofs.Between.{special-nel, special-ls, special-none}
@@ -8,40 +6,28 @@ use Rattle.eols.proofs.LineEnds.{begins-cons}
 use borrow.Author.Needs.{needs}
 use Rattle.canonical.proofs.special_width.Statement.{statement}
 use Rattle.canonical.proofs.special_width.Tie as tie
-use Rattle.canonical.proofs.special_width.Reads as reads
-use Rattle.canonical.proofs.special_width.Lts as lts
-use Rattle.eols.proofs.byte_at.Reads as byte-at-reads
-use Rattle.eols.proofs.two_at.Reads as two-at-reads
 
--- src/lib.rt:53:8
 two-at-requires : tie.Need-two-at-requires
 two-at-requires c κs = search needs
 
--- src/lib.rt:54:9
 returns : tie.Need-returns
 returns c = sym (special-nel (drop (c .before .before .before .args .i) (c .before .before .before .args .value .now)) (sym (c .before .two-at .ensures) ∙ c .if1 .taken))
 
--- src/lib.rt:56:8
 byte-at-requires : tie.Need-byte-at-requires
 byte-at-requires c κs = search needs
 
--- src/lib.rt:57:32
 add-two-at : tie.Need-add-two-at
 add-two-at c = search needs
 
--- src/lib.rt:57:12
 two-at-requires-2 : tie.Need-two-at-requires-2
 two-at-requires-2 c κs = search needs
 
--- src/lib.rt:58:13
 returns-2 : tie.Need-returns-2
 returns-2 c = sym (special-ls (drop (c .before .before .before .before .before .before .before .args .i) (c .before .before .before .before .before .before .before .args .value .now)) (sym (c .before .before .before .before .before .two-at .ensures) ∙ c .before .before .before .before .if1 .left) (begins-cons 0xE2 (0x80 ∷ 0xA8 ∷ []) (c .before .before .before .before .before .before .before .args .value .now) (c .before .before .before .before .before .before .before .args .i) ∙ rw (sym (c .before .before .before .byte-at .ensures) ∙ c .before .before .if2 .taken, sym (c .before .two-at2 .ensures) ∙ c .if3 .taken)))
 
--- src/lib.rt:49:1
 returns-3 : tie.Need-returns-3
 returns-3 c = sym (special-none (drop (c .before .before .before .before .before .before .before .args .i) (c .before .before .before .before .before .before .before .args .value .now)) (sym (c .before .before .before .before .before .two-at .ensures) ∙ c .before .before .before .before .if1 .left) (begins-cons 0xE2 (0x80 ∷ 0xA8 ∷ []) (c .before .before .before .before .before .before .before .args .value .now) (c .before .before .before .before .before .before .before .args .i) ∙ rw (sym (c .before .before .before .byte-at .ensures) ∙ c .before .before .if2 .taken, sym (c .before .two-at2 .ensures) ∙ c .if3 .left)))
 
--- src/lib.rt:49:1
 returns-4 : tie.Need-returns-4
 returns-4 c = sym (special-none (drop (c .before .before .before .before .before .args .i) (c .before .before .before .before .before .args .value .now)) (sym (c .before .before .before .two-at .ensures) ∙ c .before .before .if1 .left) (begins-cons 0xE2 (0x80 ∷ 0xA8 ∷ []) (c .before .before .before .before .before .args .value .now) (c .before .before .before .before .before .args .i) ∙ rw (sym (c .before .byte-at .ensures) ∙ c .if2 .left)))
 

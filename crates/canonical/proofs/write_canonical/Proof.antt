@@ -1,7 +1,6 @@
-use mathlib.Core.Path.{_≡_, refl, sym, ap, _∙_}
 use native.Mathlib.Omega.{arith}
-use Prim.Native.Nat.{ℕ, _+_, _-_, _*_, _≤_, _<_}
-use lib.ListN.{length, drop, length-take}
+use Prim.Native.Nat.{_-_, _≤_, _<_}
+use lib.ListN.{length, drop}
 use Rattle.eols.specs.Stops.{ruleFor}
 use Rattle.output.proofs.Written.{Written, written-start, written-as, written-all, written-end, to-come, same-length as same}
 use Rattle.canonical.specs.Canonical.{canonicalFrom, canonical}
@@ -9,14 +8,6 @@ use Rattle.canonical.proofs.Between.{canonical-over, run-room, run-writ
 use borrow.Author.Needs.{needs}
 use Rattle.canonical.proofs.write_canonical.Statement.{statement}
 use Rattle.canonical.proofs.write_canonical.Tie as tie
-use Rattle.canonical.proofs.write_canonical.Reads as reads
-use Rattle.canonical.proofs.write_canonical.Lts as lts
-use Rattle.canonical.proofs.next_special.Reads as next-special-reads
-use Rattle.canonical.proofs.put_special.Reads as put-special-reads
-use Rattle.canonical.proofs.special_length.Reads as special-length-reads
-use Rattle.canonical.proofs.special_width.Reads as special-width-reads
-use Rattle.escape.proofs.escape_chars.Reads as escape-chars-reads
-use Rattle.escape.proofs.write_escaped.Reads as write-escaped-reads
 
 abbrev Inv-loop : tie.InvT-loop
 Inv-loop value newer out₀ chars at₀ i₀ out at i = (i ≤ length value) × Written (canonical (ruleFor newer) value) (canonicalFrom (ruleFor newer) 0 (drop i value)) out₀ out at
@@ -24,82 +15,64 @@ Inv-loop value newer out₀ chars at₀ i₀ out at i = (i ≤ length value) × 
 abbrev μ-loop : tie.MeasureT-loop
 μ-loop value newer out₀ chars at₀ i₀ out at i = length value - i
 
--- src/lib.rt:129:9
 escape-chars-requires : tie.Need-escape-chars-requires Inv-loop μ-loop
 escape-chars-requires c κs = search needs
 
--- src/lib.rt:132:5
 loop-holds : tie.Need-loop-holds Inv-loop μ-loop
 unfolding canonical
 loop-holds c = (omega arith, written-start _ _)
 
--- src/lib.rt:133:13
 next-special-requires : tie.Need-next-special-requires Inv-loop μ-loop
 next-special-requires c κs = c .loop .inv .0
 
--- src/lib.rt:134:37
 sub-write-escaped : tie.Need-sub-write-escaped Inv-loop μ-loop
 sub-write-escaped c = c .next-special .ensures .0 .from
 
--- src/lib.rt:134:37
 part-write-escaped-start : tie.Need-part-write-escaped-start Inv-loop μ-loop
 part-write-escaped-start c = c .next-special .ensures .0 .from
 
--- src/lib.rt:134:37
 part-write-escaped-end : tie.Need-part-write-escaped-end Inv-loop μ-loop
 part-write-escaped-end c = c .next-special .ensures .0 .to
 
--- src/lib.rt:134:60
 sub-write-escaped-2 : tie.Need-sub-write-escaped-2 Inv-loop μ-loop
 sub-write-escaped-2 c = omega (arith, to-come (c .before .before .loop .inv .1), same (c .before .before .loop .inv .1) (c .before .before .before .before .before .before .pre), c .before .before .before .before .before .before .pre)
 
--- src/lib.rt:134:60
 part-write-escaped-start-2 : tie.Need-part-write-escaped-start-2 Inv-loop μ-loop
 part-write-escaped-start-2 c = omega (arith, to-come (c .before .before .loop .inv .1), same (c .before .before .loop .inv .1) (c .before .before .before .before .before .before .pre), c .before .before .before .before .before .before .pre)
 
--- src/lib.rt:134:60
 part-write-escaped-end-2 : tie.Need-part-write-escaped-end-2 Inv-loop μ-loop
 part-write-escaped-end-2 c = search needs
 
--- src/lib.rt:134:15
 write-escaped-requires : tie.Need-write-escaped-requires Inv-loop μ-loop
 write-escaped-requires c κs = run-room _ _ _ _ (c .before .before .next-special .ensures .0) (c .before .before .before .before .escape-chars .ensures) (c .before .before .before .loop .inv .1) (c .before .before .before .before .before .before .before .pre)
 
--- src/lib.rt:134:9
 add-at : tie.Need-add-at Inv-loop μ-loop
 add-at c = omega (arith, to-come (run-written (ruleFor (c .before .before .before .before .before .before .before .before .before .before .args .newer)) (c .before .before .before .before .before .before .before .before .before .before .args .value .now) (c .before .before .before .before .before .before .loop .i) (c .before .before .before .before .before .next-special .result) (c .before .before .before .before .before .next-special .ensures .0) (c .before .before .before .before .before .before .before .escape-chars .ensures) (c .before .before .before .before .before .before .loop .inv .1) (c .before .before .write-escaped .ensures .0) (c .before .before .write-escaped .ensures .1)), c .before .before .before .before .before .before .before .before .before .before .pre)
 
--- src/lib.rt:136:13
 same-length : tie.Need-same-length Inv-loop μ-loop
 same-length c = same (run-written (ruleFor (c .before .before .before .before .before .before .before .before .before .before .before .args .newer)) (c .before .before .before .before .before .before .before .before .before .before .before .args .value .now) (c .before .before .before .before .before .before .before .loop .i) (c .before .before .before .before .before .before .next-special .result) (c .before .before .before .before .before .before .next-special .ensures .0) (c .before .before .before .before .before .before .before .before .escape-chars .ensures) (c .before .before .before .before .before .before .before .loop .inv .1) (c .before .before .before .write-escaped .ensures .0) (c .before .before .before .write-escaped .ensures .1)) (c .before .before .before .before .before .before .before .before .before .before .before .pre)
 
--- src/lib.rt:136:13
 returns : tie.Need-returns Inv-loop μ-loop
 returns c =
     let w = written-as (canonical-over (ruleFor (c .before .before .before .before .before .before .before .before .before .before .before .args .newer)) (c .before .before .before .before .before .before .before .before .before .before .before .args .value .now) (c .before .before .before .before .before .before .next-special .result) (omega (arith, c .if1 .taken))) (run-written (ruleFor (c .before .before .before .before .before .before .before .before .before .before .before .args .newer)) (c .before .before .before .before .before .before .before .before .before .before .before .args .value .now) (c .before .before .before .before .before .before .before .loop .i) (c .before .before .before .before .before .before .next-special .result) (c .before .before .before .before .before .before .next-special .ensures .0) (c .before .before .before .before .before .before .before .before .escape-chars .ensures) (c .before .before .before .before .before .before .before .loop .inv .1) (c .before .before .before .write-escaped .ensures .0) (c .before .before .before .write-escaped .ensures .1)) in
     (written-all w, written-end w)
 
--- src/lib.rt:138:13
 special-width-requires : tie.Need-special-width-requires Inv-loop μ-loop
 special-width-requires c κs = omega (arith, c .if1 .left, c .before .before .before .before .before .before .next-special .ensures .0 .to)
 
--- src/lib.rt:139:28
 sub-put-special : tie.Need-sub-put-special Inv-loop μ-loop
 sub-put-special c =
     let w = run-written (ruleFor (c .before .before .before .before .before .before .before .before .before .before .before .before .args .newer)) (c .before .before .before .before .before .before .before .before .before .before .before .before .args .value .now) (c .before .before .before .before .before .before .before .before .loop .i) (c .before .before .before .before .before .before .before .next-special .result) (c .before .before .before .before .before .before .before .next-special .ensures .0) (c .before .before .before .before .before .before .before .before .before .escape-chars .ensures) (c .before .before .before .before .before .before .before .before .loop .inv .1) (c .before .before .before .before .write-escaped .ensures .0) (c .before .before .before .before .write-escaped .ensures .1) in
     omega (arith, to-come w, same w (c .before .before .before .before .before .before .before .before .before .before .before .before .pre), c .before .before .before .before .before .before .before .before .before .before .before .before .pre)
 
--- src/lib.rt:139:28
 part-put-special-start : tie.Need-part-put-special-start Inv-loop μ-loop
 part-put-special-start c =
     let w = run-written (ruleFor (c .before .before .before .before .before .before .before .before .before .before .before .before .args .newer)) (c .before .before .before .before .before .before .before .before .before .before .before .before .args .value .now) (c .before .before .before .before .before .before .before .before .loop .i) (c .before .before .before .before .before .before .before .next-special .result) (c .before .before .before .before .before .before .before .next-special .ensures .0) (c .before .before .before .before .before .before .before .before .before .escape-chars .ensures) (c .before .before .before .before .before .before .before .before .loop .inv .1) (c .before .before .before .before .write-escaped .ensures .0) (c .before .before .before .before .write-escaped .ensures .1) in
     omega (arith, to-come w, same w (c .before .before .before .before .before .before .before .before .before .before .before .before .pre), c .before .before .before .before .before .before .before .before .before .before .before .before .pre)
 
--- src/lib.rt:139:28
 part-put-special-end : tie.Need-part-put-special-end Inv-loop μ-loop
 part-put-special-end c = search needs
 
--- src/lib.rt:139:9
 put-special-requires : tie.Need-put-special-requires Inv-loop μ-loop
 put-special-requires c κs =
     let e = c .before .before .before .before .before .before .before .before .next-special .result in
@@ -107,11 +80,9 @@ put-special-requires c κs =
     let w = run-written (ruleFor (c .before .before .before .before .before .before .before .before .before .before .before .before .before .args .newer)) (c .before .before .before .before .before .before .before .before .before .before .before .before .before .args .value .now) (c .before .before .before .before .before .before .before .before .before .loop .i) e (c .before .before .before .before .before .before .before .before .next-special .ensures .0) (c .before .before .before .before .before .before .before .before .before .before .escape-chars .ensures) (c .before .before .before .before .before .before .before .before .before .loop .inv .1) (c .before .before .before .before .before .write-escaped .ensures .0) (c .before .before .before .before .before .write-escaped .ensures .1) in
     own-room (c .before .before .before .before .before .before .before .before .before .before .before .before .before .args .newer) (c .before .before .before .before .before .before .before .before .before .before .before .before .before .args .value .now) e inside (c .before .before .before .before .before .before .before .before .next-special .ensures .1 inside) (c .before .special-width .ensures) w (c .before .before .before .before .before .before .before .before .before .before .before .before .before .pre)
 
--- src/lib.rt:140:15
 special-length-requires : tie.Need-special-length-requires Inv-loop μ-loop
 special-length-requires c κs = search needs
 
--- src/lib.rt:140:9
 add-at-2 : tie.Need-add-at-2 Inv-loop μ-loop
 add-at-2 c =
     let e = c .before .before .before .before .before .before .before .before .before .before .before .before .next-special .result in
@@ -119,15 +90,12 @@ add-at-2 c =
     let w = run-written (ruleFor (c .before .before .before .before .before .before .before .before .before .before .before .before .before .before .before .before .before .args .newer)) (c .before .before .before .before .before .before .before .before .before .before .before .before .before .before .before .before .before .args .value .now) (c .before .before .before .before .before .before .before .before .before .before .before .before .before .loop .i) e (c .before .before .before .before .before .before .before .before .before .before .before .before .next-special .ensures .0) (c .before .before .before .before .before .before .before .before .before .before .before .before .before .before .escape-chars .ensures) (c .before .before .before .before .before .before .before .before .before .before .before .before .before .loop .inv .1) (c .before .before .before .before .before .before .before .before .before .write-escaped .ensures .0) (c .before .before .before .before .before .before .before .before .before .write-escaped .ensures .1) in
     omega (arith, to-come (own-written (c .before .before .before .before .before .before .before .before .before .before .before .before .before .before .before .before .before .args .newer) (c .before .before .before .before .before .before .before .before .before .before .before .before .before .before .before .before .before .args .value .now) e inside (c .before .before .before .before .before .before .before .before .before .before .before .before .next-special .ensures .1 inside) (c .before .before .before .before .before .special-width .ensures) w (c .special-length .ensures .0) (c .before .before .before .put-special .ensures)), c .before .before .before .before .before .before .before .before .before .before .before .before .before .before .before .before .before .pre)
 
--- src/lib.rt:141:13
 add-i : tie.Need-add-i Inv-loop μ-loop
 add-i c = omega (arith, own-inside (c .before .before .before .before .before .before .before .before .before .before .before .before .before .before .before .before .before .args .newer) (c .before .before .before .before .before .before .before .before .before .before .before .before .before .before .before .before .before .args .value .now) (c .before .before .before .before .before .before .before .before .before .before .before .before .next-special .result) (omega (arith, c .before .before .before .before .before .before .if1 .left, c .before .before .before .before .before .before .before .before .before .before .before .before .next-special .ensures .0 .to)) (c .before .before .before .before .before .before .before .before .before .before .before .before .next-special .ensures .1 (omega (arith, c .before .before .before .before .before .before .if1 .left, c .before .before .before .before .before .before .before .before .before .before .before .before .next-special .ensures .0 .to))) (c .before .before .before .before .before .special-width .ensures))
 
--- src/lib.rt:132:5
 loop-less : tie.Need-loop-less Inv-loop μ-loop
 loop-less c = omega (arith, c .before .before .before .before .before .before .before .before .before .before .before .before .next-special .ensures .0 .from, own-least (c .before .before .before .before .before .before .before .before .before .before .before .before .before .before .before .before .before .args .newer) (c .before .before .before .before .before .before .before .before .before .before .before .before .before .before .before .before .before .args .value .now) (c .before .before .before .before .before .before .before .before .before .before .before .before .next-special .result) (omega (arith, c .before .before .before .before .before .before .if1 .left, c .before .before .before .before .before .before .before .before .before .before .before .before .next-special .ensures .0 .to)) (c .before .before .before .before .before .before .before .before .before .before .before .before .next-special .ensures .1 (omega (arith, c .before .before .before .before .before .before .if1 .left, c .before .before .before .before .before .before .before .before .before .before .before .before .next-special .ensures .0 .to))) (c .before .before .before .before .before .special-width .ensures), own-inside (c .before .before .before .before .before .before .before .before .before .before .before .before .before .before .before .before .before .args .newer) (c .before .before .before .before .before .before .before .before .before .before .before .before .before .before .before .before .before .args .value .now) (c .before .before .before .before .before .before .before .before .before .before .before .before .next-special .result) (omega (arith, c .before .before .before .before .before .before .if1 .left, c .before .before .before .before .before .before .before .before .before .before .before .before .next-special .ensures .0 .to)) (c .before .before .before .before .before .before .before .before .before .before .before .before .next-special .ensures .1 (omega (arith, c .before .before .before .before .before .before .if1 .left, c .before .before .before .before .before .before .before .before .before .before .before .before .next-special .ensures .0 .to))) (c .before .before .before .before .before .special-width .ensures))
 
--- src/lib.rt:132:5
 loop-again : tie.Need-loop-again Inv-loop μ-loop
 loop-again c =
     let e = c .before .before .before .before .before .before .before .before .before .before .before .before .next-special .result in

@@ -1,6 +1,6 @@
 -- `charref::quick_digits` reads the number up to the `;`. The invariant: the bytes passed are digits, and write the value so far. Assumes nothing.
 use lib.ListN.{length}
-use Prim.Native.Nat.{_-_, _*_}
+use Prim.Native.Nat.{_-_}
 use native.Mathlib.Omega.{arith}
 use mathlib.Core.Path.{refl}
 use Rattle.charref.proofs.Numbers.{product}

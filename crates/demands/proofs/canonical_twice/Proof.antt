@@ -2,70 +2,53 @@ use Rattle.demands.proofs.Again.{asked, canonical-stops, canonical-fits
 use borrow.Author.Needs.{needs}
 use Rattle.demands.proofs.canonical_twice.Statement.{statement}
 use Rattle.demands.proofs.canonical_twice.Tie as tie
-use Rattle.demands.proofs.canonical_twice.Reads as reads
-use Rattle.demands.proofs.canonical_twice.Lts as lts
-use Rattle.govlezna.proofs.govlezna_canonical_form.Reads as govlezna-canonical-form-reads
 
--- src/lib.rt:42:9
 govlezna-canonical-form-requires : tie.Need-govlezna-canonical-form-requires
 govlezna-canonical-form-requires c κs = search needs
 
--- src/lib.rt:46:9
 same-length : tie.Need-same-length
 same-length c = search needs
 
--- src/lib.rt:46:9
 same-length-2 : tie.Need-same-length-2
 same-length-2 c = search needs
 
--- src/lib.rt:46:9
 returns : tie.Need-returns
 returns c =
     let a = c .before .before .before .before .before .before .before .before .before .before .before .before .before .before .before .args in
     canonical-stops (asked (a .text .now) (a .version) (a .depth) (a .limit) (a .list .now) (a .pool .now)) (a .scratch .now) (a .out .now) (a .again .now) (c .before .before .before .before .before .govlezna-canonical-form .ensures) (c .if1 .taken)
 
--- src/lib.rt:48:18
 element-copy-out-length : tie.Need-element-copy-out-length
 element-copy-out-length c = search needs
 
--- src/lib.rt:51:9
 slice-reshare-prefix-govlezna-canonical-form :
     tie.Need-slice-reshare-prefix-govlezna-canonical-form
 slice-reshare-prefix-govlezna-canonical-form c =
     let a = c .before .before .before .before .before .before .before .before .before .before .before .before .before .before .before .before .args in
     canonical-fits (asked (a .text .now) (a .version) (a .depth) (a .limit) (a .list .now) (a .pool .now)) (a .scratch .now) (a .out .now) (a .again .now) (c .before .before .before .before .before .before .govlezna-canonical-form .ensures) (c .before .if1 .left)
 
--- src/lib.rt:51:9
 slice-aggregate-govlezna-canonical-form : tie.Need-slice-aggregate-govlezna-canonical-form
 slice-aggregate-govlezna-canonical-form c =
     let a = c .before .before .before .before .before .before .before .before .before .before .before .before .before .before .before .before .before .args in
     taken-size _ _ (canonical-fits (asked (a .text .now) (a .version) (a .depth) (a .limit) (a .list .now) (a .pool .now)) (a .scratch .now) (a .out .now) (a .again .now) (c .before .before .before .before .before .before .before .govlezna-canonical-form .ensures) (c .before .before .if1 .left))
 
--- src/lib.rt:55:9
 slice-aggregate-govlezna-canonical-form-2 : tie.Need-slice-aggregate-govlezna-canonical-form-2
 slice-aggregate-govlezna-canonical-form-2 c = search needs
 
--- src/lib.rt:56:9
 slice-aggregate-govlezna-canonical-form-3 : tie.Need-slice-aggregate-govlezna-canonical-form-3
 slice-aggregate-govlezna-canonical-form-3 c = search needs
 
--- src/lib.rt:50:5
 govlezna-canonical-form-requires-2 : tie.Need-govlezna-canonical-form-requires-2
 govlezna-canonical-form-requires-2 c κs = search needs
 
--- src/lib.rt:28:1
 same-length-3 : tie.Need-same-length-3
 same-length-3 c = search needs
 
--- src/lib.rt:28:1
 same-length-4 : tie.Need-same-length-4
 same-length-4 c = search needs
 
--- src/lib.rt:28:1
 same-length-5 : tie.Need-same-length-5
 same-length-5 c = search needs
 
--- src/lib.rt:28:1
 returns-2 : tie.Need-returns-2
 returns-2 c =
     let a = c .before .before .before .before .before .before .before .before .before .before .before .before .before .before .before .before .before .before .before .before .before .before .before .before .before .before .before .args in

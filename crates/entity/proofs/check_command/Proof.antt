@@ -5,13 +5,6 @@ use Rattle.entity.proofs.Reading.{declaration-at}
 use borrow.Author.Needs.{needs}
 use Rattle.entity.proofs.check_command.Statement.{statement}
 use Rattle.entity.proofs.check_command.Tie as tie
-use Rattle.entity.proofs.check_command.Reads as reads
-use Rattle.entity.proofs.check_command.Lts as lts
-use Rattle.entity.proofs.check_declaration.Reads as check-declaration-reads
-use Rattle.entity.proofs.refused.Reads as refused-reads
-use Rattle.entity.proofs.u16_at.Reads as u16-at-reads
-use Rattle.entity.proofs.u32_at.Reads as u32-at-reads
-use Rattle.entity.proofs.wide.Reads as wide-reads
 
 sub-if1 : tie.Need-sub-if1
 sub-if1 c = search needs

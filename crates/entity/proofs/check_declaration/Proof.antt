@@ -4,10 +4,6 @@ use native.Mathlib.Omega.{arith}
 use borrow.Author.Needs.{needs}
 use Rattle.entity.proofs.check_declaration.Statement.{statement}
 use Rattle.entity.proofs.check_declaration.Tie as tie
-use Rattle.entity.proofs.check_declaration.Reads as reads
-use Rattle.entity.proofs.check_declaration.Lts as lts
-use Rattle.entity.proofs.ill_formed.Reads as ill-formed-reads
-use Rattle.entity.proofs.refused.Reads as refused-reads
 
 add-name-end : tie.Need-add-name-end
 add-name-end c = search needs

@@ -4,9 +4,6 @@ use Rattle.entity.proofs.Commands.{last-none, last-other, last-more, la
 use borrow.Author.Needs.{needs}
 use Rattle.entity.proofs.check_end.Statement.{statement}
 use Rattle.entity.proofs.check_end.Tie as tie
-use Rattle.entity.proofs.check_end.Reads as reads
-use Rattle.entity.proofs.check_end.Lts as lts
-use Rattle.entity.proofs.refused.Reads as refused-reads
 
 refused-requires : tie.Need-refused-requires
 refused-requires c κs = search needs

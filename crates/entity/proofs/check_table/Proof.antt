@@ -8,12 +8,6 @@ use Prim.Native.Nat.{_-_}
 use Rattle.entity.proofs.Commands.{Standing, start, long-list, long-pool, finish, refuses, goes-on}
 use Rattle.entity.proofs.check_table.Statement.{statement}
 use Rattle.entity.proofs.check_table.Tie as tie
-use Rattle.entity.proofs.check_table.Reads as reads
-use Rattle.entity.proofs.check_table.Lts as lts
-use Rattle.entity.proofs.ascii_of.Reads as ascii-of-reads
-use Rattle.entity.proofs.check_command.Reads as check-command-reads
-use Rattle.entity.proofs.check_end.Reads as check-end-reads
-use Rattle.entity.proofs.refused.Reads as refused-reads
 
 abbrev Inv-loop : tie.InvT-loop
 Inv-loop list pool ascii at₀ count₀ at count = Standing list pool at count

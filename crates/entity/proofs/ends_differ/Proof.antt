@@ -8,9 +8,6 @@ use Rattle.entity.proofs.Lookup.{differ-u32}
 use borrow.Author.Needs.{needs}
 use Rattle.entity.proofs.ends_differ.Statement.{statement}
 use Rattle.entity.proofs.ends_differ.Tie as tie
-use Rattle.entity.proofs.ends_differ.Reads as reads
-use Rattle.entity.proofs.ends_differ.Lts as lts
-use Rattle.entity.proofs.u32_at.Reads as u32-at-reads
 
 returns : tie.Need-returns
 returns c = λ e. absurd (true≢false (sym e))

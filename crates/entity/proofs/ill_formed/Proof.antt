@@ -3,9 +3,6 @@ use borrow.Author.Tests.{eq-eqb, ne-eqb}
 use borrow.Author.Needs.{needs}
 use Rattle.entity.proofs.ill_formed.Statement.{statement}
 use Rattle.entity.proofs.ill_formed.Tie as tie
-use Rattle.entity.proofs.ill_formed.Reads as reads
-use Rattle.entity.proofs.ill_formed.Lts as lts
-use Rattle.entity.proofs.is_utf8.Reads as is-utf8-reads
 
 returns : tie.Need-returns
 returns c = rw (eq-eqb _ _ (c .if1 .taken))

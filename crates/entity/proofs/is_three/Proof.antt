@@ -4,8 +4,6 @@ use Rattle.entity.proofs.Predefined.{unlike, same-three}
 use borrow.Author.Needs.{needs}
 use Rattle.entity.proofs.is_three.Statement.{statement}
 use Rattle.entity.proofs.is_three.Tie as tie
-use Rattle.entity.proofs.is_three.Reads as reads
-use Rattle.entity.proofs.is_three.Lts as lts
 
 returns : tie.Need-returns
 returns c = sym (unlike (c .before .args .name .now) (c .before .args .a ∷ c .before .args .b ∷ c .before .args .c ∷ []) (c .if1 .taken))

@@ -8,14 +8,6 @@ use Rattle.entity.specs.Steps.{Agree}
 use Rattle.entity.proofs.Lookup.{Here, begin, in-list, over, command, on, hit, agree-more, same-all, differ-length, differ-at}
 use Rattle.entity.proofs.resolve_entity.Statement.{statement}
 use Rattle.entity.proofs.resolve_entity.Tie as tie
-use Rattle.entity.proofs.resolve_entity.Reads as reads
-use Rattle.entity.proofs.resolve_entity.Lts as lts
-use Rattle.entity.proofs.ends_differ.Reads as ends-differ-reads
-use Rattle.entity.proofs.resolve_xml_entity.Reads as resolve-xml-entity-reads
-use Rattle.entity.proofs.same_words.Reads as same-words-reads
-use Rattle.entity.proofs.text_at.Reads as text-at-reads
-use Rattle.entity.proofs.u32_at.Reads as u32-at-reads
-use Rattle.entity.proofs.wide.Reads as wide-reads
 
 abbrev Inv-bytes : tie.InvT-bytes
 Inv-bytes list pool name at n start i₀ i = Agree pool start name i

@@ -8,13 +8,6 @@ use Rattle.entity.specs.Table.{littleEndian}
 use Rattle.entity.proofs.Lookup.{Here, begin, in-list, over, command, on, hit, differ-length}
 use Rattle.entity.proofs.resolve_short.Statement.{statement}
 use Rattle.entity.proofs.resolve_short.Tie as tie
-use Rattle.entity.proofs.resolve_short.Reads as reads
-use Rattle.entity.proofs.resolve_short.Lts as lts
-use Rattle.entity.proofs.resolve_xml_entity.Reads as resolve-xml-entity-reads
-use Rattle.entity.proofs.same_name.Reads as same-name-reads
-use Rattle.entity.proofs.text_at.Reads as text-at-reads
-use Rattle.entity.proofs.u32_at.Reads as u32-at-reads
-use Rattle.entity.proofs.wide.Reads as wide-reads
 
 abbrev Inv-loop : tie.InvT-loop
 Inv-loop list pool name at₀ at = Here list pool name at

@@ -5,11 +5,6 @@ use Rattle.entity.proofs.Predefined.{is-lt, is-gt, is-amp, is-apos, is-
 use borrow.Author.Needs.{needs}
 use Rattle.entity.proofs.resolve_xml_entity.Statement.{statement}
 use Rattle.entity.proofs.resolve_xml_entity.Tie as tie
-use Rattle.entity.proofs.resolve_xml_entity.Reads as reads
-use Rattle.entity.proofs.resolve_xml_entity.Lts as lts
-use Rattle.entity.proofs.is_three.Reads as is-three-reads
-use Rattle.entity.proofs.u16_at.Reads as u16-at-reads
-use Rattle.entity.proofs.u32_at.Reads as u32-at-reads
 
 u16-at-requires : tie.Need-u16-at-requires
 u16-at-requires c κs = search needs

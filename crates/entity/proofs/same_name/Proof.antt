@@ -6,8 +6,6 @@ use Rattle.entity.specs.Steps.{Agree}
 use Rattle.entity.proofs.Lookup.{agree-none, agree-more, same-all, differ-at}
 use Rattle.entity.proofs.same_name.Statement.{statement}
 use Rattle.entity.proofs.same_name.Tie as tie
-use Rattle.entity.proofs.same_name.Reads as reads
-use Rattle.entity.proofs.same_name.Lts as lts
 
 abbrev Inv-loop : tie.InvT-loop
 Inv-loop pool start name i₀ i = Agree pool start name i

@@ -6,9 +6,6 @@ use Rattle.entity.specs.Steps.{Agree}
 use Rattle.entity.proofs.Lookup.{agree-none, agree-word}
 use Rattle.entity.proofs.same_words.Statement.{statement}
 use Rattle.entity.proofs.same_words.Tie as tie
-use Rattle.entity.proofs.same_words.Reads as reads
-use Rattle.entity.proofs.same_words.Lts as lts
-use Rattle.text.proofs.validate.word.Reads as word-reads
 
 abbrev Inv-loop : tie.InvT-loop
 Inv-loop pool start name i₀ i = Agree pool start name i

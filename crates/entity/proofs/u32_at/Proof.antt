@@ -3,9 +3,6 @@ use native.Mathlib.Omega.{arith}
 use borrow.Author.Needs.{needs}
 use Rattle.entity.proofs.u32_at.Statement.{statement}
 use Rattle.entity.proofs.u32_at.Tie as tie
-use Rattle.entity.proofs.u32_at.Reads as reads
-use Rattle.entity.proofs.u32_at.Lts as lts
-use Rattle.entity.proofs.wide.Reads as wide-reads
 
 shared-slice-read-wide : tie.Need-shared-slice-read-wide
 shared-slice-read-wide c = search needs

@@ -1,19 +1,15 @@
-use mathlib.Core.Path.{_≡_, refl, sym, ap, _∙_}
+use mathlib.Core.Path.{_≡_, sym, _∙_}
 use Prim.Native.Nat.{ℕ, _+_, _-_, _≤_, _<_}
 use native.Mathlib.Omega.{arith}
-use lib.ListN.{length, drop, getD}
-use mathlib.Core.Bool.{Bool, true, false}
+use lib.ListN.{getD}
+use mathlib.Core.Bool.{false}
 use borrow.Author.Count.{below-none, below-more}
 use Rattle.text.proofs.Bytes.{or-left, or-right}
 use Rattle.eols.specs.Stops.{stopByte}
-use Rattle.output.specs.Runs.{Plain}
 use Rattle.output.proofs.Runs.{plain-of}
 use borrow.Author.Needs.{needs}
 use Rattle.eols.proofs.any_stop.Statement.{statement}
 use Rattle.eols.proofs.any_stop.Tie as tie
-use Rattle.eols.proofs.any_stop.Reads as reads
-use Rattle.eols.proofs.any_stop.Lts as lts
-use Rattle.eols.proofs.is_stop.Reads as is-stop-reads
 
 abbrev Inv-loop : tie.InvT-loop
 Inv-loop text i newer hit₀ k₀ hit k = (k ≤ 16) × (hit ≡ false → (m : ℕ) → m < k → stopByte newer (getD text (i + m) 0) ≡ false)

@@ -1,14 +1,9 @@
 use mathlib.Core.List.{[]}
-use mathlib.Core.Path.{_≡_, refl, sym, ap, _∙_}
-use Prim.Native.Nat.{ℕ, _+_, _-_, _≤_, _<_}
-use native.Mathlib.Omega.{arith}
-use lib.ListN.{length, drop, getD}
+use Prim.Native.Nat.{_-_}
 use Rattle.eols.proofs.LineEnds.{begins-out, begins-one}
 use borrow.Author.Needs.{needs}
 use Rattle.eols.proofs.byte_at.Statement.{statement}
 use Rattle.eols.proofs.byte_at.Tie as tie
-use Rattle.eols.proofs.byte_at.Reads as reads
-use Rattle.eols.proofs.byte_at.Lts as lts
 
 returns : tie.Need-returns
 returns c = begins-out (c .before .args .b) [] (c .before .args .text .now) (c .before .args .i) (c .if1 .taken)

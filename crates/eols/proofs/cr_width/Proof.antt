@@ -1,15 +1,10 @@
-use mathlib.Core.Path.{_≡_, refl, sym, ap, _∙_}
-use Prim.Native.Nat.{ℕ, _+_, _-_, _≤_, _<_}
-use native.Mathlib.Omega.{arith}
-use lib.ListN.{length, drop, getD}
+use mathlib.Core.Path.{sym, _∙_}
+use Prim.Native.Nat.{_+_, _-_}
+use lib.ListN.{drop, getD}
 use Rattle.eols.proofs.LineEnds.{at-head, cr-lf, cr-nel, cr-alone10, cr-alone11}
 use borrow.Author.Needs.{needs}
 use Rattle.eols.proofs.cr_width.Statement.{statement}
 use Rattle.eols.proofs.cr_width.Tie as tie
-use Rattle.eols.proofs.cr_width.Reads as reads
-use Rattle.eols.proofs.cr_width.Lts as lts
-use Rattle.eols.proofs.byte_at.Reads as byte-at-reads
-use Rattle.eols.proofs.two_at.Reads as two-at-reads
 
 add-byte-at : tie.Need-add-byte-at
 add-byte-at c = search needs

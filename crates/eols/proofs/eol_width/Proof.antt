@@ -1,15 +1,10 @@
-use mathlib.Core.Path.{_≡_, refl, sym, ap, _∙_}
-use Prim.Native.Nat.{ℕ, _+_, _-_, _≤_, _<_}
-use native.Mathlib.Omega.{arith}
-use lib.ListN.{length, drop, getD}
+use mathlib.Core.Path.{sym}
+use Prim.Native.Nat.{_+_, _-_}
+use lib.ListN.{drop, getD}
 use Rattle.eols.proofs.LineEnds.{at-head, lf-alone, none10}
 use borrow.Author.Needs.{needs}
 use Rattle.eols.proofs.eol_width.Statement.{statement}
 use Rattle.eols.proofs.eol_width.Tie as tie
-use Rattle.eols.proofs.eol_width.Reads as reads
-use Rattle.eols.proofs.eol_width.Lts as lts
-use Rattle.eols.proofs.cr_width.Reads as cr-width-reads
-use Rattle.eols.proofs.newer_width.Reads as newer-width-reads
 
 shared-slice-read-if1 : tie.Need-shared-slice-read-if1
 shared-slice-read-if1 c = search needs

@@ -1,5 +1,5 @@
-use mathlib.Core.Path.{_≡_, refl, sym, ap, _∙_}
-use Prim.Native.Nat.{ℕ, _+_, _-_, _≤_, _<_}
+use mathlib.Core.Path.{_≡_, sym, ap, _∙_}
+use Prim.Native.Nat.{_+_, _-_, _≤_}
 use native.Mathlib.Omega.{arith}
 use lib.ListN.{length, drop}
 use Rattle.eols.specs.LineEnds.{eolsFrom, eols}
@@ -7,10 +7,6 @@ use Rattle.eols.specs.Stops.{ruleFor}
 use Rattle.eols.proofs.Writing.{eols-over, run-counts, step-length}
 use Rattle.eols.proofs.eols_length.Statement.{statement}
 use Rattle.eols.proofs.eols_length.Tie as tie
-use Rattle.eols.proofs.eols_length.Reads as reads
-use Rattle.eols.proofs.eols_length.Lts as lts
-use Rattle.eols.proofs.normalize_eol_step.Reads as normalize-eol-step-reads
-use Rattle.eols.proofs.plain_end.Reads as plain-end-reads
 
 abbrev Inv-loop : tie.InvT-loop
 Inv-loop text newer n₀ i₀ n i = (i ≤ length text) × (n ≤ i) × (length (eols (ruleFor newer) text) ≡ n + length (eolsFrom (ruleFor newer) 0 (drop i text)))

@@ -1,14 +1,9 @@
-use mathlib.Core.Path.{_≡_, refl, sym, ap, _∙_}
-use Prim.Native.Nat.{ℕ, _+_, _-_, _≤_, _<_}
-use native.Mathlib.Omega.{arith}
-use lib.ListN.{length, drop, getD}
+use mathlib.Core.Path.{sym, _∙_}
+use Prim.Native.Nat.{_-_}
 use Rattle.eols.proofs.LineEnds.{step-copies, step-ends}
 use borrow.Author.Needs.{needs}
 use Rattle.eols.proofs.normalize_eol_step.Statement.{statement}
 use Rattle.eols.proofs.normalize_eol_step.Tie as tie
-use Rattle.eols.proofs.normalize_eol_step.Reads as reads
-use Rattle.eols.proofs.normalize_eol_step.Lts as lts
-use Rattle.eols.proofs.eol_width.Reads as eol-width-reads
 
 eol-width-requires : tie.Need-eol-width-requires
 eol-width-requires c κs = search needs

@@ -1,10 +1,8 @@
 use lib.Dec.{ltb}
 use Rattle.eols.specs.Stops.{ruleFor}
-use mathlib.Core.Path.{_≡_, refl, sym, ap, _∙_}
+use mathlib.Core.Path.{refl, ap, _∙_}
 use mathlib.Core.Logic.{⊎-elim}
-use mathlib.Core.List.{List}
 use native.Mathlib.Omega.{arith}
-use Prim.Native.Nat.{ℕ, _≤_}
 use lib.ListN.{length}
 use Rattle.text.specs.Call.{laid}
 use Rattle.text.specs.Version.{Rule, ruleOf}
@@ -15,10 +13,6 @@ use Rattle.eols.proofs.Normal.{eols-length as no-longer}
 use borrow.Author.Needs.{needs}
 use Rattle.eols.proofs.normalize_eols.Statement.{statement}
 use Rattle.eols.proofs.normalize_eols.Tie as tie
-use Rattle.eols.proofs.normalize_eols.Reads as reads
-use Rattle.eols.proofs.normalize_eols.Lts as lts
-use Rattle.eols.proofs.eols_length.Reads as eols-length-reads
-use Rattle.eols.proofs.write_eols.Reads as write-eols-reads
 
 eols-length-requires : tie.Need-eols-length-requires
 eols-length-requires c κs = search needs

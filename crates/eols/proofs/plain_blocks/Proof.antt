@@ -1,15 +1,11 @@
-use mathlib.Core.Path.{_≡_, refl, sym, ap, _∙_}
-use Prim.Native.Nat.{ℕ, _+_, _-_, _≤_, _<_}
+use Prim.Native.Nat.{_-_}
 use native.Mathlib.Omega.{arith}
-use lib.ListN.{length, drop, getD}
+use lib.ListN.{length}
 use Rattle.eols.specs.Stops.{stopByte}
 use Rattle.output.specs.Runs.{Plain}
 use Rattle.output.proofs.Runs.{plain-none, plain-join}
 use Rattle.eols.proofs.plain_blocks.Statement.{statement}
 use Rattle.eols.proofs.plain_blocks.Tie as tie
-use Rattle.eols.proofs.plain_blocks.Reads as reads
-use Rattle.eols.proofs.plain_blocks.Lts as lts
-use Rattle.eols.proofs.any_stop.Reads as any-stop-reads
 
 abbrev Inv-loop : tie.InvT-loop
 Inv-loop text from newer i₀ i = Plain (stopByte newer) text from i

@@ -1,17 +1,12 @@
-use mathlib.Core.Path.{_≡_, refl, sym, ap, _∙_}
-use Prim.Native.Nat.{ℕ, _+_, _-_, _≤_, _<_}
-use native.Mathlib.Omega.{arith}
-use lib.ListN.{length, drop, getD}
+use mathlib.Core.Path.{sym, _∙_}
+use Prim.Native.Nat.{_-_}
+use lib.ListN.{length}
 use Rattle.eols.specs.Stops.{stopByte}
 use Rattle.output.specs.Runs.{Plain}
 use Rattle.output.proofs.Runs.{plain-byte, plain-join}
 use borrow.Author.Needs.{needs}
 use Rattle.eols.proofs.plain_end.Statement.{statement}
 use Rattle.eols.proofs.plain_end.Tie as tie
-use Rattle.eols.proofs.plain_end.Reads as reads
-use Rattle.eols.proofs.plain_end.Lts as lts
-use Rattle.eols.proofs.is_stop.Reads as is-stop-reads
-use Rattle.eols.proofs.plain_blocks.Reads as plain-blocks-reads
 
 abbrev Inv-loop : tie.InvT-loop
 Inv-loop text from newer i₀ i = Plain (stopByte newer) text from i

@@ -1,7 +1,6 @@
 -- `put_bytes` meets its contract: at each turn the first i bytes are a run, and are laid over the output. Assumes nothing.
-use mathlib.Core.Path.{_≡_, sym, _∙_}
-use Prim.Native.Nat.{ℕ, _+_, _-_, _≤_}
-use native.Mathlib.Omega.{arith}
+use mathlib.Core.Path.{sym, _∙_}
+use Prim.Native.Nat.{_-_}
 use lib.ListN.{length}
 use Rattle.output.specs.Runs.{Copied, Room}
 use Rattle.output.proofs.Runs.{copied-none, copied-length, copied-byte, byte-fits}

@@ -1,14 +1,9 @@
-use mathlib.Core.Path.{_≡_, refl, sym, ap, _∙_}
-use Prim.Native.Nat.{ℕ, _+_, _-_, _≤_, _<_}
-use native.Mathlib.Omega.{arith}
-use lib.ListN.{length, drop, getD}
+use mathlib.Core.Path.{sym, _∙_}
+use Prim.Native.Nat.{_-_}
 use Rattle.eols.proofs.LineEnds.{begins-two, begins-not}
 use borrow.Author.Needs.{needs}
 use Rattle.eols.proofs.two_at.Statement.{statement}
 use Rattle.eols.proofs.two_at.Tie as tie
-use Rattle.eols.proofs.two_at.Reads as reads
-use Rattle.eols.proofs.two_at.Lts as lts
-use Rattle.eols.proofs.byte_at.Reads as byte-at-reads
 
 byte-at-requires : tie.Need-byte-at-requires
 byte-at-requires c κs = search needs

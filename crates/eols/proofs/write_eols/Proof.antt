@@ -1,6 +1,5 @@
 -- `write_eols` meets its contract: at each turn what is written of the first i bytes lies in the output, and the rest of it is kept. Assumes nothing.
-use mathlib.Core.Path.{_≡_, refl, sym, ap, _∙_}
-use Prim.Native.Nat.{ℕ, _+_, _-_, _≤_, _<_}
+use Prim.Native.Nat.{_+_, _-_, _≤_}
 use native.Mathlib.Omega.{arith}
 use lib.ListN.{length, drop}
 use Rattle.eols.specs.LineEnds.{eolsFrom, eols}

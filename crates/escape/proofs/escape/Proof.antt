@@ -1,5 +1,5 @@
 -- `escape` meets its contract: the flags of the level name its set, and there is room by the count or by six bytes for each byte. Assumes nothing.
-use mathlib.Core.Path.{_≡_, ap, _∙_}
+use mathlib.Core.Path.{ap, _∙_}
 use mathlib.Core.Logic.{⊎-elim}
 use Prim.Native.Nat.{_≤_}
 use native.Mathlib.Omega.{arith}

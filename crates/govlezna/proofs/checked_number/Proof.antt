@@ -1,5 +1,5 @@
 -- `checked_number` meets its contract: the first check that refuses answers, and a number needs no check of UTF-8. Assumes nothing.
-use mathlib.Core.Path.{_≡_, sym, ap, _∙_}
+use mathlib.Core.Path.{sym, ap, _∙_}
 use Rattle.charref.specs.CharRef.{numberAnswer, charNumber, anyCharacter}
 use Rattle.charref.proofs.Ascii.{number-utf8}
 use Rattle.govlezna.proofs.Checks.{first-answers, second-answers, later-answers, known-answers}

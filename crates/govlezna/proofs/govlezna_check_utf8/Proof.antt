@@ -5,10 +5,6 @@ use Rattle.govlezna.specs.Calls.{checkUtf8Call}
 use borrow.Author.Needs.{needs}
 use Rattle.govlezna.proofs.govlezna_check_utf8.Statement.{statement}
 use Rattle.govlezna.proofs.govlezna_check_utf8.Tie as tie
-use Rattle.govlezna.proofs.govlezna_check_utf8.Reads as reads
-use Rattle.govlezna.proofs.govlezna_check_utf8.Lts as lts
-use Rattle.govlezna.proofs.put.Reads as put-reads
-use Rattle.text.proofs.check_text.Reads as check-text-reads
 
 check-text-requires : tie.Need-check-text-requires
 check-text-requires c κs = search needs

@@ -1,4 +1,4 @@
-use mathlib.Core.Path.{_≡_, sym, ap, _∙_}
+use mathlib.Core.Path.{sym, ap, _∙_}
 use mathlib.Core.List.{[], _∷_}
 use Rattle.text.specs.Call.{argumentCheck}
 use Rattle.text.proofs.Call.{halts, passes, checked-length}
@@ -6,12 +6,6 @@ use Rattle.govlezna.specs.Calls.{escapeCall}
 use borrow.Author.Needs.{needs}
 use Rattle.govlezna.proofs.govlezna_escape.Statement.{statement}
 use Rattle.govlezna.proofs.govlezna_escape.Tie as tie
-use Rattle.govlezna.proofs.govlezna_escape.Reads as reads
-use Rattle.govlezna.proofs.govlezna_escape.Lts as lts
-use Rattle.escape.proofs.check_level.Reads as check-level-reads
-use Rattle.escape.proofs.escape.Reads as escape-reads
-use Rattle.govlezna.proofs.put.Reads as put-reads
-use Rattle.text.proofs.check_arguments.Reads as check-arguments-reads
 
 check-level-requires : tie.Need-check-level-requires
 check-level-requires c κs = search needs

@@ -1,54 +1,39 @@
-use mathlib.Core.Path.{_≡_, refl, sym, ap, _∙_}
-use mathlib.Core.List.{List, [], _∷_}
-use Rattle.text.specs.declared.Answer.{Answer}
-use Rattle.text.specs.Call.{andThen, argumentCheck, textCheck, utf8Check}
-use Rattle.text.proofs.Call.{goes-on, halts, passes}
-use Rattle.entity.specs.Table.{tableCheck}
+use mathlib.Core.Path.{_∙_}
+use mathlib.Core.List.{[], _∷_}
+use Rattle.text.specs.Call.{andThen, utf8Check}
+use Rattle.text.proofs.Call.{halts, passes}
 use Rattle.attribute.specs.Checks.{settingsCheck}
 use Rattle.govlezna.specs.Calls.{normalizeAttributeValueCall}
 use Rattle.govlezna.proofs.Passing.{passed-table, passed-length, passed-limit}
 use borrow.Author.Needs.{needs}
 use Rattle.govlezna.proofs.govlezna_normalize_attribute_value.Statement.{statement}
 use Rattle.govlezna.proofs.govlezna_normalize_attribute_value.Tie as tie
-use Rattle.govlezna.proofs.govlezna_normalize_attribute_value.Reads as reads
-use Rattle.govlezna.proofs.govlezna_normalize_attribute_value.Lts as lts
-use Rattle.attribute.proofs.normalize_attribute_value.Reads as normalize-attribute-value-reads
-use Rattle.govlezna.proofs.check_walk.Reads as check-walk-reads
-use Rattle.govlezna.proofs.put.Reads as put-reads
 
--- src/lib.rt:196:9
 check-walk-requires : tie.Need-check-walk-requires
 check-walk-requires c κs = search needs
 
 enum-told : tie.Need-enum-told
 enum-told c = search needs
 
--- src/lib.rt:202:34
 enum-told-2 : tie.Need-enum-told-2
 enum-told-2 c = search needs
 
--- src/lib.rt:202:9
 put-requires : tie.Need-put-requires
 put-requires c κs = search needs
 
--- src/lib.rt:202:9
 returns : tie.Need-returns
 unfolding normalizeAttributeValueCall
 returns c = c .put .ensures (c .before .before .before .before .before .before .before .before .before .args .out .now ∷ []) ∙ halts (c .before .before .before .before .before .before .before .before .before .args .out .now ∷ []) _ (c .before .before .before .before .check-walk .ensures) (c .before .before .enum-told2 .given .1)
 
--- src/lib.rt:205:9
 normalize-attribute-value-requires : tie.Need-normalize-attribute-value-requires
 normalize-attribute-value-requires c κs = (passed-table (c .before .before .before .before .before .before .before .before .args .text .now) (c .before .before .before .before .before .before .before .before .args .list .now) (c .before .before .before .before .before .before .before .before .args .pool .now) (andThen (settingsCheck (c .before .before .before .before .before .before .before .before .args .version) (c .before .before .before .before .before .before .before .before .args .depth) (c .before .before .before .before .before .before .before .before .args .limit)) (utf8Check (c .before .before .before .before .before .before .before .before .args .text .now))) (c .before .before .before .check-walk .ensures) (c .before .enum-told .given .1), (passed-length (c .before .before .before .before .before .before .before .before .args .text .now) (c .before .before .before .before .before .before .before .before .args .list .now) (c .before .before .before .before .before .before .before .before .args .pool .now) (andThen (settingsCheck (c .before .before .before .before .before .before .before .before .args .version) (c .before .before .before .before .before .before .before .before .args .depth) (c .before .before .before .before .before .before .before .before .args .limit)) (utf8Check (c .before .before .before .before .before .before .before .before .args .text .now))) (c .before .before .before .check-walk .ensures) (c .before .enum-told .given .1), passed-limit (c .before .before .before .before .before .before .before .before .args .text .now) (c .before .before .before .before .before .before .before .before .args .version) (c .before .before .before .before .before .before .before .before .args .depth) (c .before .before .before .before .before .before .before .before .args .limit) (c .before .before .before .before .before .before .before .before .args .list .now) (c .before .before .before .before .before .before .before .before .args .pool .now) (c .before .before .before .check-walk .ensures) (c .before .enum-told .given .1)))
 
--- src/lib.rt:204:5
 put-requires-2 : tie.Need-put-requires-2
 put-requires-2 c κs = search needs
 
--- src/lib.rt:183:1
 same-length : tie.Need-same-length
 same-length c = search needs
 
--- src/lib.rt:183:1
 returns-2 : tie.Need-returns-2
 unfolding normalizeAttributeValueCall
 returns-2 c = c .put2 .ensures _ ∙ c .before .before .before .before .normalize-attribute-value .ensures ∙ passes (c .before .before .before .before .before .before .before .before .before .before .before .before .before .args .out .now ∷ []) _ (c .before .before .before .before .before .before .before .before .check-walk .ensures) (c .before .before .before .before .before .before .enum-told .given .1)

@@ -1,18 +1,11 @@
-use mathlib.Core.Path.{_≡_, ap, _∙_}
+use mathlib.Core.Path.{ap, _∙_}
 use mathlib.Core.List.{[], _∷_}
 use Rattle.text.specs.Call.{argumentCheck}
-use Rattle.text.specs.declared.Answer.{Answer}
 use Rattle.text.proofs.Call.{halts, passes}
 use Rattle.govlezna.specs.Calls.{normalizeEolsCall}
 use borrow.Author.Needs.{needs}
 use Rattle.govlezna.proofs.govlezna_normalize_eols.Statement.{statement}
 use Rattle.govlezna.proofs.govlezna_normalize_eols.Tie as tie
-use Rattle.govlezna.proofs.govlezna_normalize_eols.Reads as reads
-use Rattle.govlezna.proofs.govlezna_normalize_eols.Lts as lts
-use Rattle.eols.proofs.normalize_eols.Reads as normalize-eols-reads
-use Rattle.govlezna.proofs.put.Reads as put-reads
-use Rattle.text.proofs.check_arguments.Reads as check-arguments-reads
-use Rattle.text.proofs.check_version.Reads as check-version-reads
 
 check-version-requires : tie.Need-check-version-requires
 check-version-requires c κs = search needs

@@ -1,5 +1,5 @@
 use Rattle.charref.specs.CharRef.{numberAnswer, charNumber, anyCharacter}
-use mathlib.Core.Path.{_≡_, ap, _∙_}
+use mathlib.Core.Path.{ap, _∙_}
 use mathlib.Core.List.{[]}
 use Rattle.text.specs.Call.{callOf, textCheck}
 use Rattle.text.specs.declared.Answer.{Answer}

@@ -6,9 +6,6 @@ use Rattle.text.specs.declared.Answer.{Answer}
 use borrow.Author.Needs.{needs}
 use Rattle.govlezna.proofs.put.Statement.{statement}
 use Rattle.govlezna.proofs.put.Tie as tie
-use Rattle.govlezna.proofs.put.Reads as reads
-use Rattle.govlezna.proofs.put.Lts as lts
-use Rattle.govlezna.proofs.answered.Reads as answered-reads
 
 enum-known-result : tie.Need-enum-known-result
 enum-known-result c = search needs

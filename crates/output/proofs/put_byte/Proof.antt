@@ -3,8 +3,6 @@ use lib.Seq.{set-out}
 use borrow.Author.Needs.{needs}
 use Rattle.output.proofs.put_byte.Statement.{statement}
 use Rattle.output.proofs.put_byte.Tie as tie
-use Rattle.output.proofs.put_byte.Reads as reads
-use Rattle.output.proofs.put_byte.Lts as lts
 
 slice-write-out : tie.Need-slice-write-out
 slice-write-out c = search needs

@@ -1,15 +1,11 @@
-use mathlib.Core.Path.{_≡_, sym, _∙_}
+use mathlib.Core.Path.{sym, _∙_}
 use native.Mathlib.Omega.{arith}
-use lib.ListN.{length, take, length-take}
+use lib.ListN.{length-take}
 use lib.Seq.{length-take-le}
 use Rattle.output.proofs.Clip.{over-clipped}
 use borrow.Author.Needs.{needs}
 use Rattle.output.proofs.put_over.Statement.{statement}
 use Rattle.output.proofs.put_over.Tie as tie
-use Rattle.output.proofs.put_over.Reads as reads
-use Rattle.output.proofs.put_over.Lts as lts
-use Rattle.output.proofs.least.Reads as least-reads
-use Rattle.output.proofs.put_run.Reads as put-run-reads
 
 least-requires : tie.Need-least-requires
 least-requires c κs = search needs

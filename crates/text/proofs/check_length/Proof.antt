@@ -1,10 +1,7 @@
 use borrow.Author.Tests.{lt-ltb, le-ltb}
 use Rattle.text.specs.Call.{lengthCheck}
-use borrow.Author.Needs.{needs}
 use Rattle.text.proofs.check_length.Statement.{statement}
 use Rattle.text.proofs.check_length.Tie as tie
-use Rattle.text.proofs.check_length.Reads as reads
-use Rattle.text.proofs.check_length.Lts as lts
 
 returns : tie.Need-returns
 unfolding lengthCheck

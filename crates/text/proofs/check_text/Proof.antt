@@ -3,10 +3,6 @@ use Rattle.text.proofs.Call.{stops, goes-on}
 use borrow.Author.Needs.{needs}
 use Rattle.text.proofs.check_text.Statement.{statement}
 use Rattle.text.proofs.check_text.Tie as tie
-use Rattle.text.proofs.check_text.Reads as reads
-use Rattle.text.proofs.check_text.Lts as lts
-use Rattle.text.proofs.check_length.Reads as check-length-reads
-use Rattle.text.proofs.check_utf8.Reads as check-utf8-reads
 
 check-length-requires : tie.Need-check-length-requires
 check-length-requires c κs = search needs

@@ -1,12 +1,9 @@
-use mathlib.Core.Path.{_≡_, refl, sym, _∙_}
+use mathlib.Core.Path.{sym}
 use borrow.Author.Tests.{eq-eqb, ne-eqb}
 use Rattle.text.specs.Call.{utf8Check}
 use borrow.Author.Needs.{needs}
 use Rattle.text.proofs.check_utf8.Statement.{statement}
 use Rattle.text.proofs.check_utf8.Tie as tie
-use Rattle.text.proofs.check_utf8.Reads as reads
-use Rattle.text.proofs.check_utf8.Lts as lts
-use Rattle.text.proofs.validate.utf8_end.Reads as utf8-end-reads
 
 utf8-end-requires : tie.Need-utf8-end-requires
 utf8-end-requires c κs = search needs

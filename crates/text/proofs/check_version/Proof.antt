@@ -1,10 +1,7 @@
 use borrow.Author.Tests.{lt-leb, le-leb}
 use Rattle.text.specs.Call.{versionCheck}
-use borrow.Author.Needs.{needs}
 use Rattle.text.proofs.check_version.Statement.{statement}
 use Rattle.text.proofs.check_version.Tie as tie
-use Rattle.text.proofs.check_version.Reads as reads
-use Rattle.text.proofs.check_version.Lts as lts
 
 returns : tie.Need-returns
 unfolding versionCheck

@@ -1,83 +1,62 @@
-use mathlib.Core.Path.{sym, ap, subst, _∙_}
+use mathlib.Core.Path.{sym, ap, subst}
 use Rattle.entity.specs.Binding.{Lies, boundTo}
 use Rattle.unescape.proofs.Stops.{named-text, named-predefined, named-unknown}
 use borrow.Author.Needs.{needs}
 use Rattle.unescape.proofs.bound_step.Statement.{statement}
 use Rattle.unescape.proofs.bound_step.Tie as tie
-use Rattle.unescape.proofs.bound_step.Reads as reads
-use Rattle.unescape.proofs.bound_step.Lts as lts
-use Rattle.output.proofs.put_byte.Reads as put-byte-reads
-use Rattle.output.proofs.put_over.Reads as put-over-reads
 
--- src/lib.rt:170:25
 enum-known-bound : tie.Need-enum-known-bound
 enum-known-bound c = search needs
 
--- src/lib.rt:171:30
 sub-put-over : tie.Need-sub-put-over
 sub-put-over c = subst (Lies (c .before .before .before .before .before .args .pool .now)) (c .before .bound .given .1) (c .before .before .before .before .before .pre .1) .0
 
--- src/lib.rt:171:30
 part-put-over-start : tie.Need-part-put-over-start
 part-put-over-start c = subst (Lies (c .before .before .before .before .before .args .pool .now)) (c .before .bound .given .1) (c .before .before .before .before .before .pre .1) .0
 
--- src/lib.rt:171:30
 part-put-over-end : tie.Need-part-put-over-end
 part-put-over-end c = subst (Lies (c .before .before .before .before .before .args .pool .now)) (c .before .bound .given .1) (c .before .before .before .before .before .pre .1) .1
 
--- src/lib.rt:171:13
 put-over-requires : tie.Need-put-over-requires
 put-over-requires c κs = search needs
 
--- src/lib.rt:174:22
 sub-t13 : tie.Need-sub-t13
 sub-t13 c = subst (Lies (c .before .before .before .before .before .before .before .before .before .before .args .pool .now)) (c .before .before .before .before .before .before .bound .given .1) (c .before .before .before .before .before .before .before .before .before .before .pre .1) .0
 
--- src/lib.rt:178:29
 enum-known-bound-2 : tie.Need-enum-known-bound-2
 enum-known-bound-2 c = search needs
 
--- src/lib.rt:179:13
 put-byte-requires : tie.Need-put-byte-requires
 put-byte-requires c κs = search needs
 
--- src/lib.rt:188:21
 enum-told : tie.Need-enum-told
 enum-told c = search needs
 
--- src/lib.rt:188:21
 add-t21 : tie.Need-add-t21
 add-t21 c = search needs
 
--- src/lib.rt:189:22
 add-t23 : tie.Need-add-t23
 add-t23 c = search needs
 
--- src/lib.rt:189:22
 add-t24 : tie.Need-add-t24
 add-t24 c = search needs
 
--- src/lib.rt:157:1
 same-length : tie.Need-same-length
 same-length c = search needs
 
--- src/lib.rt:157:1
 returns : tie.Need-returns
 returns c = λ name n.
     named-text (c .before .before .before .before .before .before .before .before .before .before .args .pool .now) name (c .before .before .before .before .before .before .before .before .before .before .args .i) (c .before .before .before .before .before .before .before .before .before .before .args .next) (c .before .before .before .before .before .before .bound .given .0 .0) (c .before .before .before .before .before .before .bound .given .0 .1 .0)
     (ap (boundTo (c .before .before .before .before .before .before .before .before .before .before .args .pool .now)) (sym (c .before .before .before .before .before .before .bound .given .1))) (subst (Lies (c .before .before .before .before .before .before .before .before .before .before .args .pool .now)) (c .before .before .before .before .before .before .bound .given .1) (c .before .before .before .before .before .before .before .before .before .before .pre .1)) (c .before .before .put-over .ensures)
 
--- src/lib.rt:157:1
 same-length-2 : tie.Need-same-length-2
 same-length-2 c = search needs
 
--- src/lib.rt:157:1
 returns-2 : tie.Need-returns-2
 returns-2 c = λ name n.
     named-predefined (c .before .before .before .before .before .before .before .before .before .args .pool .now) name (c .before .before .before .before .before .before .before .before .before .args .i) (c .before .before .before .before .before .before .before .before .before .args .next) (c .before .before .before .before .before .bound2 .given .0 .0)
     (ap (boundTo (c .before .before .before .before .before .before .before .before .before .args .pool .now)) (sym (c .before .before .before .before .before .bound2 .given .1))) (c .before .before .put-byte .ensures)
 
--- src/lib.rt:157:1
 returns-3 : tie.Need-returns-3
 returns-3 c = λ name n.
     named-unknown (c .before .before .before .before .args .pool .now) name (c .before .before .before .before .args .i) (c .before .before .before .before .args .next) n (ap (boundTo (c .before .before .before .before .args .pool .now)) (sym (c .enum-told .given .1)))

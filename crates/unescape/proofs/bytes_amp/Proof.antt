@@ -8,8 +8,6 @@ use Rattle.output.proofs.Runs.{plain-none, plain-byte, plain-join}
 use Rattle.unescape.specs.Steps.{isAmp}
 use Rattle.unescape.proofs.bytes_amp.Statement.{statement}
 use Rattle.unescape.proofs.bytes_amp.Tie as tie
-use Rattle.unescape.proofs.bytes_amp.Reads as reads
-use Rattle.unescape.proofs.bytes_amp.Lts as lts
 
 abbrev Inv-loop : tie.InvT-loop
 Inv-loop text from i₀ i = Plain isAmp text from i
@@ -17,31 +15,24 @@ Inv-loop text from i₀ i = Plain isAmp text from i
 abbrev μ-loop : tie.MeasureT-loop
 μ-loop text from i₀ i = length text - i
 
--- src/lib.rt:65:5
 loop-holds : tie.Need-loop-holds Inv-loop μ-loop
 loop-holds c = plain-none isAmp (c .args .text .now) (c .args .from) (c .pre)
 
--- src/lib.rt:66:12
 shared-slice-read-if1 : tie.Need-shared-slice-read-if1 Inv-loop μ-loop
 shared-slice-read-if1 c = search needs
 
--- src/lib.rt:67:13
 returns : tie.Need-returns Inv-loop μ-loop
 returns c = record { run = c .before .before .before .loop .inv; ends = λ h. eq-eqb _ 38 (c .if1 .taken) }
 
--- src/lib.rt:69:9
 add-i : tie.Need-add-i Inv-loop μ-loop
 add-i c = search needs
 
--- src/lib.rt:65:5
 loop-less : tie.Need-loop-less Inv-loop μ-loop
 loop-less c = search needs
 
--- src/lib.rt:65:5
 loop-again : tie.Need-loop-again Inv-loop μ-loop
 loop-again c = plain-join isAmp (c .before .before .before .before .args .text .now) (c .before .before .before .before .args .from) (c .before .before .before .loop .i) _ (c .before .before .before .loop .inv) (plain-byte isAmp (c .before .before .before .before .args .text .now) (c .before .before .before .loop .i) (c .before .before .loop-test .taken) (ne-eqb _ 38 (c .if1 .left)))
 
--- src/lib.rt:60:1
 returns-2 : tie.Need-returns-2 Inv-loop μ-loop
 returns-2 c = record { run = c .before .loop .inv; ends = λ h. absurd (omega (arith, c .loop-test .left)) }
 

@@ -1,15 +1,11 @@
 use Prim.Native.Nat.{_-_}
 use native.Mathlib.Omega.{arith}
 use lib.ListN.{length}
-use borrow.Author.Needs.{needs}
 use Rattle.output.specs.Runs.{Plain}
 use Rattle.output.proofs.Runs.{plain-none, plain-join}
 use Rattle.unescape.specs.Steps.{isAmp}
 use Rattle.unescape.proofs.nears_amp.Statement.{statement}
 use Rattle.unescape.proofs.nears_amp.Tie as tie
-use Rattle.unescape.proofs.nears_amp.Reads as reads
-use Rattle.unescape.proofs.nears_amp.Lts as lts
-use Rattle.unescape.proofs.near_amp.Reads as near-amp-reads
 
 abbrev Inv-loop : tie.InvT-loop
 Inv-loop text from i₀ i = Plain isAmp text from i
@@ -17,35 +13,27 @@ Inv-loop text from i₀ i = Plain isAmp text from i
 abbrev μ-loop : tie.MeasureT-loop
 μ-loop text from i₀ i = length text - i
 
--- src/lib.rt:80:5
 loop-holds : tie.Need-loop-holds Inv-loop μ-loop
 loop-holds c = plain-none isAmp (c .before .args .text .now) (c .before .args .from) (c .before .pre)
 
--- src/lib.rt:80:16
 sub-loop : tie.Need-sub-loop Inv-loop μ-loop
 sub-loop c = c .loop .inv .to
 
--- src/lib.rt:81:13
 near-amp-requires : tie.Need-near-amp-requires Inv-loop μ-loop
 near-amp-requires c κs = omega (arith, c .before .loop .inv .to, c .loop-test .taken)
 
--- src/lib.rt:82:19
 add-if1 : tie.Need-add-if1 Inv-loop μ-loop
 add-if1 c = omega (arith, c .before .before .loop .inv .to, c .before .loop-test .taken)
 
--- src/lib.rt:83:13
 returns : tie.Need-returns Inv-loop μ-loop
 returns c = plain-join isAmp (c .before .before .before .before .before .args .text .now) (c .before .before .before .before .before .args .from) (c .before .before .before .loop .i) (c .before .near-amp .result) (c .before .before .before .loop .inv) (c .before .near-amp .ensures .run)
 
--- src/lib.rt:80:5
 loop-less : tie.Need-loop-less Inv-loop μ-loop
 loop-less c = omega (arith, c .before .near-amp .ensures .run .to, c .if1 .left, c .before .before .loop-test .taken)
 
--- src/lib.rt:80:5
 loop-again : tie.Need-loop-again Inv-loop μ-loop
 loop-again c = plain-join isAmp (c .before .before .before .before .before .args .text .now) (c .before .before .before .before .before .args .from) (c .before .before .before .loop .i) (c .before .near-amp .result) (c .before .before .before .loop .inv) (c .before .near-amp .ensures .run)
 
--- src/lib.rt:75:1
 returns-2 : tie.Need-returns-2 Inv-loop μ-loop
 returns-2 c = c .before .loop .inv
 

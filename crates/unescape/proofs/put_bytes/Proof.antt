@@ -10,9 +10,6 @@ use Rattle.unescape.specs.Steps.{isAmp, Put}
 use Rattle.unescape.proofs.Puts.{put-none, put-next, put-length}
 use Rattle.unescape.proofs.put_bytes.Statement.{statement}
 use Rattle.unescape.proofs.put_bytes.Tie as tie
-use Rattle.unescape.proofs.put_bytes.Reads as reads
-use Rattle.unescape.proofs.put_bytes.Lts as lts
-use Rattle.output.proofs.put_byte.Reads as put-byte-reads
 
 abbrev Inv-loop : tie.InvT-loop
 Inv-loop text from out₀ i₀ out i = Plain isAmp text from i × Put text from i out₀ out
@@ -20,47 +17,36 @@ Inv-loop text from out₀ i₀ out i = Plain isAmp text from i × Put text from 
 abbrev μ-loop : tie.MeasureT-loop
 μ-loop text from out₀ i₀ out i = length text - i
 
--- src/lib.rt:172:5
 loop-holds : tie.Need-loop-holds Inv-loop μ-loop
 loop-holds c = (plain-none isAmp (c .before .before .args .text .now) (c .before .before .args .from) (c .before .before .pre), put-none (c .before .before .args .text .now) (c .before .before .args .from) (c .before .before .args .out .now))
 
--- src/lib.rt:173:17
 shared-slice-read-b : tie.Need-shared-slice-read-b Inv-loop μ-loop
 shared-slice-read-b c = search needs
 
--- src/lib.rt:175:13
 same-length : tie.Need-same-length Inv-loop μ-loop
 same-length c = put-length (c .before .before .before .before .before .before .args .text .now) (c .before .before .before .before .before .before .args .from) (c .before .before .before .before .before .before .args .out .now) (c .before .before .before .loop .i) (c .before .before .before .loop .inv .1)
 
--- src/lib.rt:175:13
 returns : tie.Need-returns Inv-loop μ-loop
 returns c = (record { run = c .before .before .before .loop .inv .0; ends = λ h. eq-eqb _ 38 (c .if1 .taken) }, c .before .before .before .loop .inv .1)
 
--- src/lib.rt:177:29
 sub-put-byte : tie.Need-sub-put-byte Inv-loop μ-loop
 sub-put-byte c = c .before .before .before .loop .inv .0 .from
 
--- src/lib.rt:177:9
 put-byte-requires : tie.Need-put-byte-requires Inv-loop μ-loop
 put-byte-requires c κs = tt
 
--- src/lib.rt:178:9
 add-i : tie.Need-add-i Inv-loop μ-loop
 add-i c = search needs
 
--- src/lib.rt:172:5
 loop-less : tie.Need-loop-less Inv-loop μ-loop
 loop-less c = search needs
 
--- src/lib.rt:172:5
 loop-again : tie.Need-loop-again Inv-loop μ-loop
 loop-again c = (plain-join isAmp (c .before .before .before .before .before .before .before .before .before .before .args .text .now) (c .before .before .before .before .before .before .before .before .before .before .args .from) (c .before .before .before .before .before .before .before .loop .i) _ (c .before .before .before .before .before .before .before .loop .inv .0) (plain-byte isAmp (c .before .before .before .before .before .before .before .before .before .before .args .text .now) (c .before .before .before .before .before .before .before .loop .i) (c .before .before .before .before .before .before .loop-test .taken) (ne-eqb _ 38 (c .before .before .before .before .if1 .left))), c .before .before .put-byte .ensures ∙ put-next (c .before .before .before .before .before .before .before .before .before .before .args .text .now) (c .before .before .before .before .before .before .before .before .before .before .args .from) (c .before .before .before .before .before .before .before .before .before .before .args .out .now) (c .before .before .before .before .before .before .before .loop .i) (c .before .before .before .before .before .before .before .loop .inv .1) (c .before .before .before .before .before .before .before .loop .inv .0 .from) refl (c .before .before .before .before .before .before .loop-test .taken))
 
--- src/lib.rt:167:1
 same-length-2 : tie.Need-same-length-2 Inv-loop μ-loop
 same-length-2 c = put-length (c .before .before .before .before .args .text .now) (c .before .before .before .before .args .from) (c .before .before .before .before .args .out .now) (c .before .loop .i) (c .before .loop .inv .1)
 
--- src/lib.rt:167:1
 returns-2 : tie.Need-returns-2 Inv-loop μ-loop
 returns-2 c = (record { run = c .before .loop .inv .0; ends = λ h. absurd (omega (arith, c .loop-test .left)) }, c .before .loop .inv .1)
 

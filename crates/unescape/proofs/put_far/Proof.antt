@@ -3,61 +3,43 @@ use Rattle.unescape.proofs.Puts.{blocks-of, blocks-nears, blocks-rest}
 use borrow.Author.Needs.{needs}
 use Rattle.unescape.proofs.put_far.Statement.{statement}
 use Rattle.unescape.proofs.put_far.Tie as tie
-use Rattle.unescape.proofs.put_far.Reads as reads
-use Rattle.unescape.proofs.put_far.Lts as lts
-use Rattle.unescape.proofs.put_blocks.Reads as put-blocks-reads
-use Rattle.unescape.proofs.put_bytes.Reads as put-bytes-reads
-use Rattle.unescape.proofs.put_nears.Reads as put-nears-reads
 
--- src/lib.rt:188:9
 put-blocks-requires : tie.Need-put-blocks-requires
 put-blocks-requires c κs = search needs
 
--- src/lib.rt:189:48
 sub-put-nears : tie.Need-sub-put-nears
 sub-put-nears c = search needs
 
--- src/lib.rt:189:39
 sub-put-nears-2 : tie.Need-sub-put-nears-2
 sub-put-nears-2 c = search needs
 
--- src/lib.rt:189:39
 part-put-nears-start : tie.Need-part-put-nears-start
 part-put-nears-start c = search needs
 
--- src/lib.rt:189:39
 part-put-nears-end : tie.Need-part-put-nears-end
 part-put-nears-end c = search needs
 
--- src/lib.rt:189:9
 put-nears-requires : tie.Need-put-nears-requires
 put-nears-requires c κs = search needs
 
--- src/lib.rt:190:36
 sub-put-bytes : tie.Need-sub-put-bytes
 sub-put-bytes c = search needs
 
--- src/lib.rt:190:27
 sub-put-bytes-2 : tie.Need-sub-put-bytes-2
 sub-put-bytes-2 c = search needs
 
--- src/lib.rt:190:27
 part-put-bytes-start : tie.Need-part-put-bytes-start
 part-put-bytes-start c = search needs
 
--- src/lib.rt:190:27
 part-put-bytes-end : tie.Need-part-put-bytes-end
 part-put-bytes-end c = search needs
 
--- src/lib.rt:190:5
 put-bytes-requires : tie.Need-put-bytes-requires
 put-bytes-requires c κs = search needs
 
--- src/lib.rt:184:1
 same-length : tie.Need-same-length
 same-length c = search needs
 
--- src/lib.rt:184:1
 returns : tie.Need-returns
 returns c =
     let t = c .before .before .before .before .before .before .before .before .before .before .before .before .before .before .args .text .now in

@@ -8,9 +8,6 @@ use Rattle.unescape.proofs.Puts.{Blocks, blocks-of, blocks-done, blocks
 use Rattle.output.proofs.Runs.{plain-none}
 use Rattle.unescape.proofs.put_nears.Statement.{statement}
 use Rattle.unescape.proofs.put_nears.Tie as tie
-use Rattle.unescape.proofs.put_nears.Reads as reads
-use Rattle.unescape.proofs.put_nears.Lts as lts
-use Rattle.unescape.proofs.put_near.Reads as put-near-reads
 
 abbrev Inv-loop : tie.InvT-loop
 Inv-loop text from out₀ i₀ out i = Blocks isAmp text from out₀ out i (i - from)
@@ -18,69 +15,53 @@ Inv-loop text from out₀ i₀ out i = Blocks isAmp text from out₀ out i (i - 
 abbrev μ-loop : tie.MeasureT-loop
 μ-loop text from out₀ i₀ out i = length text - i
 
--- src/lib.rt:156:5
 loop-holds : tie.Need-loop-holds Inv-loop μ-loop
 loop-holds c = blocks-of isAmp (c .before .before .args .text .now) (c .before .before .args .from) (c .before .before .args .out .now) ((plain-none isAmp (c .before .before .args .text .now) (c .before .before .args .from) (c .before .before .pre), put-none (c .before .before .args .text .now) (c .before .before .args .from) (c .before .before .args .out .now)), omega arith)
 
--- src/lib.rt:156:17
 sub-loop : tie.Need-sub-loop Inv-loop μ-loop
 sub-loop c = c .loop .inv .run .to
 
--- src/lib.rt:156:54
 sub-loop-2 : tie.Need-sub-loop-2 Inv-loop μ-loop
 sub-loop-2 c = c .loop .inv .run .from
 
--- src/lib.rt:156:41
 sub-loop-3 : tie.Need-sub-loop-3 Inv-loop μ-loop
 sub-loop-3 c = c .loop .inv .room
 
--- src/lib.rt:157:47
 sub-put-near : tie.Need-sub-put-near Inv-loop μ-loop
 sub-put-near c = c .before .loop .inv .run .from
 
--- src/lib.rt:157:38
 sub-put-near-2 : tie.Need-sub-put-near-2 Inv-loop μ-loop
 sub-put-near-2 c = c .before .loop .inv .room
 
--- src/lib.rt:157:38
 part-put-near-start : tie.Need-part-put-near-start Inv-loop μ-loop
 part-put-near-start c = c .before .loop .inv .room
 
--- src/lib.rt:157:38
 part-put-near-end : tie.Need-part-put-near-end Inv-loop μ-loop
 part-put-near-end c = search needs
 
--- src/lib.rt:157:13
 put-near-requires : tie.Need-put-near-requires Inv-loop μ-loop
 put-near-requires c κs =
     let b = both-fit 8 (length (c .before .before .before .before .before .args .text .now) - c .before .before .loop .i) (length (c .before .before .loop .out) - (c .before .before .loop .i - c .before .before .before .before .before .args .from)) (c .before .loop-test .taken) in
     (omega (arith, c .before .before .loop .inv .run .to, b .0), rw (rest-part (c .before .before .loop .i - c .before .before .before .before .before .args .from) (c .before .before .loop .out), length-drop (c .before .before .loop .i - c .before .before .before .before .before .args .from) (c .before .before .loop .out)) (b .1))
 
--- src/lib.rt:158:19
 add-if1 : tie.Need-add-if1 Inv-loop μ-loop
 add-if1 c = omega (arith, c .before .before .before .before .before .loop .inv .run .to, both-fit 8 (length (c .before .before .before .before .before .before .before .before .args .text .now) - c .before .before .before .before .before .loop .i) (length (c .before .before .before .before .before .loop .out) - (c .before .before .before .before .before .loop .i - c .before .before .before .before .before .before .before .before .args .from)) (c .before .before .before .before .loop-test .taken) .0)
 
--- src/lib.rt:159:13
 same-length : tie.Need-same-length Inv-loop μ-loop
 same-length c = put-length (c .before .before .before .before .before .before .before .before .before .args .text .now) (c .before .before .before .before .before .before .before .before .before .args .from) (c .before .before .before .before .before .before .before .before .before .args .out .now) (c .before .before .before .put-near .result) (blocks-near isAmp (c .before .before .before .before .before .before .before .before .before .args .text .now) (c .before .before .before .before .before .before .before .before .before .args .from) (c .before .before .before .before .before .before .before .before .before .args .out .now) (c .before .before .before .before .before .before .loop .inv) {n = 8} (both-fit 8 (length (c .before .before .before .before .before .before .before .before .before .args .text .now) - c .before .before .before .before .before .before .loop .i) (length (c .before .before .before .before .before .before .loop .out) - (c .before .before .before .before .before .before .loop .i - c .before .before .before .before .before .before .before .before .before .args .from)) (c .before .before .before .before .before .loop-test .taken) .1) (c .before .before .before .put-near .ensures) .holds)
 
--- src/lib.rt:159:13
 returns : tie.Need-returns Inv-loop μ-loop
 returns c = blocks-done isAmp (c .before .before .before .before .before .before .before .before .before .args .text .now) (c .before .before .before .before .before .before .before .before .before .args .from) (c .before .before .before .before .before .before .before .before .before .args .out .now) (blocks-near isAmp (c .before .before .before .before .before .before .before .before .before .args .text .now) (c .before .before .before .before .before .before .before .before .before .args .from) (c .before .before .before .before .before .before .before .before .before .args .out .now) (c .before .before .before .before .before .before .loop .inv) {n = 8} (both-fit 8 (length (c .before .before .before .before .before .before .before .before .before .args .text .now) - c .before .before .before .before .before .before .loop .i) (length (c .before .before .before .before .before .before .loop .out) - (c .before .before .before .before .before .before .loop .i - c .before .before .before .before .before .before .before .before .before .args .from)) (c .before .before .before .before .before .loop-test .taken) .1) (c .before .before .before .put-near .ensures))
 
--- src/lib.rt:156:5
 loop-less : tie.Need-loop-less Inv-loop μ-loop
 loop-less c = omega (arith, c .before .before .before .put-near .ensures .0 .run .to, c .if1 .left, both-fit 8 (length (c .before .before .before .before .before .before .before .before .before .args .text .now) - c .before .before .before .before .before .before .loop .i) (length (c .before .before .before .before .before .before .loop .out) - (c .before .before .before .before .before .before .loop .i - c .before .before .before .before .before .before .before .before .before .args .from)) (c .before .before .before .before .before .loop-test .taken) .0)
 
--- src/lib.rt:156:5
 loop-again : tie.Need-loop-again Inv-loop μ-loop
 loop-again c = blocks-near isAmp (c .before .before .before .before .before .before .before .before .before .args .text .now) (c .before .before .before .before .before .before .before .before .before .args .from) (c .before .before .before .before .before .before .before .before .before .args .out .now) (c .before .before .before .before .before .before .loop .inv) {n = 8} (both-fit 8 (length (c .before .before .before .before .before .before .before .before .before .args .text .now) - c .before .before .before .before .before .before .loop .i) (length (c .before .before .before .before .before .before .loop .out) - (c .before .before .before .before .before .before .loop .i - c .before .before .before .before .before .before .before .before .before .args .from)) (c .before .before .before .before .before .loop-test .taken) .1) (c .before .before .before .put-near .ensures)
 
--- src/lib.rt:150:1
 same-length-2 : tie.Need-same-length-2 Inv-loop μ-loop
 same-length-2 c = put-length (c .before .before .before .before .args .text .now) (c .before .before .before .before .args .from) (c .before .before .before .before .args .out .now) (c .before .loop .i) (c .before .loop .inv .holds)
 
--- src/lib.rt:150:1
 returns-2 : tie.Need-returns-2 Inv-loop μ-loop
 returns-2 c = blocks-done isAmp (c .before .before .before .before .args .text .now) (c .before .before .before .before .args .from) (c .before .before .before .before .args .out .now) (c .before .loop .inv)
 

@@ -7,67 +7,48 @@ use Rattle.unescape.proofs.Puts.{eight-each, nearby-far, put-length}
 use borrow.Author.Needs.{needs}
 use Rattle.unescape.proofs.put_to_amp.Statement.{statement}
 use Rattle.unescape.proofs.put_to_amp.Tie as tie
-use Rattle.unescape.proofs.put_to_amp.Reads as reads
-use Rattle.unescape.proofs.put_to_amp.Lts as lts
-use Rattle.unescape.proofs.put_bytes.Reads as put-bytes-reads
-use Rattle.unescape.proofs.put_far.Reads as put-far-reads
-use Rattle.unescape.proofs.put_near.Reads as put-near-reads
 
--- src/lib.rt:198:9
 sub-if1 : tie.Need-sub-if1
 sub-if1 c = search needs
 
--- src/lib.rt:199:9
 put-bytes-requires : tie.Need-put-bytes-requires
 put-bytes-requires c κs = search needs
 
--- src/lib.rt:199:9
 same-length : tie.Need-same-length
 same-length c = search needs
 
--- src/lib.rt:199:9
 returns : tie.Need-returns
 returns c = search needs
 
--- src/lib.rt:201:9
 put-near-requires : tie.Need-put-near-requires
 put-near-requires c κs =
     let b = eight-each (length (c .before .before .before .before .args .text .now) - c .before .before .before .before .args .from) (length (c .before .before .before .before .args .out .now)) (c .before .if1 .left) in
     (omega (arith, b .0), b .1)
 
--- src/lib.rt:202:15
 add-if2 : tie.Need-add-if2
 add-if2 c = search needs
 
--- src/lib.rt:203:9
 same-length-2 : tie.Need-same-length-2
 same-length-2 c = search needs
 
--- src/lib.rt:203:9
 returns-2 : tie.Need-returns-2
 returns-2 c = (end-near isAmp (c .before .before .before .before .before .before .before .before .args .text .now) (c .before .before .before .before .before .before .before .before .args .from) (c .before .before .before .put-near .ensures .0) (c .if2 .taken), c .before .before .before .put-near .ensures .1)
 
--- src/lib.rt:205:25
 sub-put-far : tie.Need-sub-put-far
 sub-put-far c = omega (arith, put-length (c .before .before .before .before .before .before .before .before .args .text .now) (c .before .before .before .before .before .before .before .before .args .from) (c .before .before .before .before .before .before .before .before .args .out .now) (c .before .before .before .put-near .result) (c .before .before .before .put-near .ensures .1), eight-each (length (c .before .before .before .before .before .before .before .before .args .text .now) - c .before .before .before .before .before .before .before .before .args .from) (length (c .before .before .before .before .before .before .before .before .args .out .now)) (c .before .before .before .before .before .if1 .left) .1)
 
--- src/lib.rt:205:25
 part-put-far-start : tie.Need-part-put-far-start
 part-put-far-start c = omega (arith, put-length (c .before .before .before .before .before .before .before .before .args .text .now) (c .before .before .before .before .before .before .before .before .args .from) (c .before .before .before .before .before .before .before .before .args .out .now) (c .before .before .before .put-near .result) (c .before .before .before .put-near .ensures .1), eight-each (length (c .before .before .before .before .before .before .before .before .args .text .now) - c .before .before .before .before .before .before .before .before .args .from) (length (c .before .before .before .before .before .before .before .before .args .out .now)) (c .before .before .before .before .before .if1 .left) .1)
 
--- src/lib.rt:205:25
 part-put-far-end : tie.Need-part-put-far-end
 part-put-far-end c = search needs
 
--- src/lib.rt:205:5
 put-far-requires : tie.Need-put-far-requires
 put-far-requires c κs = search needs
 
--- src/lib.rt:194:1
 same-length-3 : tie.Need-same-length-3
 same-length-3 c = search needs
 
--- src/lib.rt:194:1
 returns-3 : tie.Need-returns-3
 returns-3 c = nearby-far isAmp (c .before .before .before .before .before .before .before .before .before .before .before .before .args .text .now) (c .before .before .before .before .before .before .before .before .before .before .before .before .args .from) 8 (c .before .before .before .before .before .before .before .before .before .before .before .before .args .out .now) (c .before .before .before .before .before .before .before .put-near .ensures) (c .before .before .before .before .if2 .left) (eight-each (length (c .before .before .before .before .before .before .before .before .before .before .before .before .args .text .now) - c .before .before .before .before .before .before .before .before .before .before .before .before .args .from) (length (c .before .before .before .before .before .before .before .before .before .before .before .before .args .out .now)) (c .before .before .before .before .before .before .before .before .before .if1 .left) .1) (c .before .before .put-far .ensures)
 

@@ -12,102 +12,74 @@ use native.Mathlib.Omega.{arith}
 use borrow.Author.Needs.{needs}
 use Rattle.unescape.proofs.unescape_with.Statement.{statement}
 use Rattle.unescape.proofs.unescape_with.Tie as tie
-use Rattle.unescape.proofs.unescape_with.Reads as reads
-use Rattle.unescape.proofs.unescape_with.Lts as lts
-use Rattle.output.proofs.put_run.Reads as put-run-reads
-use Rattle.unescape.proofs.copied_whole.Reads as copied-whole-reads
-use Rattle.unescape.proofs.far_amp.Reads as far-amp-reads
-use Rattle.unescape.proofs.unescape_long.Reads as unescape-long-reads
-use Rattle.unescape.proofs.unescape_runs.Reads as unescape-runs-reads
 
--- src/lib.rt:503:8
 far-amp-requires : tie.Need-far-amp-requires
 far-amp-requires c κs = search needs
 
--- src/lib.rt:504:9
 copied-whole-requires : tie.Need-copied-whole-requires
 copied-whole-requires c κs = search needs
 
--- src/lib.rt:504:9
 same-length : tie.Need-same-length
 same-length c = search needs
 
--- src/lib.rt:504:9
 returns : tie.Need-returns
 returns c = c .before .before .copied-whole .ensures ∙ ap (λ (o : Outcome). finished o (c .before .before .before .before .before .before .before .before .before .before .args .out .now)) (sym (own-value (binding (c .before .before .before .before .before .before .before .before .before .before .args .list .now) (c .before .before .before .before .before .before .before .before .before .before .args .pool .now)) (c .before .before .before .before .before .before .before .before .before .before .args .text .now) (c .before .before .before .before .before .far-amp .ensures) (c .before .before .before .before .if1 .taken)))
 
--- src/lib.rt:507:9
 unescape-long-requires : tie.Need-unescape-long-requires
 unescape-long-requires c κs = search needs
 
--- src/lib.rt:507:9
 same-length-2 : tie.Need-same-length-2
 same-length-2 c = search needs
 
--- src/lib.rt:507:9
 returns-2 : tie.Need-returns-2
 returns-2 c = search needs
 
--- src/lib.rt:510:51
 slice-aggregate-unescape-runs : tie.Need-slice-aggregate-unescape-runs
 slice-aggregate-unescape-runs c = search needs
 
--- src/lib.rt:510:9
 unescape-runs-requires : tie.Need-unescape-runs-requires
 unescape-runs-requires c κs = search needs
 
--- src/lib.rt:512:16
 enum-known-counted : tie.Need-enum-known-counted
 enum-known-counted c = search needs
 
--- src/lib.rt:516:9
 enum-told : tie.Need-enum-told
 enum-told c = search needs
 
--- src/lib.rt:516:9
 returns-3 : tie.Need-returns-3
 returns-3 c =
     let o = unescape (binding (c .before .before .before .before .before .before .before .before .before .before .before .before .args .list .now) (c .before .before .before .before .before .before .before .before .before .before .before .before .args .pool .now)) (c .before .before .before .before .before .before .before .before .before .before .before .before .args .text .now) in
     ended-call o (c .before .before .before .before .before .before .before .before .before .before .before .before .args .out .now) (ended-refused 19 o (c .before .before .before .before .before .before .before .before .before .before .before .before .args .out .now) (c .enum-told .given .1) (c .before .before .before .unescape-runs .ensures))
 
--- src/lib.rt:519:9
 returns-4 : tie.Need-returns-4
 returns-4 c =
     let o = unescape (binding (c .before .before .before .before .before .before .before .before .before .before .before .before .before .before .args .list .now) (c .before .before .before .before .before .before .before .before .before .before .before .before .before .before .args .pool .now)) (c .before .before .before .before .before .before .before .before .before .before .before .before .before .before .args .text .now) in
     ended-call o (c .before .before .before .before .before .before .before .before .before .before .before .before .before .before .args .out .now) (ended-short 19 o (c .before .before .before .before .before .before .before .before .before .before .before .before .before .before .args .out .now) (c .before .before .counted .given .1) (c .before .before .before .before .before .unescape-runs .ensures) (omega (arith, c .if3 .taken)))
 
--- src/lib.rt:526:25
 array-share-prefix-held : tie.Need-array-share-prefix-held
 array-share-prefix-held c = search needs
 
--- src/lib.rt:526:25
 slice-aggregate-put-run : tie.Need-slice-aggregate-put-run
 slice-aggregate-put-run c = sym (length-take-le (c .before .before .before .before .counted .given .0 .0) (c .before .before .before .before .before .before .before .unescape-runs .last .1 .1 .1 .0) (omega (arith, c .before .if4 .taken, c .before .before .before .before .before .before .before .unescape-runs .kept .1 .1 .1 .0)))
 
--- src/lib.rt:526:9
 put-run-requires : tie.Need-put-run-requires
 put-run-requires c κs = rw (length-take-le (c .before .before .before .before .before .counted .given .0 .0) (c .before .before .before .before .before .before .before .before .unescape-runs .last .1 .1 .1 .0) (omega (arith, c .before .before .if4 .taken, c .before .before .before .before .before .before .before .before .unescape-runs .kept .1 .1 .1 .0))) (omega (arith, c .before .before .before .if3 .left))
 
--- src/lib.rt:527:9
 same-length-3 : tie.Need-same-length-3
 same-length-3 c = search needs
 
--- src/lib.rt:527:9
 returns-5 : tie.Need-returns-5
 returns-5 c =
     let o = unescape (binding (c .before .before .before .before .before .before .before .before .before .before .before .before .before .before .before .before .before .before .before .before .args .list .now) (c .before .before .before .before .before .before .before .before .before .before .before .before .before .before .before .before .before .before .before .before .args .pool .now)) (c .before .before .before .before .before .before .before .before .before .before .before .before .before .before .before .before .before .before .before .before .args .text .now) in
     ap (λ (a : Answer). callOf a (c .before .before .put-run .last .1 .0 ∷ [])) (sym (c .before .before .before .before .before .before .before .before .counted .given .1))
     ∙ ended-call o (c .before .before .before .before .before .before .before .before .before .before .before .before .before .before .before .before .before .before .before .before .args .out .now) (ended-held 19 o (c .before .before .before .before .before .before .before .before .before .before .before .before .before .before .before .before .before .before .before .before .args .out .now) (c .before .before .before .before .before .before .before .before .counted .given .1) (c .before .before .before .before .before .before .before .before .before .before .before .unescape-runs .ensures) (omega (arith, c .before .before .before .before .before .if4 .taken)) (omega (arith, c .before .before .before .before .before .before .if3 .left)) (c .before .before .put-run .ensures))
 
--- src/lib.rt:529:5
 unescape-runs-requires-2 : tie.Need-unescape-runs-requires-2
 unescape-runs-requires-2 c κs = search needs
 
--- src/lib.rt:498:1
 same-length-4 : tie.Need-same-length-4
 same-length-4 c = search needs
 
--- src/lib.rt:498:1
 returns-6 : tie.Need-returns-6
 returns-6 c =
     let o = unescape (binding (c .before .before .before .before .before .before .before .before .before .before .before .before .before .before .before .before .before .before .before .args .list .now) (c .before .before .before .before .before .before .before .before .before .before .before .before .before .before .before .before .before .before .before .args .pool .now)) (c .before .before .before .before .before .before .before .before .before .before .before .before .before .before .before .before .before .before .before .args .text .now) in

@@ -1,18 +1,14 @@
 use Rattle.text.proofs.Blocks.{fits3-at}
-use mathlib.Core.Path.{_≡_, refl, sym, _∙_}
+use mathlib.Core.Path.{_≡_, sym, _∙_}
 use mathlib.Core.Bool.{false}
-use Prim.Native.Nat.{ℕ, _+_, _-_, _≤_, _<_}
+use Prim.Native.Nat.{_-_, _≤_}
 use native.Mathlib.Omega.{arith}
-use lib.ListN.{length, getD}
 use borrow.Author.Count.{below-none, below-more}
 use Rattle.text.specs.Blocks.{Fitting}
 use Rattle.text.proofs.Bytes.{or-left, or-right}
 use borrow.Author.Needs.{needs}
 use Rattle.text.proofs.validate.any_misplaced3.Statement.{statement}
 use Rattle.text.proofs.validate.any_misplaced3.Tie as tie
-use Rattle.text.proofs.validate.any_misplaced3.Reads as reads
-use Rattle.text.proofs.validate.any_misplaced3.Lts as lts
-use Rattle.text.proofs.validate.misplaced3.Reads as misplaced3-reads
 
 abbrev Inv-loop : tie.InvT-loop
 Inv-loop text j hit₀ k₀ hit k = (k ≤ 32) × (hit ≡ false → Fitting text j k)

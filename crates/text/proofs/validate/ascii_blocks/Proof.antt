@@ -1,13 +1,10 @@
 use native.Mathlib.Omega.{arith}
-use Prim.Native.Nat.{_*_, _-_, _≤_, _<_}
+use Prim.Native.Nat.{_*_, _-_}
 use lib.ListN.{length}
 use Rattle.text.specs.Blocks.{Prefix}
 use Rattle.text.proofs.Blocks.{grown, ascii-whole}
 use Rattle.text.proofs.validate.ascii_blocks.Statement.{statement}
 use Rattle.text.proofs.validate.ascii_blocks.Tie as tie
-use Rattle.text.proofs.validate.ascii_blocks.Reads as reads
-use Rattle.text.proofs.validate.ascii_blocks.Lts as lts
-use Rattle.text.proofs.validate.joined_bits.Reads as joined-bits-reads
 
 abbrev Inv-loop : tie.InvT-loop
 Inv-loop text from words i₀ i = Prefix text i

@@ -6,9 +6,6 @@ use Rattle.text.specs.Blocks.{Ascii}
 use Rattle.text.proofs.Blocks.{ascii-none, ascii-next}
 use Rattle.text.proofs.validate.ascii_end.Statement.{statement}
 use Rattle.text.proofs.validate.ascii_end.Tie as tie
-use Rattle.text.proofs.validate.ascii_end.Reads as reads
-use Rattle.text.proofs.validate.ascii_end.Lts as lts
-use Rattle.text.proofs.validate.ascii_words.Reads as ascii-words-reads
 
 abbrev Inv-loop : tie.InvT-loop
 Inv-loop text i₀ i = Ascii text i

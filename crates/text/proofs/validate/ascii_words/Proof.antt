@@ -1,13 +1,10 @@
 use native.Mathlib.Omega.{arith}
-use Prim.Native.Nat.{_*_, _-_, _≤_, _<_}
+use Prim.Native.Nat.{_-_}
 use lib.ListN.{length}
 use Rattle.text.specs.Blocks.{Ascii}
 use Rattle.text.proofs.Blocks.{ascii-more}
 use Rattle.text.proofs.validate.ascii_words.Statement.{statement}
 use Rattle.text.proofs.validate.ascii_words.Tie as tie
-use Rattle.text.proofs.validate.ascii_words.Reads as reads
-use Rattle.text.proofs.validate.ascii_words.Lts as lts
-use Rattle.text.proofs.validate.joined_bits.Reads as joined-bits-reads
 
 abbrev Inv-loop : tie.InvT-loop
 Inv-loop text from words i₀ i = Ascii text i

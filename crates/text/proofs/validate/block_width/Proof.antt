@@ -4,10 +4,6 @@ use Rattle.text.proofs.Blocks.{ascii-whole, whole-none, edge-of}
 use borrow.Author.Needs.{needs}
 use Rattle.text.proofs.validate.block_width.Statement.{statement}
 use Rattle.text.proofs.validate.block_width.Tie as tie
-use Rattle.text.proofs.validate.block_width.Reads as reads
-use Rattle.text.proofs.validate.block_width.Lts as lts
-use Rattle.text.proofs.validate.unfit.Reads as unfit-reads
-use Rattle.text.proofs.validate.whole_part.Reads as whole-part-reads
 
 returns : tie.Need-returns
 returns c = ascii-whole (c .before .before .args .text .now) (c .before .before .args .j + 3) 32 (c .before .before .args .top) (c .before .before .pre .1) (c .if1 .taken) (omega (arith, c .before .before .pre .0))

@@ -4,9 +4,6 @@ use Rattle.text.proofs.Characters.{char-ascii, no-first, no-room, no-se
 use borrow.Author.Needs.{needs}
 use Rattle.text.proofs.validate.char_width.Statement.{statement}
 use Rattle.text.proofs.validate.char_width.Tie as tie
-use Rattle.text.proofs.validate.char_width.Reads as reads
-use Rattle.text.proofs.validate.char_width.Lts as lts
-use Rattle.text.proofs.validate.lead_of.Reads as lead-of-reads
 
 shared-slice-read-b : tie.Need-shared-slice-read-b
 shared-slice-read-b c = search needs

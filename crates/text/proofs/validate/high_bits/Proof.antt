@@ -1,4 +1,4 @@
-use mathlib.Core.Path.{_≡_, sym, ap, _∙_}
+use mathlib.Core.Path.{sym, ap, _∙_}
 use Prim.Native.Nat.{ℕ}
 use native.Mathlib.Omega.{arith}
 use lib.Bits.{bitAnd}
@@ -6,9 +6,6 @@ use Rattle.text.proofs.Words.{low-word}
 use borrow.Author.Needs.{needs}
 use Rattle.text.proofs.validate.high_bits.Statement.{statement}
 use Rattle.text.proofs.validate.high_bits.Tie as tie
-use Rattle.text.proofs.validate.high_bits.Reads as reads
-use Rattle.text.proofs.validate.high_bits.Lts as lts
-use Rattle.text.proofs.validate.word.Reads as word-reads
 
 word-requires : tie.Need-word-requires
 word-requires c κs = search needs

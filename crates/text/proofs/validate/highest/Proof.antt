@@ -1,16 +1,11 @@
-use mathlib.Core.Path.{_≡_}
-use Prim.Native.Nat.{ℕ, _+_, _-_, _≤_, _<_}
+use Prim.Native.Nat.{_-_, _≤_}
 use native.Mathlib.Omega.{arith}
-use lib.ListN.{length, getD}
 use borrow.Author.Count.{below-none, below-more}
 use Rattle.text.specs.Blocks.{AtMost}
 use native.Mathlib.Nat.{le-trans}
 use borrow.Author.Needs.{needs}
 use Rattle.text.proofs.validate.highest.Statement.{statement}
 use Rattle.text.proofs.validate.highest.Tie as tie
-use Rattle.text.proofs.validate.highest.Reads as reads
-use Rattle.text.proofs.validate.highest.Lts as lts
-use Rattle.text.proofs.validate.larger.Reads as larger-reads
 
 abbrev Inv-loop : tie.InvT-loop
 Inv-loop text i top₀ k₀ top k = (k ≤ 32) × AtMost text i k top

@@ -1,5 +1,5 @@
 use mathlib.Core.Path.{_≡_}
-use Prim.Native.Nat.{ℕ, _+_, _*_, _-_, _≤_, _<_}
+use Prim.Native.Nat.{_+_, _*_, _-_, _≤_}
 use native.Mathlib.Omega.{arith}
 use borrow.Author.Count.{below-none}
 use Rattle.text.specs.Blocks.{AtMost}
@@ -7,9 +7,6 @@ use Rattle.text.proofs.Words.{or-none, at-most-append}
 use borrow.Author.Needs.{needs}
 use Rattle.text.proofs.validate.joined_bits.Statement.{statement}
 use Rattle.text.proofs.validate.joined_bits.Tie as tie
-use Rattle.text.proofs.validate.joined_bits.Reads as reads
-use Rattle.text.proofs.validate.joined_bits.Lts as lts
-use Rattle.text.proofs.validate.high_bits.Reads as high-bits-reads
 
 abbrev Inv-loop : tie.InvT-loop
 Inv-loop text i words bits₀ k₀ bits k = (k ≤ words) × (bits ≡ 0 → AtMost text i (8 * k) 0x7f)

@@ -1,5 +1,5 @@
 use native.Mathlib.Omega.{arith}
-use Prim.Native.Nat.{_-_, _≤_, _<_}
+use Prim.Native.Nat.{_-_}
 use lib.ListN.{length}
 use Rattle.text.specs.Blocks.{Prefix}
 use Rattle.text.proofs.Blocks.{grown}
@@ -7,9 +7,6 @@ use Rattle.text.proofs.Longest.{end-here, end-all}
 use borrow.Author.Needs.{needs}
 use Rattle.text.proofs.validate.last_chars.Statement.{statement}
 use Rattle.text.proofs.validate.last_chars.Tie as tie
-use Rattle.text.proofs.validate.last_chars.Reads as reads
-use Rattle.text.proofs.validate.last_chars.Lts as lts
-use Rattle.text.proofs.validate.char_width.Reads as char-width-reads
 
 abbrev Inv-loop : tie.InvT-loop
 Inv-loop text from i₀ i = Prefix text i

@@ -7,9 +7,6 @@ use Rattle.text.proofs.Characters.{leads-none, leads}
 use borrow.Author.Needs.{needs}
 use Rattle.text.proofs.validate.lead_of.Statement.{statement}
 use Rattle.text.proofs.validate.lead_of.Tie as tie
-use Rattle.text.proofs.validate.lead_of.Reads as reads
-use Rattle.text.proofs.validate.lead_of.Lts as lts
-use Rattle.text.proofs.validate.leading.Reads as leading-reads
 
 leading-requires : tie.Need-leading-requires
 leading-requires c κs = search needs

@@ -2,8 +2,6 @@ use mathlib.Core.Path.{refl}
 use Rattle.text.specs.Blocks.{misfit}
 use Rattle.text.proofs.validate.misplaced.Statement.{statement}
 use Rattle.text.proofs.validate.misplaced.Tie as tie
-use Rattle.text.proofs.validate.misplaced.Reads as reads
-use Rattle.text.proofs.validate.misplaced.Lts as lts
 
 returns : tie.Need-returns
 unfolding misfit

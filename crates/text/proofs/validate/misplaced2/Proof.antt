@@ -2,8 +2,6 @@ use mathlib.Core.Path.{refl}
 use Rattle.text.specs.Blocks.{misfit2}
 use Rattle.text.proofs.validate.misplaced2.Statement.{statement}
 use Rattle.text.proofs.validate.misplaced2.Tie as tie
-use Rattle.text.proofs.validate.misplaced2.Reads as reads
-use Rattle.text.proofs.validate.misplaced2.Lts as lts
 
 returns : tie.Need-returns
 unfolding misfit2

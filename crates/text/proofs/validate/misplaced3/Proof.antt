@@ -2,8 +2,6 @@ use mathlib.Core.Path.{refl}
 use Rattle.text.specs.Blocks.{misfit3}
 use Rattle.text.proofs.validate.misplaced3.Statement.{statement}
 use Rattle.text.proofs.validate.misplaced3.Tie as tie
-use Rattle.text.proofs.validate.misplaced3.Reads as reads
-use Rattle.text.proofs.validate.misplaced3.Lts as lts
 
 returns : tie.Need-returns
 unfolding misfit3

@@ -3,11 +3,6 @@ use Rattle.text.proofs.Blocks.{at-most-up}
 use borrow.Author.Needs.{needs}
 use Rattle.text.proofs.validate.unfit.Statement.{statement}
 use Rattle.text.proofs.validate.unfit.Tie as tie
-use Rattle.text.proofs.validate.unfit.Reads as reads
-use Rattle.text.proofs.validate.unfit.Lts as lts
-use Rattle.text.proofs.validate.any_misplaced.Reads as any-misplaced-reads
-use Rattle.text.proofs.validate.any_misplaced2.Reads as any-misplaced2-reads
-use Rattle.text.proofs.validate.any_misplaced3.Reads as any-misplaced3-reads
 
 any-misplaced2-requires : tie.Need-any-misplaced2-requires
 any-misplaced2-requires c κs = (c .before .before .pre .0, (c .before .before .pre .1 .0, at-most-up _ _ _ (c .before .before .args .top) 0xDF (c .before .before .pre .1 .1) (omega arith)))

@@ -1,15 +1,11 @@
 use mathlib.Core.Path.{_≡_}
 use native.Mathlib.Omega.{arith}
-use Prim.Native.Nat.{_+_, _-_, _≤_, _<_}
+use Prim.Native.Nat.{_+_, _-_, _≤_}
 use lib.ListN.{length}
 use Rattle.text.specs.Blocks.{Prefix}
 use Rattle.text.proofs.Blocks.{grown}
 use Rattle.text.proofs.validate.whole_blocks.Statement.{statement}
 use Rattle.text.proofs.validate.whole_blocks.Tie as tie
-use Rattle.text.proofs.validate.whole_blocks.Reads as reads
-use Rattle.text.proofs.validate.whole_blocks.Lts as lts
-use Rattle.text.proofs.validate.block_width.Reads as block-width-reads
-use Rattle.text.proofs.validate.highest.Reads as highest-reads
 
 abbrev Inv-loop : tie.InvT-loop
 Inv-loop text from i₀ i = (3 ≤ i) × Prefix text i

@@ -5,8 +5,6 @@ use Rattle.text.proofs.Blocks.{ends-before, ends-after}
 use borrow.Author.Needs.{needs}
 use Rattle.text.proofs.validate.whole_part.Statement.{statement}
 use Rattle.text.proofs.validate.whole_part.Tie as tie
-use Rattle.text.proofs.validate.whole_part.Reads as reads
-use Rattle.text.proofs.validate.whole_part.Lts as lts
 
 add-if1 : tie.Need-add-if1
 add-if1 c = search needs
