@@ -1,8 +1,8 @@
-use mathlib.Core.Path.{_≡_, refl, sym, ap, _∙_}
-use mathlib.Core.Bool.{Bool, true, false}
+use mathlib.Core.Path.{_≡_, sym, _∙_}
+use mathlib.Core.Bool.{false}
 use native.Mathlib.Omega.{arith}
 use Prim.Native.Nat.{ℕ, _+_, _-_, _≤_, _<_}
-use lib.ListN.{length, getD}
+use lib.ListN.{getD}
 use borrow.Author.Count.{below-none, below-more}
 use Rattle.text.proofs.Bytes.{or-left, or-right}
 use Rattle.output.proofs.Runs.{plain-of}
@@ -10,9 +10,6 @@ use Rattle.attribute.specs.Steps.{stopByte}
 use borrow.Author.Needs.{needs}
 use Rattle.attribute.proofs.any_stop.Statement.{statement}
 use Rattle.attribute.proofs.any_stop.Tie as tie
-use Rattle.attribute.proofs.any_stop.Reads as reads
-use Rattle.attribute.proofs.any_stop.Lts as lts
-use Rattle.attribute.proofs.is_stop.Reads as is-stop-reads
 
 abbrev Inv-loop : tie.InvT-loop
 Inv-loop text i newer size hit₀ k₀ hit k = (k ≤ size) × (hit ≡ false → (m : ℕ) → m < k → stopByte newer (getD text (i + m) 0) ≡ false)
@@ -20,35 +17,27 @@ Inv-loop text i newer size hit₀ k₀ hit k = (k ≤ size) × (hit ≡ false �
 abbrev μ-loop : tie.MeasureT-loop
 μ-loop text i newer size hit₀ k₀ hit k = size - k
 
--- src/lib.rt:26:5
 loop-holds : tie.Need-loop-holds Inv-loop μ-loop
 loop-holds c = (search needs, λ e. below-none _)
 
--- src/lib.rt:27:34
 add-is-stop : tie.Need-add-is-stop Inv-loop μ-loop
 add-is-stop c = search needs
 
--- src/lib.rt:27:29
 shared-slice-read-is-stop : tie.Need-shared-slice-read-is-stop Inv-loop μ-loop
 shared-slice-read-is-stop c = search needs
 
--- src/lib.rt:27:21
 is-stop-requires : tie.Need-is-stop-requires Inv-loop μ-loop
 is-stop-requires c κs = search needs
 
--- src/lib.rt:26:9
 add-k : tie.Need-add-k Inv-loop μ-loop
 add-k c = search needs
 
--- src/lib.rt:26:5
 loop-less : tie.Need-loop-less Inv-loop μ-loop
 loop-less c = search needs
 
--- src/lib.rt:26:5
 loop-again : tie.Need-loop-again Inv-loop μ-loop
 loop-again c = (search needs, λ e. below-more (λ (m : ℕ). stopByte (c .before .before .before .before .before .args .newer) (getD (c .before .before .before .before .before .args .text .now) (c .before .before .before .before .before .args .i + m) 0) ≡ false) _ (c .before .before .before .loop .inv .1 (or-left _ _ e)) (sym (c .is-stop .ensures) ∙ or-right (c .before .before .before .loop .hit) _ e))
 
--- src/lib.rt:21:1
 returns : tie.Need-returns Inv-loop μ-loop
 returns c = λ e. plain-of (stopByte (c .before .before .before .args .newer)) (c .before .before .before .args .text .now) (c .before .before .before .args .i) (c .before .before .before .args .size) (omega (arith, c .before .before .before .pre)) (λ m h. c .before .loop .inv .1 e m (omega (arith, h)))
 

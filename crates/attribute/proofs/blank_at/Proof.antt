@@ -1,33 +1,24 @@
-use mathlib.Core.Path.{_≡_, refl, sym, ap, _∙_}
+use mathlib.Core.Path.{sym, _∙_}
 use Rattle.attribute.proofs.Stops.{blank-tab, blank-line, blank-kept}
 use borrow.Author.Needs.{needs}
 use Rattle.attribute.proofs.blank_at.Statement.{statement}
 use Rattle.attribute.proofs.blank_at.Tie as tie
-use Rattle.attribute.proofs.blank_at.Reads as reads
-use Rattle.attribute.proofs.blank_at.Lts as lts
-use Rattle.eols.proofs.eol_width.Reads as eol-width-reads
 
--- src/lib.rt:68:8
 shared-slice-read-if1 : tie.Need-shared-slice-read-if1
 shared-slice-read-if1 c = search needs
 
--- src/lib.rt:69:9
 returns : tie.Need-returns
 returns c = blank-tab (c .before .before .before .args .newer) (c .before .before .before .args .text .now) (c .before .before .before .args .at) (c .before .before .before .pre .0) (c .if1 .taken)
 
--- src/lib.rt:71:9
 eol-width-requires : tie.Need-eol-width-requires
 eol-width-requires c κs = search needs
 
--- src/lib.rt:74:19
 shared-slice-read-t9 : tie.Need-shared-slice-read-t9
 shared-slice-read-t9 c = search needs
 
--- src/lib.rt:73:9
 returns-2 : tie.Need-returns-2
 returns-2 c = blank-kept (c .before .before .before .before .before .before .args .newer) (c .before .before .before .before .before .before .args .text .now) (c .before .before .before .before .before .before .args .at) (c .before .before .before .before .before .before .pre .0) (c .before .before .before .before .before .before .pre .1 .1) (c .before .before .before .if1 .left) (c .before .before .before .before .before .before .pre .1 .0) (sym (c .before .before .eol-width .ensures) ∙ c .before .if2 .taken)
 
--- src/lib.rt:62:1
 returns-3 : tie.Need-returns-3
 returns-3 c = blank-line (c .before .before .before .before .before .args .newer) (c .before .before .before .before .before .args .text .now) (c .before .before .before .before .before .args .at) (c .before .before .before .before .before .pre .0) (c .before .before .before .before .before .pre .1 .1) (c .before .before .if1 .left) (c .before .eol-width .ensures) (c .if2 .left)
 

@@ -1,13 +1,9 @@
-use mathlib.Core.Path.{_≡_, refl, sym, ap, _∙_}
+use mathlib.Core.Path.{sym, _∙_}
 use native.Mathlib.Omega.{arith}
 use Rattle.entity.specs.Binding.{boundTo}
 use borrow.Author.Needs.{needs}
 use Rattle.attribute.proofs.bound_to.Statement.{statement}
 use Rattle.attribute.proofs.bound_to.Tie as tie
-use Rattle.attribute.proofs.bound_to.Reads as reads
-use Rattle.attribute.proofs.bound_to.Lts as lts
-use Rattle.entity.proofs.is_three.Reads as is-three-reads
-use Rattle.entity.proofs.resolve_entity.Reads as resolve-entity-reads
 
 is-three-requires : tie.Need-is-three-requires
 is-three-requires c κs = search needs

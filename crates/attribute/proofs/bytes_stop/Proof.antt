@@ -5,12 +5,8 @@ use lib.ListN.{length}
 use Rattle.output.specs.Runs.{Plain}
 use Rattle.output.proofs.Runs.{plain-none, plain-byte, plain-join}
 use Rattle.attribute.specs.Steps.{stopByte}
-use borrow.Author.Needs.{needs}
 use Rattle.attribute.proofs.bytes_stop.Statement.{statement}
 use Rattle.attribute.proofs.bytes_stop.Tie as tie
-use Rattle.attribute.proofs.bytes_stop.Reads as reads
-use Rattle.attribute.proofs.bytes_stop.Lts as lts
-use Rattle.attribute.proofs.ends_run.Reads as ends-run-reads
 
 abbrev Inv-loop : tie.InvT-loop
 Inv-loop text from newer i₀ i = Plain (stopByte newer) text from i
@@ -18,35 +14,27 @@ Inv-loop text from newer i₀ i = Plain (stopByte newer) text from i
 abbrev μ-loop : tie.MeasureT-loop
 μ-loop text from newer i₀ i = length text - i
 
--- src/lib.rt:96:5
 loop-holds : tie.Need-loop-holds Inv-loop μ-loop
 loop-holds c = plain-none (stopByte (c .before .args .newer)) (c .before .args .text .now) (c .before .args .from) (c .before .pre)
 
--- src/lib.rt:97:21
 shared-slice-read-ends-run : tie.Need-shared-slice-read-ends-run Inv-loop μ-loop
 shared-slice-read-ends-run c = c .before .loop-test .taken
 
--- src/lib.rt:97:12
 ends-run-requires : tie.Need-ends-run-requires Inv-loop μ-loop
 ends-run-requires c κs = tt
 
--- src/lib.rt:98:13
 returns : tie.Need-returns Inv-loop μ-loop
 returns c = record { run = c .before .before .before .before .loop .inv; ends = λ h. sym (c .before .ends-run .ensures) ∙ c .if1 .taken }
 
--- src/lib.rt:100:9
 add-i : tie.Need-add-i Inv-loop μ-loop
 add-i c = omega (arith, c .before .before .before .before .loop .inv .to, c .before .before .before .loop-test .taken)
 
--- src/lib.rt:96:5
 loop-less : tie.Need-loop-less Inv-loop μ-loop
 loop-less c = omega (arith, c .before .before .before .loop-test .taken)
 
--- src/lib.rt:96:5
 loop-again : tie.Need-loop-again Inv-loop μ-loop
 loop-again c = plain-join (stopByte (c .before .before .before .before .before .before .args .newer)) (c .before .before .before .before .before .before .args .text .now) (c .before .before .before .before .before .before .args .from) (c .before .before .before .before .loop .i) _ (c .before .before .before .before .loop .inv) (plain-byte (stopByte (c .before .before .before .before .before .before .args .newer)) _ _ (c .before .before .before .loop-test .taken) (sym (c .before .ends-run .ensures) ∙ c .if1 .left))
 
--- src/lib.rt:91:1
 returns-2 : tie.Need-returns-2 Inv-loop μ-loop
 returns-2 c = record { run = c .before .loop .inv; ends = λ h. absurd (omega (arith, h, c .loop-test .left)) }
 

@@ -19,12 +19,6 @@ use Rattle.attribute.proofs.Whole.{whole-ended, whole-counted}
 use borrow.Author.Needs.{needs}
 use Rattle.attribute.proofs.canonical_form.Statement.{statement}
 use Rattle.attribute.proofs.canonical_form.Tie as tie
-use Rattle.attribute.proofs.canonical_form.Reads as reads
-use Rattle.attribute.proofs.canonical_form.Lts as lts
-use Rattle.attribute.proofs.canonical_into.Reads as canonical-into-reads
-use Rattle.attribute.proofs.copied_whole.Reads as copied-whole-reads
-use Rattle.attribute.proofs.is_whole.Reads as is-whole-reads
-use Rattle.attribute.proofs.normalize_into.Reads as normalize-into-reads
 
 -- what the scratch is filled with
 abbrev outcome : tie.Joined1 → Outcome
@@ -56,31 +50,24 @@ kept : (c : tie.Joined1) → length (c .if1 .scratch) ≡ length (c .before .bef
 kept c =
     ⊎-elim (λ w. ap length (w .5) ∙ w .2 .kept .1 .1 .0) (λ w. ap length (w .5) ∙ w .2 .kept .1 .1 .1 .1 .1 .1 .1 .0) (c .if1 .came)
 
--- src/lib.rt:514:21
 is-whole-requires : tie.Need-is-whole-requires
 is-whole-requires c κs = search needs
 
--- src/lib.rt:515:9
 copied-whole-requires : tie.Need-copied-whole-requires
 copied-whole-requires c κs = search needs
 
--- src/lib.rt:517:9
 normalize-into-requires : tie.Need-normalize-into-requires
 normalize-into-requires c κs = search needs
 
--- src/lib.rt:520:16
 enum-known-filled : tie.Need-enum-known-filled
 enum-known-filled c = search needs
 
--- src/lib.rt:524:9
 enum-told : tie.Need-enum-told
 enum-told c = search needs
 
--- src/lib.rt:524:9
 same-length : tie.Need-same-length
 same-length c = kept (c .before .before)
 
--- src/lib.rt:524:9
 returns : tie.Need-returns
 returns c =
     let a = c .before .before .before .before .before .before .before .before .before .args in
@@ -88,33 +75,27 @@ returns c =
     (version-rule (a .version) (ltb 1 (a .version)) refl)
     (formed-refused (ruleFor (ltb 1 (a .version))) (outcome (c .before .before)) (a .scratch .now) (a .out .now) (c .before .before .if1 .scratch) (ended (c .before .before)) (c .enum-told .given .1))
 
--- src/lib.rt:526:20
 slice-reshare-prefix-canonical-into : tie.Need-slice-reshare-prefix-canonical-into
 slice-reshare-prefix-canonical-into c =
     let f = filled (outcome (c .before .before .before)) (c .before .before .before .before .before .before .before .before .before .before .args .scratch .now) (c .before .before .before .if1 .scratch) (ended (c .before .before .before)) (c .before .filled .given .1) in
     omega (arith, f .size, f .room, kept (c .before .before .before))
 
--- src/lib.rt:526:20
 slice-aggregate-canonical-into : tie.Need-slice-aggregate-canonical-into
 slice-aggregate-canonical-into c =
     let f = filled (outcome (c .before .before .before .before)) (c .before .before .before .before .before .before .before .before .before .before .before .args .scratch .now) (c .before .before .before .before .if1 .scratch) (ended (c .before .before .before .before)) (c .before .before .filled .given .1) in
     sym (length-take-le (c .before .before .filled .given .0 .0) (c .before .before .before .before .if1 .scratch) (omega (arith, f .size, f .room, kept (c .before .before .before .before))))
 
--- src/lib.rt:526:5
 canonical-into-requires : tie.Need-canonical-into-requires
 canonical-into-requires c κs =
     let k = subst (Counted (length (c .before .before .before .before .before .before .before .before .before .before .before .before .args .text .now)) 0 (c .before .before .before .before .before .before .before .before .before .before .before .before .args .limit)) (c .before .before .before .filled .given .1) (counts (c .before .before .before .before .before)) in
     omega (arith, length-take (c .before .before .before .filled .given .0 .0) (c .before .before .before .before .before .if1 .scratch), k .1, k .2, c .before .before .before .before .before .before .before .before .before .before .before .before .pre .1 .0, c .before .before .before .before .before .before .before .before .before .before .before .before .pre .1 .1)
 
--- src/lib.rt:498:1
 same-length-2 : tie.Need-same-length-2
 same-length-2 c = kept (c .before .before .before .before .before .before .before .before)
 
--- src/lib.rt:498:1
 same-length-3 : tie.Need-same-length-3
 same-length-3 c = search needs
 
--- src/lib.rt:498:1
 returns-2 : tie.Need-returns-2
 returns-2 c =
     let a = c .before .before .before .before .before .before .before .before .before .before .before .before .before .before .before .args in

@@ -1,4 +1,3 @@
-use mathlib.Core.Path.{_≡_, refl, sym, _∙_}
 use Rattle.eols.specs.Stops.{ruleFor}
 use Rattle.output.proofs.Finish.{finish-short, finish-laid}
 use mathlib.Core.Logic.{⊎-elim}
@@ -8,10 +7,6 @@ use native.Mathlib.Omega.{arith}
 use borrow.Author.Needs.{needs}
 use Rattle.attribute.proofs.canonical_into.Statement.{statement}
 use Rattle.attribute.proofs.canonical_into.Tie as tie
-use Rattle.attribute.proofs.canonical_into.Reads as reads
-use Rattle.attribute.proofs.canonical_into.Lts as lts
-use Rattle.canonical.proofs.canonical_length.Reads as canonical-length-reads
-use Rattle.canonical.proofs.write_canonical.Reads as write-canonical-reads
 
 mul-if1 : tie.Need-mul-if1
 mul-if1 c = search needs

@@ -1,28 +1,21 @@
-use mathlib.Core.Path.{_≡_, refl, sym, _∙_}
+use mathlib.Core.Path.{_∙_}
 use borrow.Author.Tests.{lt-ltb, le-ltb}
 use Rattle.attribute.specs.Checks.{settingsCheck}
 use borrow.Author.Needs.{needs}
 use Rattle.attribute.proofs.check_settings.Statement.{statement}
 use Rattle.attribute.proofs.check_settings.Tie as tie
-use Rattle.attribute.proofs.check_settings.Reads as reads
-use Rattle.attribute.proofs.check_settings.Lts as lts
-use Rattle.text.proofs.check_version.Reads as check-version-reads
 
--- src/lib.rt:312:9
 returns : tie.Need-returns
 unfolding settingsCheck
 returns c = rw (lt-ltb 128 (c .before .args .depth) (c .if1 .taken))
 
--- src/lib.rt:319:9
 returns-2 : tie.Need-returns-2
 unfolding settingsCheck
 returns-2 c = rw (le-ltb 128 (c .before .before .args .depth) (c .before .if1 .left), lt-ltb 1000000 (c .before .before .args .limit) (c .if2 .taken))
 
--- src/lib.rt:325:5
 check-version-requires : tie.Need-check-version-requires
 check-version-requires c κs = search needs
 
--- src/lib.rt:308:1
 returns-3 : tie.Need-returns-3
 unfolding settingsCheck
 returns-3 c = c .check-version .ensures ∙ rw (le-ltb 128 (c .before .before .before .args .depth) (c .before .before .if1 .left), le-ltb 1000000 (c .before .before .before .args .limit) (c .before .if2 .left))

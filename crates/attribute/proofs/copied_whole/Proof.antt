@@ -2,23 +2,16 @@ use Rattle.attribute.proofs.Whole.{whole-short, whole-written}
 use borrow.Author.Needs.{needs}
 use Rattle.attribute.proofs.copied_whole.Statement.{statement}
 use Rattle.attribute.proofs.copied_whole.Tie as tie
-use Rattle.attribute.proofs.copied_whole.Reads as reads
-use Rattle.attribute.proofs.copied_whole.Lts as lts
-use Rattle.output.proofs.put_run.Reads as put-run-reads
 
--- src/lib.rt:419:9
 returns : tie.Need-returns
 returns c = whole-short (c .before .before .before .args .short) (c .before .before .before .args .text .now) (c .before .before .before .args .out .now) (c .if1 .taken)
 
--- src/lib.rt:425:5
 put-run-requires : tie.Need-put-run-requires
 put-run-requires c κs = search needs
 
--- src/lib.rt:415:1
 same-length : tie.Need-same-length
 same-length c = search needs
 
--- src/lib.rt:415:1
 returns-2 : tie.Need-returns-2
 returns-2 c = whole-written (c .before .before .before .before .before .before .before .args .short) (c .before .before .before .before .before .before .before .args .text .now) (c .before .before .before .before .before .before .before .args .out .now) (c .before .before .before .before .if1 .left) (c .before .before .put-run .ensures)
 

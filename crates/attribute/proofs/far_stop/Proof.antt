@@ -3,24 +3,16 @@ use Rattle.attribute.specs.Steps.{stopByte}
 use borrow.Author.Needs.{needs}
 use Rattle.attribute.proofs.far_stop.Statement.{statement}
 use Rattle.attribute.proofs.far_stop.Tie as tie
-use Rattle.attribute.proofs.far_stop.Reads as reads
-use Rattle.attribute.proofs.far_stop.Lts as lts
-use Rattle.attribute.proofs.bytes_stop.Reads as bytes-stop-reads
-use Rattle.attribute.proofs.plain_blocks.Reads as plain-blocks-reads
 
--- src/lib.rt:110:9
 plain-blocks-requires : tie.Need-plain-blocks-requires
 plain-blocks-requires c κs = search needs
 
--- src/lib.rt:111:22
 plain-blocks-requires-2 : tie.Need-plain-blocks-requires-2
 plain-blocks-requires-2 c κs = search needs
 
--- src/lib.rt:111:5
 bytes-stop-requires : tie.Need-bytes-stop-requires
 bytes-stop-requires c κs = search needs
 
--- src/lib.rt:106:1
 returns : tie.Need-returns
 returns c =
     let joined = plain-join (stopByte (c .before .before .before .before .args .newer)) (c .before .before .before .before .args .text .now) (c .before .before .before .before .args .from) in

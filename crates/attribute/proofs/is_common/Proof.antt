@@ -1,10 +1,7 @@
 use Rattle.attribute.proofs.Stops.{common-plain}
 use Rattle.attribute.proofs.is_common.Statement.{statement}
 use Rattle.attribute.proofs.is_common.Tie as tie
-use Rattle.attribute.proofs.is_common.Reads as reads
-use Rattle.attribute.proofs.is_common.Lts as lts
 
--- src/lib.rt:60:1
 returns : tie.Need-returns
 returns c = common-plain (c .args .b)
 

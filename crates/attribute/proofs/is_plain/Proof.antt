@@ -2,24 +2,16 @@ use Rattle.attribute.proofs.Stops.{plain-whole}
 use borrow.Author.Needs.{needs}
 use Rattle.attribute.proofs.is_plain.Statement.{statement}
 use Rattle.attribute.proofs.is_plain.Tie as tie
-use Rattle.attribute.proofs.is_plain.Reads as reads
-use Rattle.attribute.proofs.is_plain.Lts as lts
-use Rattle.attribute.proofs.bytes_stop.Reads as bytes-stop-reads
-use Rattle.attribute.proofs.far_stop.Reads as far-stop-reads
 
--- src/lib.rt:134:16
 bytes-stop-requires : tie.Need-bytes-stop-requires
 bytes-stop-requires c κs = search needs
 
--- src/lib.rt:134:9
 returns : tie.Need-returns
 returns c = plain-whole (c .bytes-stop .ensures)
 
--- src/lib.rt:136:5
 far-stop-requires : tie.Need-far-stop-requires
 far-stop-requires c κs = search needs
 
--- src/lib.rt:130:1
 returns-2 : tie.Need-returns-2
 returns-2 c = plain-whole (c .far-stop .ensures)
 

@@ -8,28 +8,19 @@ use Rattle.attribute.proofs.Stops.{plain-overlap}
 use borrow.Author.Needs.{needs}
 use Rattle.attribute.proofs.is_whole.Statement.{statement}
 use Rattle.attribute.proofs.is_whole.Tie as tie
-use Rattle.attribute.proofs.is_whole.Reads as reads
-use Rattle.attribute.proofs.is_whole.Lts as lts
-use Rattle.attribute.proofs.any_last.Reads as any-last-reads
-use Rattle.attribute.proofs.plain_blocks.Reads as plain-blocks-reads
 
--- src/lib.rt:397:8
 any-last-requires : tie.Need-any-last-requires
 any-last-requires c κs = search needs
 
--- src/lib.rt:398:9
 returns : tie.Need-returns
 returns c = λ e. absurd (true≢false (sym e))
 
--- src/lib.rt:400:18
 plain-blocks-requires : tie.Need-plain-blocks-requires
 plain-blocks-requires c κs = search needs
 
--- src/lib.rt:400:18
 add-result : tie.Need-add-result
 add-result c = search needs
 
--- src/lib.rt:393:1
 returns-2 : tie.Need-returns-2
 returns-2 c = λ e. plain-overlap (c .plain-blocks .ensures) (c .before .before .any-last .ensures (c .before .if1 .left)) (omega (arith, ltb-true (length (c .before .before .before .before .args .text .now)) (c .plain-blocks .result + 32) e)) (c .plain-blocks .ensures .to)
 

@@ -8,9 +8,6 @@ use Rattle.output.proofs.Runs.{plain-of}
 use Rattle.attribute.specs.Steps.{stopByte}
 use Rattle.attribute.proofs.near_stop.Statement.{statement}
 use Rattle.attribute.proofs.near_stop.Tie as tie
-use Rattle.attribute.proofs.near_stop.Reads as reads
-use Rattle.attribute.proofs.near_stop.Lts as lts
-use Rattle.attribute.proofs.ends_run.Reads as ends-run-reads
 
 abbrev Inv-loop : tie.InvT-loop
 Inv-loop text from newer k₀ k = (k ≤ 8) × ((m : ℕ) → m < k → stopByte newer (getD text (from + m) 0) ≡ false)
@@ -18,47 +15,36 @@ Inv-loop text from newer k₀ k = (k ≤ 8) × ((m : ℕ) → m < k → stopByte
 abbrev μ-loop : tie.MeasureT-loop
 μ-loop text from newer k₀ k = 8 - k
 
--- src/lib.rt:82:5
 loop-holds : tie.Need-loop-holds Inv-loop μ-loop
 loop-holds c = (omega arith, below-none _)
 
--- src/lib.rt:83:26
 add-ends-run : tie.Need-add-ends-run Inv-loop μ-loop
 add-ends-run c = omega (arith, c .before .before .before .pre, c .loop-test .taken)
 
--- src/lib.rt:83:21
 shared-slice-read-ends-run : tie.Need-shared-slice-read-ends-run Inv-loop μ-loop
 shared-slice-read-ends-run c = omega (arith, c .before .before .before .before .pre, c .before .loop-test .taken)
 
--- src/lib.rt:83:12
 ends-run-requires : tie.Need-ends-run-requires Inv-loop μ-loop
 ends-run-requires c κs = tt
 
--- src/lib.rt:84:20
 add-result : tie.Need-add-result Inv-loop μ-loop
 add-result c = omega (arith, c .before .before .before .before .before .before .pre, c .before .before .before .loop-test .taken)
 
--- src/lib.rt:84:13
 returns : tie.Need-returns Inv-loop μ-loop
 returns c = (plain-of (stopByte (c .before .before .before .before .before .before .args .newer)) (c .before .before .before .before .before .before .args .text .now) (c .before .before .before .before .before .before .args .from) (c .before .before .before .before .loop .k) (omega (arith, c .before .before .before .before .before .before .pre, c .before .before .before .loop-test .taken)) (c .before .before .before .before .loop .inv .1), (omega (arith, c .before .before .before .before .loop .inv .0), λ h. sym (c .before .ends-run .ensures) ∙ c .if1 .taken))
 
--- src/lib.rt:82:9
 add-k : tie.Need-add-k Inv-loop μ-loop
 add-k c = omega (arith, c .before .before .before .before .loop .inv .0)
 
--- src/lib.rt:82:5
 loop-less : tie.Need-loop-less Inv-loop μ-loop
 loop-less c = omega (arith, c .before .before .before .loop-test .taken)
 
--- src/lib.rt:82:5
 loop-again : tie.Need-loop-again Inv-loop μ-loop
 loop-again c = (omega (arith, c .before .before .before .loop-test .taken), below-more (λ (m : ℕ). stopByte (c .before .before .before .before .before .before .args .newer) (getD (c .before .before .before .before .before .before .args .text .now) (c .before .before .before .before .before .before .args .from + m) 0) ≡ false) _ (c .before .before .before .before .loop .inv .1) (sym (c .before .ends-run .ensures) ∙ c .if1 .left))
 
--- src/lib.rt:87:5
 add-result-2 : tie.Need-add-result-2 Inv-loop μ-loop
 add-result-2 c = omega (arith, c .before .before .before .pre)
 
--- src/lib.rt:77:1
 returns-2 : tie.Need-returns-2 Inv-loop μ-loop
 returns-2 c = (plain-of (stopByte (c .before .before .before .args .newer)) (c .before .before .before .args .text .now) (c .before .before .before .args .from) 8 (c .before .before .before .pre) (λ m h. c .before .loop .inv .1 m (omega (arith, h, c .loop-test .left))), (omega arith, λ h. absurd (omega (arith, h))))
 

@@ -10,25 +10,16 @@ use Rattle.attribute.proofs.Whole.{whole-ended}
 use borrow.Author.Needs.{needs}
 use Rattle.attribute.proofs.normalize_attribute_value.Statement.{statement}
 use Rattle.attribute.proofs.normalize_attribute_value.Tie as tie
-use Rattle.attribute.proofs.normalize_attribute_value.Reads as reads
-use Rattle.attribute.proofs.normalize_attribute_value.Lts as lts
-use Rattle.attribute.proofs.copied_whole.Reads as copied-whole-reads
-use Rattle.attribute.proofs.is_whole.Reads as is-whole-reads
-use Rattle.attribute.proofs.normalize_into.Reads as normalize-into-reads
 
--- src/lib.rt:469:8
 is-whole-requires : tie.Need-is-whole-requires
 is-whole-requires c κs = search needs
 
--- src/lib.rt:470:9
 copied-whole-requires : tie.Need-copied-whole-requires
 copied-whole-requires c κs = search needs
 
--- src/lib.rt:470:9
 same-length : tie.Need-same-length
 same-length c = search needs
 
--- src/lib.rt:470:9
 returns : tie.Need-returns
 returns c =
     let a = c .before .before .before .before .before .before .before .before .before .before .args in
@@ -37,15 +28,12 @@ returns c =
     (whole-ended 19 (a .text .now) (a .out .now) (c .before .before .copied-whole .ensures) newer (a .list .now) (a .pool .now) (a .limit) (a .depth) (c .before .before .before .before .before .is-whole .ensures (c .before .before .before .before .if1 .taken)))
     ∙ ap (λ (r : Rule). finished (normalize (readingOf r (a .list .now) (a .pool .now) (a .limit)) (a .depth) (a .text .now)) (a .out .now)) (version-rule (a .version) newer refl)
 
--- src/lib.rt:472:5
 normalize-into-requires : tie.Need-normalize-into-requires
 normalize-into-requires c κs = search needs
 
--- src/lib.rt:454:1
 same-length-2 : tie.Need-same-length-2
 same-length-2 c = search needs
 
--- src/lib.rt:454:1
 returns-2 : tie.Need-returns-2
 returns-2 c =
     let a = c .before .before .before .before .before .before .before .before .before .before .args in

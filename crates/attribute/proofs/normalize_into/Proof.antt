@@ -1,10 +1,8 @@
 use Rattle.text.specs.declared.Answer.{Answer}
 use Rattle.attribute.specs.Heads.{attributeHead}
-use mathlib.Core.Path.{_≡_, sym, ap, subst}
-use mathlib.Core.List.{List}
-use Prim.Native.Nat.{ℕ}
+use mathlib.Core.Path.{sym, subst}
 use native.Mathlib.Omega.{arith}
-use lib.ListN.{length, take}
+use lib.ListN.{length}
 use lib.Seq.{length-take-le}
 use Rattle.eols.specs.Stops.{ruleFor}
 use Rattle.tokens.specs.Walking.{Ended}
@@ -14,60 +12,45 @@ use Rattle.attribute.specs.Steps.{Counted}
 use borrow.Author.Needs.{needs}
 use Rattle.attribute.proofs.normalize_into.Statement.{statement}
 use Rattle.attribute.proofs.normalize_into.Tie as tie
-use Rattle.attribute.proofs.normalize_into.Reads as reads
-use Rattle.attribute.proofs.normalize_into.Lts as lts
-use Rattle.attribute.proofs.normalize_attr_steps.Reads as normalize-attr-steps-reads
-use Rattle.output.proofs.put_run.Reads as put-run-reads
 
--- src/lib.rt:291:82
 slice-aggregate-normalize-attr-steps : tie.Need-slice-aggregate-normalize-attr-steps
 slice-aggregate-normalize-attr-steps c = search needs
 
--- src/lib.rt:291:9
 normalize-attr-steps-requires : tie.Need-normalize-attr-steps-requires
 normalize-attr-steps-requires c κs = search needs
 
--- src/lib.rt:293:16
 enum-known-counted : tie.Need-enum-known-counted
 enum-known-counted c = search needs
 
--- src/lib.rt:297:9
 enum-told : tie.Need-enum-told
 enum-told c = search needs
 
--- src/lib.rt:297:9
 returns : tie.Need-returns
 unfolding normalize readingOf attributeHead
 returns c =
     let o = normalize (readingOf (ruleFor (c .before .before .before .before .before .before .before .before .before .args .newer)) (c .before .before .before .before .before .before .before .before .before .args .list .now) (c .before .before .before .before .before .before .before .before .before .args .pool .now) (c .before .before .before .before .before .before .before .before .before .args .limit)) (c .before .before .before .before .before .before .before .before .before .args .depth) (c .before .before .before .before .before .before .before .before .before .args .text .now) in
     (ended-refused (c .before .before .before .before .before .before .before .before .before .args .short) o (c .before .before .before .before .before .before .before .before .before .args .out .now) (c .enum-told .given .1) (c .before .before .before .normalize-attr-steps .ensures .0), c .before .before .before .normalize-attr-steps .ensures .1)
 
--- src/lib.rt:300:9
 returns-2 : tie.Need-returns-2
 unfolding normalize readingOf attributeHead
 returns-2 c =
     let o = normalize (readingOf (ruleFor (c .before .before .before .before .before .before .before .before .before .before .before .args .newer)) (c .before .before .before .before .before .before .before .before .before .before .before .args .list .now) (c .before .before .before .before .before .before .before .before .before .before .before .args .pool .now) (c .before .before .before .before .before .before .before .before .before .before .before .args .limit)) (c .before .before .before .before .before .before .before .before .before .before .before .args .depth) (c .before .before .before .before .before .before .before .before .before .before .before .args .text .now) in
     (ended-short (c .before .before .before .before .before .before .before .before .before .before .before .args .short) o (c .before .before .before .before .before .before .before .before .before .before .before .args .out .now) (c .before .before .counted .given .1) (c .before .before .before .before .before .normalize-attr-steps .ensures .0) (omega (arith, c .if1 .taken)), tt)
 
--- src/lib.rt:307:25
 array-share-prefix-held : tie.Need-array-share-prefix-held
 array-share-prefix-held c = search needs
 
--- src/lib.rt:307:25
 slice-aggregate-put-run : tie.Need-slice-aggregate-put-run
 slice-aggregate-put-run c =
     sym (length-take-le (c .before .before .before .before .counted .given .0 .0) (c .before .before .before .before .before .before .before .normalize-attr-steps .last .1 .1 .1 .1 .1 .1 .1 .0) (omega (arith, c .before .if2 .taken, c .before .before .before .before .before .before .before .normalize-attr-steps .kept .1 .1 .1 .1 .1 .1 .1 .0)))
 
--- src/lib.rt:307:9
 put-run-requires : tie.Need-put-run-requires
 put-run-requires c κs =
     rw (length-take-le (c .before .before .before .before .before .counted .given .0 .0) (c .before .before .before .before .before .before .before .before .normalize-attr-steps .last .1 .1 .1 .1 .1 .1 .1 .0) (omega (arith, c .before .before .if2 .taken, c .before .before .before .before .before .before .before .before .normalize-attr-steps .kept .1 .1 .1 .1 .1 .1 .1 .0))) (omega (arith, c .before .before .before .if1 .left))
 
--- src/lib.rt:308:9
 same-length : tie.Need-same-length
 same-length c = search needs
 
--- src/lib.rt:308:9
 returns-3 : tie.Need-returns-3
 unfolding normalize readingOf attributeHead
 returns-3 c =
@@ -75,15 +58,12 @@ returns-3 c =
     subst (λ (a : Answer). Ended (c .before .before .before .before .before .before .before .before .before .before .before .before .before .before .before .before .before .args .short) o (c .before .before .before .before .before .before .before .before .before .before .before .before .before .before .before .before .before .args .out .now) (c .before .before .put-run .last .1 .0) a × Counted (length (c .before .before .before .before .before .before .before .before .before .before .before .before .before .before .before .before .before .args .text .now)) 0 (c .before .before .before .before .before .before .before .before .before .before .before .before .before .before .before .before .before .args .limit) a) (c .before .before .before .before .before .before .before .before .counted .given .1)
     (ended-held (c .before .before .before .before .before .before .before .before .before .before .before .before .before .before .before .before .before .args .short) o (c .before .before .before .before .before .before .before .before .before .before .before .before .before .before .before .before .before .args .out .now) (c .before .before .before .before .before .before .before .before .counted .given .1) (c .before .before .before .before .before .before .before .before .before .before .before .normalize-attr-steps .ensures .0) (omega (arith, c .before .before .before .before .before .if2 .taken)) (omega (arith, c .before .before .before .before .before .before .if1 .left)) (c .before .before .put-run .ensures), c .before .before .before .before .before .before .before .before .before .before .before .normalize-attr-steps .ensures .1)
 
--- src/lib.rt:310:5
 normalize-attr-steps-requires-2 : tie.Need-normalize-attr-steps-requires-2
 normalize-attr-steps-requires-2 c κs = search needs
 
--- src/lib.rt:274:1
 same-length-2 : tie.Need-same-length-2
 same-length-2 c = search needs
 
--- src/lib.rt:274:1
 returns-4 : tie.Need-returns-4
 unfolding normalize readingOf attributeHead
 returns-4 c =
