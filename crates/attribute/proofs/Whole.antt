@@ -1,46 +1,35 @@
 -- A value without stops, copied at once: it ends as its walk would. Assumes nothing.
-use mathlib.Core.Path.{_≡_, sym, subst, _∙_}
+use mathlib.Core.Path.{sym, subst}
 use mathlib.Core.Bool.{Bool, true, false}
 use mathlib.Core.List.{List}
-use Prim.Native.Nat.{ℕ, _≤_, _<_}
+use Prim.Native.Nat.{ℕ}
 use native.Mathlib.Omega.{arith}
 use lib.Dec.{ltb}
 use lib.ListN.{length}
-use borrow.Author.Tests.{lt-ltb, le-ltb}
 use Rattle.text.specs.Bytes.{pick}
-use Rattle.text.specs.Call.{laid}
 use Rattle.text.specs.declared.Answer.{Answer}
 use Rattle.text.specs.declared.Answer.the-variants.{Done, Refused}
 use Rattle.eols.specs.Stops.{ruleFor}
 use Rattle.output.specs.Runs.{Plain}
-use Rattle.tokens.specs.Outcome.{Outcome, done, answerIn, leftIn}
+use Rattle.tokens.specs.Outcome.{Outcome, done, answerIn}
 use Rattle.tokens.specs.Walking.{Ended}
 use Rattle.attribute.specs.Heads.{attributeHead}
 use Rattle.attribute.specs.Walk.{normalize, readingOf}
 use Rattle.attribute.specs.Steps.{stopByte, Counted}
 use Rattle.attribute.proofs.Single.{walk-plain}
 
-module _ (short : ℕ) (t out : List ℕ) where
-  pub whole-short : length out < length t → Ended short (done t 0) out out (Refused short (length t) 0)
-  unfolding answerIn leftIn
-  whole-short h = let q = lt-ltb (length out) (length t) h in (rw q, rw q)
+module _ (short : ℕ) (t out : List ℕ) {last : List ℕ} {r : Answer} (e : Ended short (done t 0) out last r) where
+  -- the value of a text without stops is the text itself, at every depth
+  pub whole-ended : (newer : Bool) (list pool : List ℕ) (limit depth : ℕ) → Plain (stopByte newer) t 0 (length t)
+      → Ended short (normalize (readingOf (ruleFor newer) list pool limit) depth t) out last r
+  unfolding normalize readingOf attributeHead
+  whole-ended newer list pool limit depth p =
+      subst (λ (o : Outcome). Ended short o out last r) (sym (walk-plain (readingOf (ruleFor newer) list pool limit) newer depth t 0 p)) e
 
-  pub whole-written : {last : List ℕ} → length t ≤ length out → last ≡ laid t out → Ended short (done t 0) out last (Done (length t) 0)
-  unfolding answerIn leftIn
-  whole-written h e = let q = le-ltb (length out) (length t) h in (rw q, e ∙ rw q)
-
-  module _ {last : List ℕ} {r : Answer} (e : Ended short (done t 0) out last r) where
-    -- the value of a text without stops is the text itself, at every depth
-    pub whole-ended : (newer : Bool) (list pool : List ℕ) (limit depth : ℕ) → Plain (stopByte newer) t 0 (length t)
-        → Ended short (normalize (readingOf (ruleFor newer) list pool limit) depth t) out last r
-    unfolding normalize readingOf attributeHead
-    whole-ended newer list pool limit depth p =
-        subst (λ (o : Outcome). Ended short o out last r) (sym (walk-plain (readingOf (ruleFor newer) list pool limit) newer depth t 0 p)) e
-
-    pub whole-counted : (limit : ℕ) → Counted (length t) 0 limit r
-    unfolding answerIn
-    whole-counted limit = subst (Counted (length t) 0 limit) (sym (e .0)) (go (ltb (length out) (length t)))
-      where
-        go : (x : Bool) → Counted (length t) 0 limit (pick x (Refused short (length t) 0) (Done (length t) 0))
-        go true = tt
-        go false = (omega arith, omega arith, omega arith)
+  pub whole-counted : (limit : ℕ) → Counted (length t) 0 limit r
+  unfolding answerIn
+  whole-counted limit = subst (Counted (length t) 0 limit) (sym (e .0)) (go (ltb (length out) (length t)))
+    where
+      go : (x : Bool) → Counted (length t) 0 limit (pick x (Refused short (length t) 0) (Done (length t) 0))
+      go true = tt
+      go false = (omega arith, omega arith, omega arith)

@@ -411,24 +411,6 @@ fn any_last(text: &[u8], newer: bool) -> bool
     any_stop(text, n - 32, newer, 32)
 }
 
-// A text that is its own value goes to the start of `out`; a buffer that is too short is refused by the number given.
-fn copied_whole(text: &[u8], short: u32, out: &mut [u8]) -> Answer
-    ensures { λ r. ⌜ Ended short (done (now (text .entry)) 0) (now (out .entry)) (now (out .exit)) r ⌝ }
-{
-    if out.len() < text.len() {
-        return Answer::Refused {
-            number: short,
-            first: text.len() as u64,
-            second: 0,
-        };
-    }
-    output::put_run(text, out);
-    Answer::Done {
-        first: text.len() as u64,
-        second: 0,
-    }
-}
-
 // Refusals 2, 3 and 4.
 pub fn check_settings(version: u8, depth: u64, limit: u64) -> Answer
     ensures { λ r. ⌜ r ≡ settingsCheck version depth limit ⌝ }
@@ -467,7 +449,7 @@ pub fn normalize_attribute_value(
 {
     let newer = 1 < version;
     if is_whole(text, newer) {
-        return copied_whole(text, 19, out);
+        return tokens::copied_whole(text, 19, out);
     }
     normalize_into(text, newer, depth, limit, list, pool, 19, out)
 }
@@ -512,7 +494,7 @@ pub fn canonical_form(
 {
     let newer = 1 < version;
     let filled = if is_whole(text, newer) {
-        copied_whole(text, 18, scratch)
+        tokens::copied_whole(text, 18, scratch)
     } else {
         normalize_into(text, newer, depth, limit, list, pool, 18, scratch)
     };

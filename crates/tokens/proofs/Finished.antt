@@ -1,4 +1,4 @@
--- How a call ends that walks twice: the count first, then the write. Assumes nothing.
+-- How a call ends that walks twice, the count first and then the write, or that copies its text. Assumes nothing.
 use mathlib.Core.Path.{_≡_, refl, sym, ap, ap₂, _∙_}
 use mathlib.Core.List.{List, [], _∷_}
 use Prim.Native.Nat.{ℕ, _≤_, _<_}
@@ -41,6 +41,16 @@ module _ (short : ℕ) (value : List ℕ) (openings : ℕ) (out : List ℕ) {len
       let fits : length value ≤ length out = omega (arith, size, h) in
       let t = le-ltb (length out) (length value) fits in
       (rw t, over-fits value out fits ∙ rw t)
+
+-- a text that is its own value: refused, or copied
+module _ (short : ℕ) (t out : List ℕ) where
+  pub whole-short : length out < length t → Ended short (done t 0) out out (Refused short (length t) 0)
+  whole-short h = done-short short t 0 out refl h
+
+  pub whole-written : {last : List ℕ} → length t ≤ length out → last ≡ laid t out → Ended short (done t 0) out last (Done (length t) 0)
+  whole-written h e =
+      let k = done-written short t 0 out refl h in
+      (k .0, e ∙ sym (over-fits t out h) ∙ k .1)
 
 module _ (short : ℕ) (o : Outcome) (out : List ℕ) {old new : List ℕ} {r : Answer} {len openings : ℕ} (e : r ≡ Done len openings) (w : Walked o old new r) where
   -- the count, taken apart

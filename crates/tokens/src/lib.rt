@@ -8,7 +8,7 @@ ghost use Rattle.output.specs.Over.{over};
 ghost use Rattle.charref.specs.CharRef.{anyCharacter, encode};
 ghost use Rattle.charref.specs.Reading.{Found};
 ghost use Rattle.tokens.specs.Outcome.{done, numberOutcome};
-ghost use Rattle.tokens.specs.Walking.{NameEnd, Stepped, handedOn};
+ghost use Rattle.tokens.specs.Walking.{NameEnd, Stepped, Ended, handedOn};
 use charref::CharNumber;
 use charref::Quick;
 use text::Answer;
@@ -164,5 +164,23 @@ pub fn number_length(digits: &[u8], next: usize) -> Step
         at: next,
         len: charref::utf8_length(c),
         openings: 0,
+    }
+}
+
+// A text that is its own value goes to the start of `out`; a buffer that is too short is refused by the number given.
+pub fn copied_whole(text: &[u8], short: u32, out: &mut [u8]) -> Answer
+    ensures { λ r. ⌜ Ended short (done (now (text .entry)) 0) (now (out .entry)) (now (out .exit)) r ⌝ }
+{
+    if out.len() < text.len() {
+        return Answer::Refused {
+            number: short,
+            first: text.len() as u64,
+            second: 0,
+        };
+    }
+    output::put_run(text, out);
+    Answer::Done {
+        first: text.len() as u64,
+        second: 0,
     }
 }

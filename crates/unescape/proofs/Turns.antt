@@ -1,18 +1,17 @@
 -- What the loop over runs and references keeps, and its turns. Assumes nothing.
 use mathlib.Core.Path.{_≡_, sym, ap, subst, _∙_}
-use mathlib.Core.List.{List, [], _∷_, append-nil}
+use mathlib.Core.List.{List, [], append-nil}
 use Prim.Native.Nat.{ℕ, _+_, _-_, _*_, _≤_, _<_, min}
 use native.Mathlib.Omega.{arith}
 use lib.ListN.{length, getD, take, drop}
 use lib.Seq.{take-all}
-use borrow.Author.Tests.{eqb-true, lt-ltb, le-ltb}
+use borrow.Author.Tests.{eqb-true}
 use borrow.Rule.Slice.PartMut.{midOf, putMid}
-use Rattle.text.specs.Call.{callOf, laid}
 use Rattle.text.specs.declared.Answer.the-variants.{Done, Refused}
 use Rattle.entity.specs.Binding.{Bound}
 use Rattle.output.specs.Over.{over}
 use Rattle.output.proofs.Clip.{over-nothing}
-use Rattle.tokens.specs.Outcome.{done, prepend, finished}
+use Rattle.tokens.specs.Outcome.{done, prepend}
 use Rattle.tokens.specs.Walking.{RunEnd, Walked}
 use Rattle.tokens.specs.declared.Step.{Step}
 use Rattle.tokens.specs.declared.Step.the-variants.{Next, Stopped}
@@ -95,13 +94,3 @@ module _ (bind : List ℕ → Bound) (text : List ℕ) where
       run-plain textHead (replaced bind) text isAmp others-copied 0 e 0 (r .run)
       ∙ ap (prepend (take (e - 0) text)) (run-over textHead (replaced bind) text e 0 (omega arith))
       ∙ ap (λ (l : List ℕ). done l 0) (append-nil (take (e - 0) text) ∙ take-all (e - 0) text (omega arith))
-
--- 19, or the text in the output
-module _ (text out : List ℕ) where
-  pub whole-short : length out < length text → callOf (Refused 19 (length text) 0) (out ∷ []) ≡ finished (done text 0) out
-  unfolding finished
-  whole-short h = rw (lt-ltb (length out) (length text) h)
-
-  pub whole-laid : {new : List ℕ} → length text ≤ length out → new ≡ laid text out → callOf (Done (length text) 0) (new ∷ []) ≡ finished (done text 0) out
-  unfolding finished
-  whole-laid h q = rw (q, le-ltb (length out) (length text) h)

@@ -7,7 +7,7 @@ ghost use lib.ListN.{length, getD};
 ghost use Rattle.text.specs.Call.{callOf};
 ghost use Rattle.entity.specs.Table.{ValidTable};
 ghost use Rattle.entity.specs.Binding.{binding, boundTo, Lies};
-ghost use Rattle.tokens.specs.Outcome.{done, finished};
+ghost use Rattle.tokens.specs.Outcome.{finished};
 ghost use Rattle.output.specs.Runs.{Plain};
 ghost use Rattle.tokens.specs.Walking.{RunEnd, Walked};
 ghost use Rattle.unescape.specs.Unescape.{unescape};
@@ -481,24 +481,6 @@ fn unescape_long(text: &[u8], list: &[u8], pool: &[u8], out: &mut [u8]) -> Answe
     unescape_runs(text, list, pool, out)
 }
 
-// A text that is its own value: 19 where there is no room.
-fn copied_whole(text: &[u8], out: &mut [u8]) -> Answer
-    ensures { λ r. ⌜ callOf r (now (out .exit) ∷ []) ≡ finished (done (now (text .entry)) 0) (now (out .entry)) ⌝ }
-{
-    if out.len() < text.len() {
-        return Answer::Refused {
-            number: 19,
-            first: text.len() as u64,
-            second: 0,
-        };
-    }
-    output::put_run(text, out);
-    Answer::Done {
-        first: text.len() as u64,
-        second: 0,
-    }
-}
-
 // A text without references is copied at once. A short one's value is held while it is counted: a refusal leaves the output, 19 too.
 pub fn unescape_with(text: &[u8], list: &[u8], pool: &[u8], out: &mut [u8]) -> Answer
     requires { ⌜ length (now text) ≤ 16777216 ⌝ }
@@ -506,7 +488,7 @@ pub fn unescape_with(text: &[u8], list: &[u8], pool: &[u8], out: &mut [u8]) -> A
     ensures { λ r. ⌜ callOf r (now (out .exit) ∷ []) ≡ finished (unescape (binding (now (list .entry)) (now (pool .entry))) (now (text .entry))) (now (out .entry)) ⌝ }
 {
     if far_amp(text, 0) == text.len() {
-        return copied_whole(text, out);
+        return tokens::copied_whole(text, 19, out);
     }
     if 128 < text.len() {
         return unescape_long(text, list, pool, out);

@@ -3,7 +3,7 @@ use mathlib.Core.Path.{sym, ap, _∙_}
 use mathlib.Core.List.{[], _∷_}
 use Rattle.text.specs.Call.{callOf}
 use Rattle.text.specs.declared.Answer.{Answer}
-use Rattle.tokens.specs.Outcome.{Outcome, finished}
+use Rattle.tokens.specs.Outcome.{Outcome, done, finished}
 use Rattle.tokens.proofs.Finished.{ended-call, ended-refused, ended-short, ended-written, ended-held}
 use Rattle.unescape.specs.Unescape.{unescape}
 use Rattle.unescape.proofs.Turns.{own-value}
@@ -23,7 +23,7 @@ same-length : tie.Need-same-length
 same-length c = search needs
 
 returns : tie.Need-returns
-returns c = c .before .before .copied-whole .ensures ∙ ap (λ (o : Outcome). finished o (c .before .before .before .before .before .before .before .before .before .before .args .out .now)) (sym (own-value (binding (c .before .before .before .before .before .before .before .before .before .before .args .list .now) (c .before .before .before .before .before .before .before .before .before .before .args .pool .now)) (c .before .before .before .before .before .before .before .before .before .before .args .text .now) (c .before .before .before .before .before .far-amp .ensures) (c .before .before .before .before .if1 .taken)))
+returns c = ended-call (done (c .before .before .before .before .before .before .before .before .before .before .args .text .now) 0) (c .before .before .before .before .before .before .before .before .before .before .args .out .now) (c .before .before .copied-whole .ensures) ∙ ap (λ (o : Outcome). finished o (c .before .before .before .before .before .before .before .before .before .before .args .out .now)) (sym (own-value (binding (c .before .before .before .before .before .before .before .before .before .before .args .list .now) (c .before .before .before .before .before .before .before .before .before .before .args .pool .now)) (c .before .before .before .before .before .before .before .before .before .before .args .text .now) (c .before .before .before .before .before .far-amp .ensures) (c .before .before .before .before .if1 .taken)))
 
 unescape-long-requires : tie.Need-unescape-long-requires
 unescape-long-requires c κs = search needs

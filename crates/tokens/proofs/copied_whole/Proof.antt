@@ -1,7 +1,7 @@
-use Rattle.attribute.proofs.Whole.{whole-short, whole-written}
+use Rattle.tokens.proofs.Finished.{whole-short, whole-written}
 use borrow.Author.Needs.{needs}
-use Rattle.attribute.proofs.copied_whole.Statement.{statement}
-use Rattle.attribute.proofs.copied_whole.Tie as tie
+use Rattle.tokens.proofs.copied_whole.Statement.{statement}
+use Rattle.tokens.proofs.copied_whole.Tie as tie
 
 returns : tie.Need-returns
 returns c = whole-short (c .before .before .before .args .short) (c .before .before .before .args .text .now) (c .before .before .before .args .out .now) (c .if1 .taken)
