@@ -12,7 +12,7 @@ ghost use Rattle.entity.specs.Table.{ValidTable};
 ghost use Rattle.entity.specs.Binding.{binding, boundTo, Lies};
 ghost use Rattle.tokens.specs.Outcome.{done, finished};
 ghost use Rattle.output.specs.Runs.{Plain};
-ghost use Rattle.tokens.specs.Walking.{RunEnd, Stepped, Walked, Ended, nextAt};
+ghost use Rattle.tokens.specs.Walking.{RunEnd, Within, Stepped, Walked, Ended, nextAt};
 ghost use Rattle.attribute.specs.Heads.{attributeHead};
 ghost use Rattle.attribute.specs.Walk.{walk, normalize, readingOf};
 ghost use Rattle.attribute.specs.Form.{formed};
@@ -76,8 +76,7 @@ fn ends_run(b: u8, newer: bool) -> bool
 // The next stop among the eight bytes from `from` on, else the place after them.
 fn near_stop(text: &[u8], from: usize, newer: bool) -> usize
     requires { ⌜ from + 8 ≤ length (now text) ⌝ }
-    ensures { λ r. ⌜ Plain (stopByte newer) (now (text .entry)) from r ⌝ }
-    ensures { λ r. ⌜ (r ≤ from + 8) × (r < from + 8 → stopByte newer (getD (now (text .entry)) r 0) ≡ true) ⌝ }
+    ensures { λ r. ⌜ Within (stopByte newer) (now (text .entry)) from 8 r ⌝ }
 {
     for k in 0..8usize {
         if ends_run(text[from + k], newer) {

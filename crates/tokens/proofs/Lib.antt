@@ -1,4 +1,5 @@
 pub mod Runs
+pub mod Search
 pub mod Names
 pub mod References
 pub mod Numbers

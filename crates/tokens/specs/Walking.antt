@@ -18,6 +18,12 @@ pub record RunEnd (stops : ℕ → Bool) (text : List ℕ) (i e : ℕ) : Type 0 
   pub run : Plain stops text i e
   pub ends : e < length text → stops (getD text e 0) ≡ true
 
+-- a search through `n` bytes from `i` on: the first stop among them is at `e`, or `e` is the place after them
+pub record Within (stops : ℕ → Bool) (text : List ℕ) (i n e : ℕ) : Type 0 where
+  pub run : Plain stops text i e
+  pub to : e ≤ i + n
+  pub ends : e < i + n → stops (getD text e 0) ≡ true
+
 -- the stop test fits the reading of heads: any other byte is copied
 abbrev pub Copies : (ℕ → Bool) → Heads → Type 0
 Copies stops at = (offset b : ℕ) (bs : List ℕ) → stops b ≡ false → at offset b bs ≡ head (copy b) 0

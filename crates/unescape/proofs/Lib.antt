@@ -1,4 +1,3 @@
-pub mod Search
 pub mod Puts
 pub mod Stops
 pub mod Turns

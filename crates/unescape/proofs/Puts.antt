@@ -16,9 +16,9 @@ use Rattle.output.specs.Runs.{Plain}
 use Rattle.output.proofs.Clip.{over-byte, over-fits, over-more, length-over}
 use Rattle.output.proofs.Laid.{rest-part}
 use Rattle.output.proofs.Runs.{plain-none, plain-join}
-use Rattle.tokens.specs.Walking.{RunEnd}
-use Rattle.unescape.specs.Steps.{Within, Put}
-use Rattle.unescape.proofs.Search.{plain-next, within-here, within-none, end-after, end-far}
+use Rattle.tokens.specs.Walking.{RunEnd, Within}
+use Rattle.tokens.proofs.Search.{plain-next, within-here, within-none, end-after, end-far}
+use Rattle.unescape.specs.Steps.{Put}
 
 piece-length : (text : List ℕ) (i e : ℕ) → e ≤ length text → length (take (e - i) (drop i text)) ≡ e - i
 piece-length text i e h = length-take-le (e - i) (drop i text) (rw length-drop (omega arith))

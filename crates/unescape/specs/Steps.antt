@@ -1,15 +1,14 @@
 -- The terms in which unescaping is proved: its stop test, and what one step gives and how far it goes. Assumes nothing.
-use Prim.Native.Nat.{ℕ, _+_, _-_, _≤_, _<_}
+use Prim.Native.Nat.{ℕ, _-_, _≤_, _<_}
 use mathlib.Core.Path.{_≡_}
-use mathlib.Core.Bool.{Bool, true}
+use mathlib.Core.Bool.{Bool}
 use mathlib.Core.List.{List}
-use lib.ListN.{length, getD, take, drop}
+use lib.ListN.{length, take, drop}
 use lib.Dec.{eqb}
 use Rattle.entity.specs.Binding.{Bound}
 use Rattle.entity.specs.declared.Binding.{Binding}
 use Rattle.entity.specs.declared.Binding.the-variants.{Text, Predefined, Unknown}
 use Rattle.output.specs.Over.{over}
-use Rattle.output.specs.Runs.{Plain}
 use Rattle.tokens.specs.Tokens.{tokenOf}
 use Rattle.tokens.specs.Outcome.{Outcome, done, refused}
 use Rattle.tokens.specs.Walking.{headAt, nextAt, outcomeOf, Stepped}
@@ -20,12 +19,6 @@ use Rattle.unescape.specs.Unescape.{textHead, copied, replaced}
 -- Unescaping: the one byte at which a run ends
 abbrev pub isAmp : ℕ → Bool
 isAmp b = eqb b 38
-
--- a search through `n` bytes from `i` on: the first stop among them is at `e`, or `e` is the place after them
-pub record Within (stops : ℕ → Bool) (text : List ℕ) (i n e : ℕ) : Type 0 where
-  pub run : Plain stops text i e
-  pub to : e ≤ i + n
-  pub ends : e < i + n → stops (getD text e 0) ≡ true
 
 -- the bytes from `i` up to `e` are written at the output's start, as many as there is room for
 abbrev pub Put : List ℕ → ℕ → ℕ → List ℕ → List ℕ → Type 0

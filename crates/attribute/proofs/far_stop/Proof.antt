@@ -1,4 +1,5 @@
 use Rattle.output.proofs.Runs.{plain-join}
+use Rattle.tokens.proofs.Search.{end-after}
 use Rattle.attribute.specs.Steps.{stopByte}
 use borrow.Author.Needs.{needs}
 use Rattle.attribute.proofs.far_stop.Statement.{statement}
@@ -14,10 +15,7 @@ bytes-stop-requires : tie.Need-bytes-stop-requires
 bytes-stop-requires c κs = search needs
 
 returns : tie.Need-returns
-returns c =
-    let joined = plain-join (stopByte (c .before .before .before .before .args .newer)) (c .before .before .before .before .args .text .now) (c .before .before .before .before .args .from) in
-    let blocks = joined (c .before .before .plain-blocks .result) (c .before .plain-blocks2 .result) (c .before .before .plain-blocks .ensures) (c .before .plain-blocks2 .ensures) in
-    record { run = joined (c .before .plain-blocks2 .result) (c .bytes-stop .result) blocks (c .bytes-stop .ensures .run); ends = c .bytes-stop .ensures .ends }
+returns c = end-after (stopByte (c .before .before .before .before .args .newer)) (c .before .before .before .before .args .text .now) (c .before .before .before .before .args .from) (plain-join (stopByte (c .before .before .before .before .args .newer)) (c .before .before .before .before .args .text .now) (c .before .before .before .before .args .from) (c .before .before .plain-blocks .result) (c .before .plain-blocks2 .result) (c .before .before .plain-blocks .ensures) (c .before .plain-blocks2 .ensures)) (c .bytes-stop .ensures)
 
 pub far-stop-spec : {M : Type 1} → statement M
 far-stop-spec =

@@ -1,4 +1,4 @@
-use Rattle.output.proofs.Runs.{plain-join}
+use Rattle.tokens.proofs.Search.{end-near, end-far}
 use Rattle.attribute.specs.Steps.{stopByte}
 use borrow.Author.Needs.{needs}
 use Rattle.attribute.proofs.run_end.Statement.{statement}
@@ -20,17 +20,13 @@ add-if2 : tie.Need-add-if2
 add-if2 c = search needs
 
 returns-2 : tie.Need-returns-2
-returns-2 c = record { run = c .before .near-stop .ensures .0; ends = λ h. c .before .near-stop .ensures .1 .1 (c .if2 .taken) }
+returns-2 c = end-near (stopByte (c .before .before .before .before .args .newer)) (c .before .before .before .before .args .text .now) (c .before .before .before .before .args .from) (c .before .near-stop .ensures) (c .if2 .taken)
 
 far-stop-requires : tie.Need-far-stop-requires
 far-stop-requires c κs = search needs
 
 returns-3 : tie.Need-returns-3
-returns-3 c =
-    record {
-      run = plain-join (stopByte (c .before .before .before .before .before .args .newer)) (c .before .before .before .before .before .args .text .now) (c .before .before .before .before .before .args .from) (c .before .before .near-stop .result) (c .far-stop .result) (c .before .before .near-stop .ensures .0) (c .far-stop .ensures .run);
-      ends = c .far-stop .ensures .ends;
-    }
+returns-3 c = end-far (stopByte (c .before .before .before .before .before .args .newer)) (c .before .before .before .before .before .args .text .now) (c .before .before .before .before .before .args .from) (c .before .before .near-stop .ensures) (c .far-stop .ensures)
 
 pub run-end-spec : {M : Type 1} → statement M
 run-end-spec =

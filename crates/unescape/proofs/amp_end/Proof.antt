@@ -1,5 +1,5 @@
 use Rattle.unescape.specs.Steps.{isAmp}
-use Rattle.unescape.proofs.Search.{end-near, end-far}
+use Rattle.tokens.proofs.Search.{end-near, end-far}
 use borrow.Author.Needs.{needs}
 use Rattle.unescape.proofs.amp_end.Statement.{statement}
 use Rattle.unescape.proofs.amp_end.Tie as tie

@@ -1,6 +1,6 @@
 use Rattle.output.proofs.Runs.{plain-join}
 use Rattle.unescape.specs.Steps.{isAmp}
-use Rattle.unescape.proofs.Search.{end-after}
+use Rattle.tokens.proofs.Search.{end-after}
 use borrow.Author.Needs.{needs}
 use Rattle.unescape.proofs.far_amp.Statement.{statement}
 use Rattle.unescape.proofs.far_amp.Tie as tie

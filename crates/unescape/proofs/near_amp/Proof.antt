@@ -6,7 +6,7 @@ use borrow.Author.Needs.{needs}
 use Rattle.output.specs.Runs.{Plain}
 use Rattle.output.proofs.Runs.{plain-none}
 use Rattle.unescape.specs.Steps.{isAmp}
-use Rattle.unescape.proofs.Search.{plain-next, within-here, within-none}
+use Rattle.tokens.proofs.Search.{plain-next, within-here, within-none}
 use Rattle.unescape.proofs.near_amp.Statement.{statement}
 use Rattle.unescape.proofs.near_amp.Tie as tie
 

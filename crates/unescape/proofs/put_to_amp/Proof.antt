@@ -2,7 +2,7 @@ use Prim.Native.Nat.{_-_}
 use native.Mathlib.Omega.{arith}
 use lib.ListN.{length}
 use Rattle.unescape.specs.Steps.{isAmp}
-use Rattle.unescape.proofs.Search.{end-near}
+use Rattle.tokens.proofs.Search.{end-near}
 use Rattle.unescape.proofs.Puts.{eight-each, nearby-far, put-length}
 use borrow.Author.Needs.{needs}
 use Rattle.unescape.proofs.put_to_amp.Statement.{statement}

@@ -7,8 +7,7 @@ use native.Mathlib.Omega.{arith}
 use lib.ListN.{length, getD}
 use Rattle.output.specs.Runs.{Plain}
 use Rattle.output.proofs.Runs.{plain-byte, plain-join}
-use Rattle.tokens.specs.Walking.{RunEnd}
-use Rattle.unescape.specs.Steps.{Within}
+use Rattle.tokens.specs.Walking.{RunEnd, Within}
 
 module _ (stops : ℕ → Bool) (text : List ℕ) (i : ℕ) where
   -- one byte more
