@@ -2,13 +2,12 @@
 use mathlib.Core.Path.{_≡_, refl, sym, ap, _∙_}
 use mathlib.Core.Logic.{_≢_}
 use mathlib.Core.Bool.{Bool, true, false, true≢false}
-use mathlib.Core.List.{List, [], _∷_, append-nil}
+use mathlib.Core.List.{List, [], _∷_}
 use Prim.Native.Nat.{ℕ, zero, suc, _+_, _-_, _≤_, _<_}
 use native.Mathlib.Omega.{arith}
 use native.Mathlib.Numerals.{add-one}
 use lib.Dec.{eqb}
 use lib.ListN.{length, getD, take, drop}
-use lib.Seq.{take-all}
 use borrow.Author.Tests.{eq-eqb, ne-eqb, eqb-true, eqb-false}
 use Rattle.text.specs.Bytes.{pick, sameBytes}
 use Rattle.text.specs.Version.{Rule}
@@ -24,41 +23,21 @@ use Rattle.entity.specs.Binding.{Bound, text, predefined, unknown, predefinedOf
 use Rattle.entity.specs.declared.Binding.{Binding}
 use Rattle.entity.specs.declared.Binding.the-variants.{Text, Predefined, Unknown}
 use Rattle.output.specs.Runs.{Plain}
-use Rattle.output.proofs.Clip.{length-over}
 use Rattle.output.proofs.Runs.{plain-byte}
 use Rattle.tokens.specs.Tokens.{Token, copy, stop, Head, tokenOf, skipOf, nameAt, referenceAt, tokens}
-use Rattle.tokens.specs.Outcome.{Outcome, done, refused, prepend, run, produced, answerOf, numberOutcome}
+use Rattle.tokens.specs.Outcome.{Outcome, done, refused, run, answerOf, numberOutcome}
 use Rattle.tokens.specs.Walking.{NameEnd, headAt, nextAt, outcomeOf, stepOf, Stepped, Walked}
 use Rattle.tokens.specs.declared.Step.{Step}
 use Rattle.tokens.specs.declared.Step.the-variants.{Stopped}
 use Rattle.tokens.proofs.Names.{closed-reference}
 use Rattle.tokens.proofs.Numbers.{Small, number-small, number-written}
-use Rattle.tokens.proofs.Progress.{run-over, run-plain}
+use Rattle.tokens.proofs.Steps.{stepped-as, stepped-refused}
+use Rattle.tokens.proofs.Progress.{run-whole}
 use Rattle.tokens.proofs.References.{reference-none, reference-number, reference-named, name-size}
 use Rattle.attribute.specs.Heads.{attributeHead}
 use Rattle.attribute.specs.Walk.{Settings, opened, answer, exhausted, walk, reading, readingOf}
 use Rattle.attribute.specs.Steps.{stopByte, stopAnswer, outcomeAt, Blank, ampOr, stepFrom, Counted, CountedStep}
 use Rattle.attribute.proofs.Stops.{copies, IsStop, stop-head}
-
--- ---- a step, said otherwise
-
-pub stepped-as : {next next′ : ℕ} {o o′ : Outcome} {old new : List ℕ} {r : Step} → next′ ≡ next → o′ ≡ o → Stepped next o old new r → Stepped next′ o′ old new r
-stepped-as e f s = record { answers = s .answers ∙ rw (e, f); writes = s .writes ∙ rw f }
-
-pub stepped-told : {next : ℕ} {o : Outcome} {old new : List ℕ} {r r′ : Step} → r ≡ r′ → Stepped next o old new r → Stepped next o old new r′
-stepped-told e s = record { answers = sym e ∙ s .answers; writes = s .writes }
-
-pub walked-as : {o o′ : Outcome} {old new : List ℕ} {r : Answer} → o′ ≡ o → Walked o old new r → Walked o′ old new r
-walked-as e w = record { answers = w .answers ∙ rw e; writes = w .writes ∙ rw e }
-
--- the output keeps its length
-pub stepped-length : {next : ℕ} {o : Outcome} {old new : List ℕ} {r : Step} → Stepped next o old new r → length new ≡ length old
-stepped-length {next} {o} {old} s = ap length (s .writes) ∙ length-over (produced o) old
-
--- a refusal writes nothing
-pub stepped-refused : {next : ℕ} {o : Outcome} {openings number first second : ℕ} {old : List ℕ} {r : Step} → o ≡ refused [] openings number first second
-    → r ≡ Stopped number first second → Stepped next o old old r
-stepped-refused e q = record { answers = q ∙ rw e; writes = rw e }
 
 -- the walk over a replacement text as the step of its reference
 pub stepped-walked : {next : ℕ} {o : Outcome} {old new : List ℕ} {walked : Answer} {r : Step} → Walked o old new walked → r ≡ stepFrom next walked → Stepped next o old new r
@@ -94,12 +73,7 @@ module _ (s : Settings) where
 -- a text without stops, walked, is itself at every depth
 pub walk-plain : (s : Settings) (newer : Bool) (depth : ℕ) (t : List ℕ) (n : ℕ) → Plain (stopByte newer) t 0 (length t) → walk s (attributeHead (ruleFor newer)) depth t n ≡ done t n
 walk-plain s newer depth t n p =
-    let head = attributeHead (ruleFor newer) in
-    let whole : take (length t - 0) (drop 0 t) ≡ t = take-all (length t - 0) t (omega arith) in
-    walk-run s (ruleFor newer) depth t n
-    ∙ run-plain head (stopAnswer s depth) t (stopByte newer) (copies newer) 0 (length t) n p
-    ∙ ap (prepend (take (length t - 0) (drop 0 t))) (run-over head (stopAnswer s depth) t (length t) n (omega arith))
-    ∙ ap (λ (l : List ℕ). done l n) (append-nil (take (length t - 0) (drop 0 t)) ∙ whole)
+    walk-run s (ruleFor newer) depth t n ∙ run-whole (attributeHead (ruleFor newer)) (stopAnswer s depth) t (stopByte newer) (copies newer) n p
 
 -- ---- what a name is bound to, `amp` aside
 

@@ -3,6 +3,7 @@ pub mod Search
 pub mod Names
 pub mod References
 pub mod Numbers
+pub mod Steps
 pub mod Progress
 pub mod Finished
 pub mod Carried

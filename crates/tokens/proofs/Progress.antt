@@ -6,18 +6,16 @@ use mathlib.Core.List.{List, [], _∷_, _++_, append-nil, append-assoc}
 use Prim.Native.Nat.{ℕ, zero, suc, _+_, _-_, _≤_, _<_, min}
 use native.Mathlib.Omega.{arith}
 use lib.ListN.{length, getD, take, drop, length-append, length-drop, drop-of-length-le}
-use lib.Seq.{drop-cons, length-take-le}
+use lib.Seq.{drop-cons, length-take-le, take-all}
 use native.Mathlib.Numerals.{add-one}
 use borrow.Rule.Slice.PartMut.{midOf, putMid}
-use Rattle.text.specs.declared.Answer.{Answer}
 use Rattle.text.specs.declared.Answer.the-variants.{Done, Refused}
 use Rattle.output.specs.Over.{over}
 use Rattle.output.proofs.Clip.{over-more, length-over}
-use Rattle.tokens.specs.Tokens.{Stop, Token, copy, stop, Head, head, Heads, tokens, tokenOf, skipOf}
-use Rattle.tokens.specs.Outcome.{Outcome, done, refused, prepend, followed, run, produced}
+use Rattle.tokens.specs.Tokens.{Stop, Token, copy, stop, Head, Heads, tokens, tokenOf, skipOf}
+use Rattle.tokens.specs.Outcome.{Outcome, done, refused, prepend, followed, run}
 use Rattle.output.specs.Runs.{Plain}
 use Rattle.tokens.specs.Walking.{Copies, headAt, nextAt, outcomeOf, Stepped, Walked}
-use Rattle.tokens.specs.declared.Step.{Step}
 use Rattle.tokens.specs.declared.Step.the-variants.{Next, Stopped}
 use Rattle.tokens.proofs.Runs.{tokens-at}
 
@@ -86,15 +84,15 @@ module _ (at : Heads) (answer : Stop → ℕ → Outcome) (text : List ℕ) wher
         run-count (e - i) i openings (omega (arith, p .from, p .to)) (λ k g l. p .none k g (omega (arith, p .from)))
         ∙ ap (λ (k : ℕ). prepend (take (e - i) (drop i text)) (fromOn k openings)) q
 
--- ---- a single step
+    -- a text without stops is its own value
+    pub run-whole : (openings : ℕ) → Plain stops text 0 (length text) → run answer (tokens at 0 0 text) openings ≡ done text openings
+    run-whole openings p =
+        let piece = take (length text - 0) text in
+        run-plain 0 (length text) openings p
+        ∙ ap (prepend piece) (run-over (length text) openings (omega arith))
+        ∙ ap (λ (l : List ℕ). done l openings) (append-nil piece ∙ take-all (length text - 0) text (omega arith))
 
--- the head at the offset is known
-pub stepped-at : (at : Heads) (answer : Stop → ℕ → Outcome) (text : List ℕ) (i openings : ℕ) {t : Token} {k next : ℕ} {old new : List ℕ} {r : Step}
-    → headAt at text i ≡ head t k → i + 1 + k ≡ next → Stepped next (outcomeOf answer t openings) old new r
-    → Stepped (nextAt at text i) (outcomeOf answer (tokenOf (headAt at text i)) openings) old new r
-stepped-at at answer text i openings e q s = rw (e, q) s
-
--- its answer, taken apart
+-- ---- a single step's answer, taken apart
 
 record Went (next : ℕ) (o : Outcome) (old new : List ℕ) (a l m : ℕ) : Type 0 where
   value : List ℕ
@@ -132,12 +130,6 @@ halted next (refused before openings number first second) old new n f s p =
     let y : first ≡ f = cc in
     let z : second ≡ s = cc in
     record { before = before; openings = openings; whole = rw (x, y, z); holds = p .writes }
-
--- ---- the whole walk
-
--- the output keeps its length
-pub walked-length : {o : Outcome} {old new : List ℕ} {r : Answer} → Walked o old new r → length new ≡ length old
-walked-length {o} {old} w = ap length (w .writes) ∙ length-over (produced o) old
 
 -- ---- the loop
 

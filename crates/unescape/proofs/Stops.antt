@@ -2,7 +2,7 @@
 use mathlib.Core.Path.{_≡_, refl, sym, ap, subst, _∙_}
 use mathlib.Core.Logic.{_≢_}
 use mathlib.Core.Bool.{true}
-use mathlib.Core.List.{List, []}
+use mathlib.Core.List.{List}
 use Prim.Native.Nat.{ℕ, _+_, _-_, _≤_, _<_}
 use native.Mathlib.Omega.{arith}
 use native.Mathlib.Numerals.{add-one}
@@ -16,13 +16,12 @@ use Rattle.entity.specs.Binding.{Bound, boundTo, Lies}
 use Rattle.entity.specs.declared.Binding.{Binding}
 use Rattle.entity.specs.declared.Binding.the-variants.{Text, Predefined, Unknown}
 use Rattle.output.specs.Over.{over}
-use Rattle.output.proofs.Clip.{over-byte}
 use Rattle.tokens.specs.Tokens.{stop, unterminated}
 use Rattle.tokens.specs.Outcome.{Outcome, done, refused, numberOutcome}
 use Rattle.tokens.specs.Walking.{Copies, NameEnd, headAt, Stepped}
 use Rattle.tokens.specs.declared.Step.{Step}
 use Rattle.tokens.specs.declared.Step.the-variants.{Next, Stopped}
-use Rattle.tokens.proofs.Progress.{stepped-at}
+use Rattle.tokens.proofs.Steps.{stepped-at, stepped-refused, stepped-byte}
 use Rattle.tokens.proofs.Numbers.{Small, number-small, number-written}
 use Rattle.tokens.proofs.Names.{closed-reference}
 use Rattle.tokens.proofs.References.{reference, reference-none, reference-number, reference-named}
@@ -54,7 +53,7 @@ module _ (pool name : List ℕ) (i next : ℕ) {bound : Bound} where
   unfolding copied boundTo
   named-predefined b {old} {new} q w =
       subst (λ (d : Bound). Named d name i next old new (Next next 1 0)) q
-      (record { step = record { answers = refl; writes = w ∙ over-byte [] old b }; short = (omega arith, refl) })
+      (record { step = stepped-byte b w; short = (omega arith, refl) })
 
   -- refusal 11
   pub named-unknown : {size : ℕ} {old : List ℕ} → length name ≡ size → boundTo pool Unknown ≡ bound
@@ -62,7 +61,7 @@ module _ (pool name : List ℕ) (i next : ℕ) {bound : Bound} where
   unfolding copied boundTo
   named-unknown {size} {old} n q =
       subst (λ (d : Bound). Named d name i next old old (Stopped 11 (i + 1) (i + 1 + size))) q
-      (record { step = record { answers = rw (sym n, add-one i); writes = refl }; short = tt })
+      (record { step = stepped-refused refl (rw (sym n, add-one i)); short = tt })
 
   -- a name that is looked up is what its binding stands for
   pub named-as : {b : Bound} {old new : List ℕ} {r : Step} → b ≡ bound → Named b name i next old new r → Named bound name i next old new r
@@ -95,7 +94,7 @@ module _ (bind : List ℕ → Bound) (text : List ℕ) (i e : ℕ) (amp : getD t
   referred-none q = record {
     step =
         stepped-at textHead (replaced bind) text i 0 {t = stop (unterminated i e)} {next = i + 1 + 0} (at-amp ∙ reference-none true text i e n q) refl
-        (record { answers = refl; writes = refl });
+        (stepped-refused refl refl);
     near = tt;
   }
 

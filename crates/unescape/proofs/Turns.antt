@@ -1,21 +1,21 @@
 -- What the loop over runs and references keeps, and its turns. Assumes nothing.
-use mathlib.Core.Path.{_≡_, sym, ap, subst, _∙_}
-use mathlib.Core.List.{List, [], append-nil}
+use mathlib.Core.Path.{_≡_, sym, subst}
+use mathlib.Core.List.{List, []}
 use Prim.Native.Nat.{ℕ, _+_, _-_, _*_, _≤_, _<_, min}
 use native.Mathlib.Omega.{arith}
 use lib.ListN.{length, getD, take, drop}
-use lib.Seq.{take-all}
 use borrow.Author.Tests.{eqb-true}
 use borrow.Rule.Slice.PartMut.{midOf, putMid}
 use Rattle.text.specs.declared.Answer.the-variants.{Done, Refused}
 use Rattle.entity.specs.Binding.{Bound}
 use Rattle.output.specs.Over.{over}
+use Rattle.output.specs.Runs.{Plain}
 use Rattle.output.proofs.Clip.{over-nothing}
-use Rattle.tokens.specs.Outcome.{done, prepend}
+use Rattle.tokens.specs.Outcome.{done}
 use Rattle.tokens.specs.Walking.{RunEnd, Walked}
 use Rattle.tokens.specs.declared.Step.{Step}
 use Rattle.tokens.specs.declared.Step.the-variants.{Next, Stopped}
-use Rattle.tokens.proofs.Progress.{run-plain, run-over, Progress, progress-start, progress-length, progress-run, progress-step, progress-refused, progress-end}
+use Rattle.tokens.proofs.Progress.{run-whole, Progress, progress-start, progress-length, progress-run, progress-step, progress-refused, progress-end}
 use Rattle.unescape.specs.Unescape.{textHead, replaced, unescape}
 use Rattle.unescape.specs.Steps.{isAmp, Referred}
 use Rattle.unescape.proofs.Stops.{others-copied}
@@ -90,7 +90,4 @@ module _ (bind : List ℕ → Bound) (text : List ℕ) where
   -- is its own value
   pub own-value : {e : ℕ} → RunEnd isAmp text 0 e → e ≡ length text → unescape bind text ≡ done text 0
   unfolding unescape
-  own-value {e} r q =
-      run-plain textHead (replaced bind) text isAmp others-copied 0 e 0 (r .run)
-      ∙ ap (prepend (take (e - 0) text)) (run-over textHead (replaced bind) text e 0 (omega arith))
-      ∙ ap (λ (l : List ℕ). done l 0) (append-nil (take (e - 0) text) ∙ take-all (e - 0) text (omega arith))
+  own-value r q = run-whole textHead (replaced bind) text isAmp others-copied 0 (subst (Plain isAmp text 0) q (r .run))

@@ -1,4 +1,4 @@
-use Rattle.attribute.proofs.Single.{walk-run, counted-number, counted-walked, step-zero, step-blank, step-none, step-number, step-char, step-limit, step-text, step-unknown, step-predefined, stepped-told, walked-as, stepped-length, step-plain}
+use Rattle.attribute.proofs.Single.{walk-run, counted-number, counted-walked, step-zero, step-blank, step-none, step-number, step-char, step-limit, step-text, step-unknown, step-predefined, step-plain}
 use mathlib.Core.Bool.{false}
 use lib.Seq.{length-take-le}
 use Rattle.tokens.proofs.References.{digits-from}
@@ -11,7 +11,8 @@ use Rattle.entity.specs.Binding.{Lies}
 use Rattle.attribute.specs.Heads.{attributeHead}
 use Rattle.attribute.specs.Walk.{readingOf}
 use Rattle.attribute.specs.Steps.{stopByte, stopAnswer, Counted, CountedStep}
-use Rattle.tokens.proofs.Progress.{Progress, progress-start, progress-length, progress-end, progress-run, progress-step, progress-refused, walked-length}
+use Rattle.tokens.proofs.Steps.{stepped-told, walked-as, stepped-length, walked-length}
+use Rattle.tokens.proofs.Progress.{Progress, progress-start, progress-length, progress-end, progress-run, progress-step, progress-refused}
 use Rattle.attribute.proofs.Stops.{copies}
 use Prim.Native.Nat.{ℕ, _<_, _+_, _-_, _*_, _≤_}
 use borrow.Fn.Kinds.{In}

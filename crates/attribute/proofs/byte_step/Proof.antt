@@ -1,6 +1,4 @@
-use mathlib.Core.Path.{refl, _∙_}
-use mathlib.Core.List.{[]}
-use Rattle.output.proofs.Clip.{over-byte}
+use Rattle.tokens.proofs.Steps.{stepped-byte}
 use borrow.Author.Needs.{needs}
 use Rattle.attribute.proofs.byte_step.Statement.{statement}
 use Rattle.attribute.proofs.byte_step.Tie as tie
@@ -12,7 +10,7 @@ same-length : tie.Need-same-length
 same-length c = search needs
 
 returns : tie.Need-returns
-returns c = record { answers = refl; writes = c .before .before .put-byte .ensures ∙ over-byte [] (c .before .before .before .before .before .args .out .now) (c .before .before .before .before .before .args .b) }
+returns c = stepped-byte (c .before .before .before .before .before .args .b) (c .before .before .put-byte .ensures)
 
 pub byte-step-spec : {M : Type 1} → statement M
 byte-step-spec = tie.close (tie.spec put-byte-requires same-length returns)

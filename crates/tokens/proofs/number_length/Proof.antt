@@ -2,15 +2,13 @@ use mathlib.Core.Path.{refl, sym, ap, _∙_}
 use mathlib.Core.Logic.{inl, inr}
 use mathlib.Core.List.{[]}
 use native.Mathlib.Nat.{le-refl}
-use Prim.Native.Nat.{ℕ}
 use lib.ListN.{length}
 use lib.Seq.{take-all}
 use Rattle.charref.specs.CharRef.{charNumber, anyCharacter, encode}
 use Rattle.charref.proofs.Numbers.{char-none}
-use Rattle.output.proofs.Clip.{over-nothing}
 use Rattle.tokens.specs.Walking.{handedOn}
 use Rattle.tokens.proofs.Numbers.{number-written, number-handed}
-use Rattle.tokens.specs.declared.Step.the-variants.{Next}
+use Rattle.tokens.proofs.Steps.{stepped-counted}
 use borrow.Author.Needs.{needs}
 use Rattle.tokens.proofs.number_length.Statement.{statement}
 use Rattle.tokens.proofs.number_length.Tie as tie
@@ -50,7 +48,7 @@ utf8-length-requires c κs = search needs
 returns-3 : tie.Need-returns-3
 returns-3 c =
     let whole = sym (c .before .before .before .before .parse-number .ensures ∙ ap (charNumber anyCharacter) (take-all (length (c .before .before .before .before .before .before .before .before .args .digits .now)) (c .before .before .before .before .before .before .before .before .args .digits .now) (le-refl _))) in
-    number-written (c .before .before .before .before .before .before .before .before .args .digits .now) (c .before .before .before .before .before .before .before .before .args .next) 0 (whole ∙ c .before .before .n .given .1) (record { answers = ap (λ (n : ℕ). Next (c .before .before .before .before .before .before .before .before .args .next) n 0) (c .utf8-length .ensures); writes = sym (over-nothing (encode (c .before .before .n .given .0 .0))) })
+    number-written (c .before .before .before .before .before .before .before .before .args .digits .now) (c .before .before .before .before .before .before .before .before .args .next) 0 (whole ∙ c .before .before .n .given .1) (stepped-counted (encode (c .before .before .n .given .0 .0)) (c .utf8-length .ensures))
 
 pub number-length-spec : {M : Type 1} → statement M
 number-length-spec =

@@ -1,11 +1,8 @@
 use mathlib.Core.Bool.{true}
-use mathlib.Core.Path.{sym, ap}
-use Prim.Native.Nat.{ℕ, _+_}
 use native.Mathlib.Omega.{arith}
 use Rattle.charref.specs.CharRef.{encode}
-use Rattle.output.proofs.Clip.{over-nothing}
 use Rattle.entity.specs.Binding.{binding}
-use Rattle.tokens.specs.declared.Step.the-variants.{Next}
+use Rattle.tokens.proofs.Steps.{stepped-counted}
 use Rattle.tokens.proofs.References.{digits-from}
 use Rattle.unescape.proofs.Stops.{referred-none, referred-number, referred-name, referred-char}
 use borrow.Author.Needs.{needs}
@@ -27,7 +24,7 @@ utf8-length-requires c κs = search needs
 returns : tie.Need-returns
 returns c =
     let found = c .before .before .before .quick-reference .ensures (c .before .before .if1 .taken) in
-    referred-char (binding (c .before .before .before .before .before .before .before .args .list .now) (c .before .before .before .before .before .before .before .args .pool .now)) (c .before .before .before .before .before .before .before .args .text .now) (c .before .before .before .before .before .before .before .args .i) (c .before .before .before .quick-reference .result) (c .before .before .before .before .before .before .before .pre .1 .0 .1) (found .1) (found .2) (record { answers = ap (λ (n : ℕ). Next (c .before .before .before .quick-reference .result .end + 1) n 0) (c .utf8-length .ensures); writes = sym (over-nothing (encode (c .before .before .before .quick-reference .result .c))) })
+    referred-char (binding (c .before .before .before .before .before .before .before .args .list .now) (c .before .before .before .before .before .before .before .args .pool .now)) (c .before .before .before .before .before .before .before .args .text .now) (c .before .before .before .before .before .before .before .args .i) (c .before .before .before .quick-reference .result) (c .before .before .before .before .before .before .before .pre .1 .0 .1) (found .1) (found .2) (stepped-counted (encode (c .before .before .before .quick-reference .result .c)) (c .utf8-length .ensures))
 
 name-end-requires : tie.Need-name-end-requires
 name-end-requires c κs = search needs

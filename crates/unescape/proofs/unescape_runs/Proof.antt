@@ -1,4 +1,4 @@
-use Rattle.tokens.proofs.Progress.{walked-length}
+use Rattle.tokens.proofs.Steps.{walked-length}
 use Prim.Native.Nat.{_-_}
 use native.Mathlib.Omega.{arith}
 use lib.ListN.{length}
