@@ -28,12 +28,13 @@ use Rattle.attribute.specs.Steps.{stopByte, Blank}
 
 -- ---- bytes told apart by one comparison
 
-pub common-plain : (b : ℕ) → leb 39 b && leb b 0xC1 ≡ true → (newer : Bool) → stopByte newer b ≡ false
-common-plain b e newer =
-    let low = leb-true 39 b (and-left (leb 39 b) (leb b 0xC1) e) in
-    let high = leb-true b 0xC1 (and-right (leb 39 b) (leb b 0xC1) e) in
-    let none : (c : ℕ) → c < 39 → eqb b c ≡ false = λ c h. ne-eqb b c (λ q. omega (arith, low, h, q)) in
-    let lead : (c : ℕ) → 0xC1 < c → eqb b c ≡ false = λ c h. ne-eqb b c (λ q. omega (arith, high, h, q)) in
+-- the bounds are asked by themselves, so that a wrong one is refused as a number
+pub common-plain : {low high : ℕ} (b : ℕ) → leb low b && leb b high ≡ true → 38 < low → high < 0xC2 → (newer : Bool) → stopByte newer b ≡ false
+common-plain {low} {high} b e past-amp before-lead newer =
+    let from = leb-true low b (and-left (leb low b) (leb b high) e) in
+    let to = leb-true b high (and-right (leb low b) (leb b high) e) in
+    let none : (c : ℕ) → c < 39 → eqb b c ≡ false = λ c h. ne-eqb b c (λ q. omega (arith, from, past-amp, h, q)) in
+    let lead : (c : ℕ) → 0xC1 < c → eqb b c ≡ false = λ c h. ne-eqb b c (λ q. omega (arith, to, before-lead, h, q)) in
     rw (none 9 (omega arith), none 10 (omega arith), none 13 (omega arith), none 38 (omega arith), lead 0xC2 (omega arith), lead 0xE2 (omega arith)) (no newer)
   where
     no : (n : Bool) → n && false ≡ false

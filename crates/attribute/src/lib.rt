@@ -388,7 +388,8 @@ fn normalize_into(
     normalize_attr_steps(text, newer, depth, 0, limit, list, pool, out)
 }
 
-// Is there no stop in the text? The last block is looked at first: it may overlap with the one before it.
+// As is_plain, for the text of a call, with the last block first: where there is a stop, that mostly ends sooner than the search for
+// the first one. It may overlap with the block before it.
 fn is_whole(text: &[u8], newer: bool) -> bool
     requires { ⌜ length (now text) ≤ 16777216 ⌝ }
     ensures { λ r. ⌜ (r ≡ true → Plain (stopByte newer) (now (text .entry)) 0 (length (now (text .entry)))) ⌝ }

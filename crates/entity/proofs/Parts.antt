@@ -82,13 +82,16 @@ module _ (pool : List ℕ) (name n text t : ℕ) where
   unfolding declarationCheck
   well-passed at e i = let j : illFormed pool declared ≡ false = sym (i ∙ ill-is e) in rw (e, j)
 
-  -- name and text inside the pool's ASCII start
-  pub ascii-passed : (at a : ℕ) → Ascii pool a → past ≡ false → leb (name + n) a && leb (text + t) a && not (eqb n 0) ≡ true → passed ≡ declarationCheck pool at declared passed
+  -- name and text inside the pool's ASCII start; where they end is asked by itself, so that a wrong end is refused as a number
+  pub ascii-passed : (at a : ℕ) {nameEnd textEnd : ℕ} → Ascii pool a → past ≡ false → leb nameEnd a && leb textEnd a && not (eqb n 0) ≡ true
+      → name + n ≤ nameEnd → text + t ≤ textEnd → passed ≡ declarationCheck pool at declared passed
   unfolding declarationCheck
-  ascii-passed at a p e i =
-      let both = leb (name + n) a && leb (text + t) a in
+  ascii-passed at a {nameEnd} {textEnd} p e i nameIn textIn =
+      let both = leb nameEnd a && leb textEnd a in
       let b = and-left both (not (eqb n 0)) i in
-      let nameIs = part-ascii pool name n a p (leb-true (name + n) a (and-left (leb (name + n) a) (leb (text + t) a) b)) in
-      let textIs = part-ascii pool text t a p (leb-true (text + t) a (and-right (leb (name + n) a) (leb (text + t) a) b)) in
+      let nameTo = leb-true nameEnd a (and-left (leb nameEnd a) (leb textEnd a) b) in
+      let textTo = leb-true textEnd a (and-right (leb nameEnd a) (leb textEnd a) b) in
+      let nameIs = part-ascii pool name n a p (omega (arith, nameTo, nameIn)) in
+      let textIs = part-ascii pool text t a p (omega (arith, textTo, textIn)) in
       let j : illFormed pool declared ≡ false = unfold illFormed in rw (not-true (eqb n 0) (and-right both (not (eqb n 0)) i), nameIs, textIs) in
       rw (e, j)

@@ -22,7 +22,7 @@ returns c =
 returns-2 : tie.Need-returns-2
 returns-2 c =
     let a = c .before .before .before .args in
-    ascii-passed (a .pool .now) (a .name-start) (a .name-length) (a .text-start) (a .text-length) (a .at) (a .ascii) (c .before .before .before .pre .1) (c .before .if1 .left) (c .if2 .taken)
+    ascii-passed (a .pool .now) (a .name-start) (a .name-length) (a .text-start) (a .text-length) (a .at) (a .ascii) (c .before .before .before .pre .1) (c .before .if1 .left) (c .if2 .taken) (omega arith) (omega arith)
 
 sub-ill-formed : tie.Need-sub-ill-formed
 sub-ill-formed c = search needs
