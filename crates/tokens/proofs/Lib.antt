@@ -11,3 +11,9 @@ pub mod Openings
 pub mod Lengths
 pub mod WellFormedness
 pub mod Related
+pub mod Keys
+pub mod Moved
+pub mod Repeats
+pub mod Alike
+pub mod Memory
+pub mod Going

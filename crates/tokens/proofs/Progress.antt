@@ -94,14 +94,14 @@ module _ (at : Heads) (answer : Stop → ℕ → Outcome) (text : List ℕ) wher
 
 -- ---- a single step's answer, taken apart
 
-record Went (next : ℕ) (o : Outcome) (old new : List ℕ) (a l m : ℕ) : Type 0 where
-  value : List ℕ
-  whole : o ≡ done value m
-  size : length value ≡ l
-  to : a ≡ next
-  holds : new ≡ over value old
+pub record Went (next : ℕ) (o : Outcome) (old new : List ℕ) (a l m : ℕ) : Type 0 where
+  pub value : List ℕ
+  pub whole : o ≡ done value m
+  pub size : length value ≡ l
+  pub to : a ≡ next
+  pub holds : new ≡ over value old
 
-went : (next : ℕ) (o : Outcome) (old new : List ℕ) (a l m : ℕ) → Stepped next o old new (Next a l m) → Went next o old new a l m
+pub went : (next : ℕ) (o : Outcome) (old new : List ℕ) (a l m : ℕ) → Stepped next o old new (Next a l m) → Went next o old new a l m
 went next (done value openings) old new a l m s =
     let e = s .answers in
     let x : m ≡ openings = cc in
@@ -113,13 +113,13 @@ went next (refused before openings number first second) old new a l m s =
     let z : _≡_ {A = ℕ} 0 1 = cc in
     absurd (omega arith)
 
-record Halted (o : Outcome) (old new : List ℕ) (number first second : ℕ) : Type 0 where
-  before : List ℕ
-  openings : ℕ
-  whole : o ≡ refused before openings number first second
-  holds : new ≡ over before old
+pub record Halted (o : Outcome) (old new : List ℕ) (number first second : ℕ) : Type 0 where
+  pub before : List ℕ
+  pub openings : ℕ
+  pub whole : o ≡ refused before openings number first second
+  pub holds : new ≡ over before old
 
-halted : (next : ℕ) (o : Outcome) (old new : List ℕ) (n f s : ℕ) → Stepped next o old new (Stopped n f s) → Halted o old new n f s
+pub halted : (next : ℕ) (o : Outcome) (old new : List ℕ) (n f s : ℕ) → Stepped next o old new (Stopped n f s) → Halted o old new n f s
 halted next (done value openings) old new n f s p =
     let e = p .answers in
     let z : _≡_ {A = ℕ} 0 1 = cc in
@@ -142,7 +142,7 @@ module _ (at : Heads) (answer : Stop → ℕ → Outcome) (text : List ℕ) (ope
     pub rest : run answer (tokens at 0 0 text) opened ≡ prepend value (fromOn at answer text i made)
     pub inside : i ≤ length text
 
-  pub progress-start : Progress old 0 0 opened
+  unfoldable pub progress-start : Progress old 0 0 opened
   progress-start = record {
     value = [];
     size = refl;
@@ -166,22 +166,25 @@ module _ (at : Heads) (answer : Stop → ℕ → Outcome) (text : List ℕ) (ope
 
     -- a writer was lent the rest of the output, `&mut out[w..]`
     module _ {w : ℕ} {part : List ℕ} (least : w ≡ min len (length out)) where
-      pub progress-run : (stops : ℕ → Bool) → Copies stops at → {e : ℕ} → Plain stops text i e
+      unfoldable pub progress-through : {e : ℕ} → i ≤ e → e ≤ length text
+          → fromOn at answer text i made ≡ prepend (take (e - i) (drop i text)) (fromOn at answer text e made)
           → part ≡ over (take (e - i) (drop i text)) (midOf w (length out - w) out)
           → Progress (putMid w (length out - w) out part) e (len + (e - i)) made
-      progress-run stops copies {e} r q =
+      progress-through {e} from to same q =
           let piece = take (e - i) (drop i text) in
-          let n : length piece ≡ e - i = length-take-le (e - i) (drop i text) (rw length-drop (omega (arith, r .from, r .to))) in
+          let n : length piece ≡ e - i = length-take-le (e - i) (drop i text) (rw length-drop (omega (arith, from, to))) in
           record {
             value = p .value ++ piece;
             size = rw (length-append, p .size, n);
             holds = over-more (p .value) piece old (p .holds) (sym (p .size)) least q;
-            rest =
-                p .rest
-                ∙ ap (prepend (p .value)) (run-plain at answer text stops copies i e made r)
-                ∙ prepend-prepend (p .value) piece (fromOn at answer text e made);
-            inside = r .to;
+            rest = p .rest ∙ ap (prepend (p .value)) same ∙ prepend-prepend (p .value) piece (fromOn at answer text e made);
+            inside = to;
           }
+
+      pub progress-run : (stops : ℕ → Bool) → Copies stops at → {e : ℕ} → Plain stops text i e
+          → part ≡ over (take (e - i) (drop i text)) (midOf w (length out - w) out)
+          → Progress (putMid w (length out - w) out part) e (len + (e - i)) made
+      progress-run stops copies {e} r q = progress-through (r .from) (r .to) (run-plain at answer text stops copies i e made r) q
 
       module _ (h : i < length text) where
         pub progress-step : {a l m : ℕ}

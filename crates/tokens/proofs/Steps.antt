@@ -4,7 +4,7 @@ use mathlib.Core.List.{List, [], _∷_}
 use Prim.Native.Nat.{ℕ, _+_}
 use lib.ListN.{length, set}
 use Rattle.text.specs.declared.Answer.{Answer}
-use Rattle.output.proofs.Clip.{over-nothing, over-byte, length-over}
+use Rattle.output.proofs.Clip.{over-byte, length-over}
 use Rattle.tokens.specs.Tokens.{Stop, Token, head, Heads, tokenOf}
 use Rattle.tokens.specs.Outcome.{Outcome, done, refused, produced}
 use Rattle.tokens.specs.Walking.{headAt, nextAt, outcomeOf, Stepped, Walked}
@@ -44,7 +44,3 @@ stepped-refused e q = record { answers = q ∙ rw e; writes = rw e }
 -- one byte is written
 pub stepped-byte : {next openings : ℕ} (b : ℕ) {old new : List ℕ} → new ≡ set old 0 b → Stepped next (done (b ∷ []) openings) old new (Next next 1 openings)
 stepped-byte b {old} w = record { answers = refl; writes = w ∙ over-byte [] old b }
-
--- a value is counted, and there is no output
-pub stepped-counted : {next openings len : ℕ} (value : List ℕ) → len ≡ length value → Stepped next (done value openings) [] [] (Next next len openings)
-stepped-counted {next} {openings} value e = record { answers = ap (λ (n : ℕ). Next next n openings) e; writes = sym (over-nothing value) }

@@ -1,3 +1,5 @@
 pub mod Tokens
 pub mod Outcome
 pub mod Walking
+pub mod Seen
+pub mod Memory

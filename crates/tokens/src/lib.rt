@@ -1,17 +1,19 @@
 // What the walks over a text's tokens share: a single step's answer, the end of a reference's name, and a character reference.
 ghost use mathlib.Core.Path.{_≡_};
 ghost use mathlib.Core.Logic.{_≢_};
-ghost use mathlib.Core.List.{[]};
-ghost use Prim.Native.Nat.{_+_, _≤_, _<_};
-ghost use lib.ListN.{length, getD};
+ghost use mathlib.Core.List.{List, _++_};
+ghost use Prim.Native.Nat.{ℕ, _+_, _≤_, _<_};
+ghost use lib.ListN.{length, getD, take, drop};
 ghost use Rattle.output.specs.Over.{over};
 ghost use Rattle.charref.specs.CharRef.{anyCharacter, encode};
 ghost use Rattle.charref.specs.Reading.{Found};
 ghost use Rattle.tokens.specs.Outcome.{done, numberOutcome};
+ghost use Rattle.tokens.specs.Seen.{movedUp, metAt, Matches, Kept, Again, Remembered};
 ghost use Rattle.tokens.specs.Walking.{NameEnd, Stepped, Ended, handedOn};
 use charref::CharNumber;
 use charref::Quick;
 use text::Answer;
+use text::validate;
 
 // The offset of the next token, the length written and the openings so far; or the refusal.
 pub enum Step {
@@ -147,26 +149,6 @@ pub fn number_step(digits: &[u8], next: usize, openings: u64, out: &mut [u8]) ->
     char_step(c, next, openings, out)
 }
 
-// As `number_step`, without an output and with nothing opened: for a walk that counts.
-pub fn number_length(digits: &[u8], next: usize) -> Step
-    ensures { λ r. ⌜ Stepped next (numberOutcome anyCharacter (now (digits .entry)) 0) [] [] r ⌝ }
-{
-    let len = digits.len();
-    if len == 0 {
-        return handed(charref::answer_of(CharNumber::InvalidNumber));
-    }
-    // As a part, as in `number_step`.
-    let n = charref::parse_number(&digits[..len]);
-    let CharNumber::Char(c) = n else {
-        return handed(charref::answer_of(n));
-    };
-    Step::Next {
-        at: next,
-        len: charref::utf8_length(c),
-        openings: 0,
-    }
-}
-
 // A text that is its own value goes to the start of `out`; a buffer that is too short is refused by the number given.
 pub fn copied_whole(text: &[u8], short: u32, out: &mut [u8]) -> Answer
     ensures { λ r. ⌜ Ended short (done (now (text .entry)) 0) (now (out .entry)) (now (out .exit)) r ⌝ }
@@ -183,4 +165,113 @@ pub fn copied_whole(text: &[u8], short: u32, out: &mut [u8]) -> Answer
         first: text.len() as u64,
         second: 0,
     }
+}
+
+// The number without its highest bits, as many as `shift` says.
+fn moved_up(word: u64, shift: u64) -> u64
+    requires { ⌜ shift < 64 ⌝ }
+    ensures { λ r. ⌜ r ≡ movedUp shift word ⌝ }
+{
+    word << shift
+}
+
+// Which of the four references that are kept stands at `at`; 4 where none does.
+fn seen_at(text: &[u8], at: usize, seen: &[u64]) -> usize
+    requires { ⌜ (at ≤ length (now text)) × (length (now seen) ≡ 21) ⌝ }
+    requires { ⌜ ((k : ℕ) → k < 4 → getD (now seen) (k + 4) 0 < 64) ⌝ }
+    ensures { λ r. ⌜ (r ≤ 4) × (r < 4 → Matches (now (text .entry)) at (metAt (now (seen .entry)) r)) ⌝ }
+{
+    if text.len() - at < 8 {
+        return 4;
+    }
+    let word = validate::word(text, at);
+    let mut k: usize = 0;
+    while k < 4 {
+        if moved_up(word, seen[k + 4]) == seen[k] {
+            return k;
+        }
+        k += 1;
+    }
+    k
+}
+
+// Writes the `count` bytes at `from` again at `at`.
+fn put_again(from: usize, count: usize, at: usize, out: &mut [u8])
+    requires { ⌜ (from + count ≤ at) × (at + count ≤ length (now out)) ⌝ }
+    ensures { λ _. ⌜ (length (now (out .exit)) ≡ length (now (out .entry))) × ((value whole : List ℕ) → now (out .entry) ≡ over value whole → length value ≡ at → now (out .exit) ≡ over (value ++ take count (drop from value)) whole) ⌝ }
+{
+    if count == 1 {
+        out[at] = out[from];
+        return;
+    }
+    let mut k: usize = 0;
+    while k < count {
+        out[at + k] = out[from + k];
+        k += 1;
+    }
+}
+
+// The reference at `at`, where it is kept: its value is `len` bytes after the output's start. Else the number 0.
+pub fn seen_step(
+    text: &[u8],
+    at: usize,
+    len: usize,
+    openings: u64,
+    limit: u64,
+    seen: &[u64],
+    out: &mut [u8],
+) -> Step
+    requires { ⌜ (at ≤ length (now text)) × (len ≤ 0x1000000000000) ⌝ }
+    requires { ⌜ Kept (now seen) len limit ⌝ }
+    requires { ⌜ (openings ≤ limit) × (limit ≤ 1000000) ⌝ }
+    ensures { λ r. ⌜ Again (now (text .entry)) at len openings limit (now (seen .entry)) (now (out .entry)) (now (out .exit)) r ⌝ }
+{
+    let k = seen_at(text, at, seen);
+    if k < 4 {
+        let count = seen[k + 12] as usize;
+        let made = openings + seen[k + 16];
+        let fits = len + count <= out.len();
+        if (made <= limit) & (fits | (out.len() <= len)) {
+            if fits {
+                put_again(seen[k + 8] as usize, count, len, out);
+            }
+            return Step::Next {
+                at: at + (8 - (seen[k + 4] / 8) as usize),
+                len: count,
+                openings: made,
+            };
+        }
+    }
+    Step::Stopped {
+        number: 0,
+        first: 0,
+        second: 0,
+    }
+}
+
+// Keeps the reference of `width` bytes at `place` in the place of the one kept longest, where eight bytes hold it.
+pub fn remember(
+    text: &[u8],
+    place: usize,
+    width: usize,
+    start: usize,
+    count: usize,
+    opened: u64,
+    seen: &mut [u64],
+)
+    requires { ⌜ (1 ≤ width) × (place + width ≤ length (now text)) ⌝ }
+    requires { ⌜ (length (now seen) ≡ 21) × (getD (now seen) 20 0 < 4) ⌝ }
+    ensures { λ _. ⌜ Remembered (now (text .entry)) place width start count opened (now (seen .entry)) (now (seen .exit)) ⌝ }
+{
+    if (8 < width) | (text.len() - place < 8) {
+        return;
+    }
+    let shift = 64 - 8 * width as u64;
+    let slot = seen[20] as usize;
+    seen[slot] = moved_up(validate::word(text, place), shift);
+    seen[slot + 4] = shift;
+    seen[slot + 8] = start as u64;
+    seen[slot + 12] = count as u64;
+    seen[slot + 16] = opened;
+    seen[20] = if slot == 3 { 0 } else { (slot + 1) as u64 };
 }

@@ -1,5 +1,7 @@
 pub mod Puts
 pub mod Stops
+pub mod Known
 pub mod Turns
 pub mod Unescaped
+pub mod Shifted
 mod Examples

@@ -6,7 +6,7 @@ use Prim.Native.Nat.{ℕ, suc, _+_, _-_, _≤_, _<_, min}
 use native.Mathlib.Omega.{arith}
 use lib.Dec.{leb, ltb}
 use lib.ListN.{length, take, drop, getD, set, length-drop}
-use lib.Seq.{length-take-le, take-suc, take-add, drop-drop, getD-drop}
+use lib.Seq.{length-take-le, take-suc, getD-drop}
 use borrow.Author.Tests.{leb-true, ltb-false}
 use borrow.Rule.Slice.PartMut.{midOf, putMid}
 use Rattle.text.specs.Call.{laid}
@@ -17,19 +17,12 @@ use Rattle.output.proofs.Clip.{over-byte, over-fits, over-more, length-over}
 use Rattle.output.proofs.Laid.{rest-part}
 use Rattle.output.proofs.Runs.{plain-none, plain-join}
 use Rattle.tokens.specs.Walking.{RunEnd, Within}
+use Rattle.tokens.proofs.Runs.{piece-join}
 use Rattle.tokens.proofs.Search.{plain-next, within-here, within-none, end-after, end-far}
 use Rattle.unescape.specs.Steps.{Put}
 
 piece-length : (text : List ℕ) (i e : ℕ) → e ≤ length text → length (take (e - i) (drop i text)) ≡ e - i
 piece-length text i e h = length-take-le (e - i) (drop i text) (rw length-drop (omega arith))
-
--- two pieces that adjoin are one
-piece-join : (text : List ℕ) (i e f : ℕ) → i ≤ e → e ≤ f → take (e - i) (drop i text) ++ take (f - e) (drop e text) ≡ take (f - i) (drop i text)
-piece-join text i e f h g =
-    let q : e - i + (f - e) ≡ f - i = omega arith in
-    let r : i + (e - i) ≡ e = omega arith in
-    ap (λ (l : List ℕ). take (e - i) (drop i text) ++ take (f - e) l) (sym (drop-drop (e - i) i text ∙ ap (λ (k : ℕ). drop k text) r))
-    ∙ sym (take-add (e - i) (f - e) (drop i text)) ∙ ap (λ (k : ℕ). take k (drop i text)) q
 
 piece-byte : (text : List ℕ) (i e : ℕ) → i ≤ e → e < length text → take (e - i) (drop i text) ++ (getD text e 0 ∷ []) ≡ take (e + 1 - i) (drop i text)
 piece-byte text i e h g =
@@ -111,9 +104,9 @@ module _ (stops : ℕ → Bool) (text : List ℕ) (i n : ℕ) (fits : i + n ≤ 
         let q : k ≡ n = omega (arith, b .count) in
         (within-none stops text i n (rw q at (b .run)), rw q at (b .holds))
 
--- there are eight bytes to look at, and room for them
-pub eight-each : (a b : ℕ) → ltb a 8 || ltb b 8 ≡ false → (8 ≤ a) × (8 ≤ b)
-eight-each a b e = (ltb-false a 8 (or-left (ltb a 8) (ltb b 8) e), ltb-false b 8 (or-right (ltb a 8) (ltb b 8) e))
+-- there are so many bytes to look at, and room for them
+pub each-fits : (n a b : ℕ) → ltb a n || ltb b n ≡ false → (n ≤ a) × (n ≤ b)
+each-fits n a b e = (ltb-false a n (or-left (ltb a n) (ltb b n) e), ltb-false b n (or-right (ltb a n) (ltb b n) e))
 
 -- and the rest of the run, by a call that is lent the rest of the output
 pub nearby-far : (stops : ℕ → Bool) (text : List ℕ) (i n : ℕ) (old : List ℕ) {out : List ℕ} {e f : ℕ} {part : List ℕ}

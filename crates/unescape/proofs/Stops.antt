@@ -13,7 +13,6 @@ use Rattle.charref.specs.CharRef.{anyCharacter, encode}
 use Rattle.charref.specs.Reading.{Found}
 use Rattle.charref.specs.declared.Quick.{Quick}
 use Rattle.entity.specs.Binding.{Bound, boundTo, Lies}
-use Rattle.entity.specs.declared.Binding.{Binding}
 use Rattle.entity.specs.declared.Binding.the-variants.{Text, Predefined, Unknown}
 use Rattle.output.specs.Over.{over}
 use Rattle.tokens.specs.Tokens.{stop, unterminated}
@@ -26,7 +25,7 @@ use Rattle.tokens.proofs.Numbers.{Small, number-small, number-written}
 use Rattle.tokens.proofs.Names.{closed-reference}
 use Rattle.tokens.proofs.References.{reference, reference-none, reference-number, reference-named}
 use Rattle.unescape.specs.Unescape.{textHead, copied, replaced}
-use Rattle.unescape.specs.Steps.{isAmp, Short, Near, Ordered, Named, Referred}
+use Rattle.unescape.specs.Steps.{isAmp, Short, Near, Named, Referred}
 
 -- every byte but `&` is copied
 pub others-copied : Copies isAmp textHead
@@ -66,11 +65,6 @@ module _ (pool name : List ℕ) (i next : ℕ) {bound : Bound} where
   -- a name that is looked up is what its binding stands for
   pub named-as : {b : Bound} {old new : List ℕ} {r : Step} → b ≡ bound → Named b name i next old new r → Named bound name i next old new r
   named-as {b} {old} {new} {r} q n = subst (λ (d : Bound). Named d name i next old new r) q n
-
-pub lies-ordered : (pool : List ℕ) (b : Binding) → Lies pool b → Ordered b
-lies-ordered pool (Text start end) l = l .0
-lies-ordered pool (Predefined b) l = tt
-lies-ordered pool Unknown l = tt
 
 -- ---- a reference
 

@@ -6,12 +6,11 @@ use mathlib.Core.List.{List}
 use lib.ListN.{length, take, drop}
 use lib.Dec.{eqb}
 use Rattle.entity.specs.Binding.{Bound}
-use Rattle.entity.specs.declared.Binding.{Binding}
-use Rattle.entity.specs.declared.Binding.the-variants.{Text, Predefined, Unknown}
 use Rattle.output.specs.Over.{over}
 use Rattle.tokens.specs.Tokens.{tokenOf}
 use Rattle.tokens.specs.Outcome.{Outcome, done, refused}
 use Rattle.tokens.specs.Walking.{headAt, nextAt, outcomeOf, Stepped}
+use Rattle.tokens.specs.Memory.{Walk}
 use Rattle.tokens.specs.declared.Step.{Step}
 use Rattle.tokens.specs.declared.Step.the-variants.{Next, Stopped}
 use Rattle.unescape.specs.Unescape.{textHead, copied, replaced}
@@ -34,12 +33,6 @@ abbrev pub Near : List ℕ → ℕ → Step → Type 0
 Near text i (Next at len openings) = (i < at) × (at ≤ length text) × (len ≤ 65535) × (openings ≡ 0)
 Near text i (Stopped number first second) = Unit {0}
 
--- a text of the table has a length
-abbrev pub Ordered : Binding → Type 0
-Ordered (Text start end) = start ≤ end
-Ordered (Predefined b) = Unit {0}
-Ordered Unknown = Unit {0}
-
 -- the step at a name that is so bound, whose `&` is at `i`
 pub record Named (bound : Bound) (name : List ℕ) (i next : ℕ) (old new : List ℕ) (r : Step) : Type 0 where
   pub step : Stepped next (copied i name bound 0) old new r
@@ -49,3 +42,7 @@ pub record Named (bound : Bound) (name : List ℕ) (i next : ℕ) (old new : Lis
 pub record Referred (bind : List ℕ → Bound) (text : List ℕ) (i : ℕ) (old new : List ℕ) (r : Step) : Type 0 where
   pub step : Stepped (nextAt textHead text i) (outcomeOf (replaced bind) (tokenOf (headAt textHead text i)) 0) old new r
   pub near : Near text i r
+
+-- how a text is unescaped: nothing is opened, and a value is a character or a text of the table
+abbrev pub unescaping : (List ℕ → Bound) → Walk
+unescaping bind = record { at = textHead; answer = replaced bind; limit = 0; most = λ width opened. 65535 }

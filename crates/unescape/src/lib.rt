@@ -11,7 +11,10 @@ ghost use Rattle.tokens.specs.Outcome.{finished};
 ghost use Rattle.output.specs.Runs.{Plain};
 ghost use Rattle.tokens.specs.Walking.{RunEnd, Within, Walked};
 ghost use Rattle.unescape.specs.Unescape.{unescape};
-ghost use Rattle.unescape.specs.Steps.{isAmp, Put, Ordered, Named, Referred};
+ghost use Rattle.tokens.specs.Seen.{Kept};
+ghost use Rattle.tokens.specs.Memory.{Memory, Advanced};
+ghost use Rattle.output.specs.Over.{over};
+ghost use Rattle.unescape.specs.Steps.{isAmp, Put, Near, Named, Referred, unescaping};
 use entity::Binding;
 use text::Answer;
 use tokens::Step;
@@ -43,17 +46,17 @@ fn amp_blocks(text: &[u8], from: usize, size: usize) -> usize
     i
 }
 
-// The next `&` among the eight bytes from `from` on, else the place after them.
-fn near_amp(text: &[u8], from: usize) -> usize
-    requires { ⌜ from + 8 ≤ length (now text) ⌝ }
-    ensures { λ r. ⌜ Within isAmp (now (text .entry)) from 8 r ⌝ }
+// The next `&` among the `size` bytes from `from` on, else the place after them.
+fn near_amp(text: &[u8], from: usize, size: usize) -> usize
+    requires { ⌜ from + size ≤ length (now text) ⌝ }
+    ensures { λ r. ⌜ Within isAmp (now (text .entry)) from size r ⌝ }
 {
-    for k in 0..8usize {
+    for k in 0..size {
         if text[from + k] == b'&' {
             return from + k;
         }
     }
-    from + 8
+    from + size
 }
 
 // The next `&` from `from` on, or the text's end, byte by byte.
@@ -78,7 +81,7 @@ fn nears_amp(text: &[u8], from: usize) -> usize
 {
     let mut i = from;
     while 8 <= text.len() - i {
-        let near = near_amp(text, i);
+        let near = near_amp(text, i, 8);
         if near < i + 8 {
             return near;
         }
@@ -92,7 +95,7 @@ fn far_amp(text: &[u8], from: usize) -> usize
     requires { ⌜ from ≤ length (now text) ⌝ }
     ensures { λ r. ⌜ RunEnd isAmp (now (text .entry)) from r ⌝ }
 {
-    let block = amp_blocks(text, from, 32);
+    let block = amp_blocks(text, amp_blocks(text, from, 64), 16);
     bytes_amp(text, nears_amp(text, block))
 }
 
@@ -101,11 +104,11 @@ fn amp_end(text: &[u8], from: usize) -> usize
     requires { ⌜ from ≤ length (now text) ⌝ }
     ensures { λ r. ⌜ RunEnd isAmp (now (text .entry)) from r ⌝ }
 {
-    if text.len() - from < 8 {
+    if text.len() - from < 12 {
         return far_amp(text, from);
     }
-    let near = near_amp(text, from);
-    if near < from + 8 {
+    let near = near_amp(text, from, 12);
+    if near < from + 12 {
         return near;
     }
     far_amp(text, near)
@@ -130,20 +133,20 @@ fn put_blocks(text: &[u8], from: usize, out: &mut [u8]) -> usize
     i
 }
 
-// The next `&` among eight bytes, else the place after them; the bytes before it are copied.
-fn put_near(text: &[u8], from: usize, out: &mut [u8]) -> usize
-    requires { ⌜ from + 8 ≤ length (now text) ⌝ }
-    requires { ⌜ 8 ≤ length (now out) ⌝ }
-    ensures { λ r. ⌜ Within isAmp (now (text .entry)) from 8 r × Put (now (text .entry)) from r (now (out .entry)) (now (out .exit)) ⌝ }
+// The next `&` among `size` bytes, else the place after them; the bytes before it are copied.
+fn put_near(text: &[u8], from: usize, size: usize, out: &mut [u8]) -> usize
+    requires { ⌜ from + size ≤ length (now text) ⌝ }
+    requires { ⌜ size ≤ length (now out) ⌝ }
+    ensures { λ r. ⌜ Within isAmp (now (text .entry)) from size r × Put (now (text .entry)) from r (now (out .entry)) (now (out .exit)) ⌝ }
 {
-    for k in 0..8usize {
+    for k in 0..size {
         let b = text[from + k];
         if b == b'&' {
             return from + k;
         }
         out[k] = b;
     }
-    from + 8
+    from + size
 }
 
 // Copies eight bytes at a time, up to a `&` or to where fewer are left, of the text or of the output.
@@ -154,7 +157,7 @@ fn put_nears(text: &[u8], from: usize, out: &mut [u8]) -> usize
 {
     let mut i = from;
     while (8 <= text.len() - i) & (8 <= out.len() - (i - from)) {
-        let near = put_near(text, i, &mut out[i - from..]);
+        let near = put_near(text, i, 8, &mut out[i - from..]);
         if near < i + 8 {
             return near;
         }
@@ -195,14 +198,14 @@ fn put_to_amp(text: &[u8], from: usize, out: &mut [u8]) -> usize
     requires { ⌜ from ≤ length (now text) ⌝ }
     ensures { λ r. ⌜ RunEnd isAmp (now (text .entry)) from r × Put (now (text .entry)) from r (now (out .entry)) (now (out .exit)) ⌝ }
 {
-    if (text.len() - from < 8) | (out.len() < 8) {
+    if (text.len() - from < 12) | (out.len() < 12) {
         return put_bytes(text, from, out);
     }
-    let near = put_near(text, from, out);
-    if near < from + 8 {
+    let near = put_near(text, from, 12, out);
+    if near < from + 12 {
         return near;
     }
-    put_far(text, near, &mut out[8..])
+    put_far(text, near, &mut out[12..])
 }
 
 // What a bound name of `size` bytes stands for, its `&` at i: a text of the table is copied as a part of the pool.
@@ -297,17 +300,68 @@ fn unescape_step(text: &[u8], i: usize, list: &[u8], pool: &[u8], out: &mut [u8]
     name_step(&text[start..end], i, end + 1, list, pool, out)
 }
 
+// The same. A walk that counts has no output, and only searches.
+fn run_to_amp(text: &[u8], from: usize, out: &mut [u8]) -> usize
+    requires { ⌜ from ≤ length (now text) ⌝ }
+    ensures { λ r. ⌜ RunEnd isAmp (now (text .entry)) from r × Put (now (text .entry)) from r (now (out .entry)) (now (out .exit)) ⌝ }
+{
+    if out.len() == 0 {
+        return amp_end(text, from);
+    }
+    put_to_amp(text, from, out)
+}
+
+// The reference whose `&` is at i, after a value of `len` bytes: one that was met before, or a new one, which is then kept.
+fn known_step(
+    text: &[u8],
+    i: usize,
+    list: &[u8],
+    pool: &[u8],
+    len: usize,
+    seen: &mut [u64],
+    out: &mut [u8],
+) -> Step
+    requires { ⌜ length (now text) ≤ 16777216 ⌝ }
+    requires { ⌜ (i < length (now text)) × (getD (now text) i 0 ≡ 38) ⌝ }
+    requires { ⌜ ValidTable (now list) (now pool) ⌝ }
+    requires { ⌜ (len ≤ 0x1000000000000) × Kept (now seen) len 0 × (getD (now seen) 20 0 < 4) ⌝ }
+    ensures { λ r. ⌜ ((value whole : List ℕ) → Memory (unescaping (binding (now (list .entry)) (now (pool .entry)))) (now (text .entry)) (now (seen .entry)) value → now (out .entry) ≡ over value whole → length value ≡ len → Advanced (unescaping (binding (now (list .entry)) (now (pool .entry)))) (now (text .entry)) i 0 value whole (now (seen .exit)) (now (out .exit)) r × Near (now (text .entry)) i r) ⌝ }
+{
+    let again = tokens::seen_step(text, i, len, 0, 0, seen, out);
+    let Step::Stopped {
+        number: _,
+        first: _,
+        second: _,
+    } = again
+    else {
+        return again;
+    };
+    let rest = output::least(len, out.len());
+    let step = unescape_step(text, i, list, pool, &mut out[rest..]);
+    let Step::Next {
+        at: next,
+        len: more,
+        openings: _,
+    } = step
+    else {
+        return step;
+    };
+    tokens::remember(text, i, next - i, len, more, 0, seen);
+    step
+}
+
 // Runs and references in turn. Writes as much of the value as there is room for.
 fn unescape_runs(text: &[u8], list: &[u8], pool: &[u8], out: &mut [u8]) -> Answer
     requires { ⌜ length (now text) ≤ 16777216 ⌝ }
     requires { ⌜ ValidTable (now list) (now pool) ⌝ }
     ensures { λ r. ⌜ Walked (unescape (binding (now (list .entry)) (now (pool .entry))) (now (text .entry))) (now (out .entry)) (now (out .exit)) r ⌝ }
 {
+    let mut seen = [0u64; 21];
     let mut i: usize = 0;
     let mut len: usize = 0;
     loop {
         let at = output::least(len, out.len());
-        let e = put_to_amp(text, i, &mut out[at..]);
+        let e = run_to_amp(text, i, &mut out[at..]);
         len += e - i;
         if e == text.len() {
             return Answer::Done {
@@ -315,125 +369,7 @@ fn unescape_runs(text: &[u8], list: &[u8], pool: &[u8], out: &mut [u8]) -> Answe
                 second: 0,
             };
         }
-        let rest = output::least(len, out.len());
-        match unescape_step(text, e, list, pool, &mut out[rest..]) {
-            Step::Next {
-                at: next,
-                len: more,
-                openings: _,
-            } => {
-                i = next;
-                len += more;
-            }
-            Step::Stopped {
-                number,
-                first,
-                second,
-            } => {
-                return Answer::Refused {
-                    number,
-                    first,
-                    second,
-                };
-            }
-        }
-    }
-}
-
-// As `bound_step`, without an output.
-fn bound_length(bound: Binding, size: usize, i: usize, next: usize) -> Step
-    requires { ⌜ i + 1 + size ≤ 16777216 ⌝ }
-    requires { ⌜ Ordered bound ⌝ }
-    ensures { λ r. ⌜ ((pool name : List ℕ) → Lies pool bound → length name ≡ size → Named (boundTo pool bound) name i next [] [] r) ⌝ }
-{
-    match bound {
-        Binding::Text { start, end } => Step::Next {
-            at: next,
-            len: end - start,
-            openings: 0,
-        },
-        Binding::Predefined(_) => Step::Next {
-            at: next,
-            len: 1,
-            openings: 0,
-        },
-        Binding::Unknown => {
-            let first = i + 1;
-            Step::Stopped {
-                number: 11,
-                first: first as u64,
-                second: (first + size) as u64,
-            }
-        }
-    }
-}
-
-// As `name_step`, without an output.
-fn name_length(name: &[u8], i: usize, next: usize, list: &[u8], pool: &[u8]) -> Step
-    requires { ⌜ i + 1 + length (now name) ≤ 16777216 ⌝ }
-    requires { ⌜ ValidTable (now list) (now pool) ⌝ }
-    ensures { λ r. ⌜ Named (binding (now (list .entry)) (now (pool .entry)) (now (name .entry))) (now (name .entry)) i next [] [] r ⌝ }
-{
-    if name.len() < 8 {
-        return bound_length(entity::resolve_short(list, pool, name), name.len(), i, next);
-    }
-    bound_length(
-        entity::resolve_entity(list, pool, name),
-        name.len(),
-        i,
-        next,
-    )
-}
-
-// As `unescape_step`, without an output.
-fn count_step(text: &[u8], i: usize, list: &[u8], pool: &[u8]) -> Step
-    requires { ⌜ length (now text) ≤ 16777216 ⌝ }
-    requires { ⌜ (i < length (now text)) × (getD (now text) i 0 ≡ 38) ⌝ }
-    requires { ⌜ ValidTable (now list) (now pool) ⌝ }
-    ensures { λ r. ⌜ Referred (binding (now (list .entry)) (now (pool .entry))) (now (text .entry)) i [] [] r ⌝ }
-{
-    let start = i + 1;
-    let quick = tokens::quick_reference(text, start);
-    let c = quick.c;
-    if c != 0 {
-        return Step::Next {
-            at: quick.end + 1,
-            len: charref::utf8_length(c),
-            openings: 0,
-        };
-    }
-    let end = tokens::name_end(text, start, true);
-    if end == text.len() {
-        return Step::Stopped {
-            number: 10,
-            first: i as u64,
-            second: end as u64,
-        };
-    }
-    if text[start] == b'#' {
-        return tokens::number_length(&text[start + 1..end], end + 1);
-    }
-    name_length(&text[start..end], i, end + 1, list, pool)
-}
-
-// As `unescape_runs`, without an output: the value's length, or the refusal.
-fn count_runs(text: &[u8], list: &[u8], pool: &[u8]) -> Answer
-    requires { ⌜ length (now text) ≤ 16777216 ⌝ }
-    requires { ⌜ ValidTable (now list) (now pool) ⌝ }
-    ensures { λ r. ⌜ Walked (unescape (binding (now (list .entry)) (now (pool .entry))) (now (text .entry))) [] [] r ⌝ }
-{
-    let mut i: usize = 0;
-    let mut len: usize = 0;
-    loop {
-        let e = amp_end(text, i);
-        len += e - i;
-        if e == text.len() {
-            return Answer::Done {
-                first: len as u64,
-                second: 0,
-            };
-        }
-        match count_step(text, e, list, pool) {
+        match known_step(text, e, list, pool, len, &mut seen, out) {
             Step::Next {
                 at: next,
                 len: more,
@@ -463,7 +399,7 @@ fn unescape_long(text: &[u8], list: &[u8], pool: &[u8], out: &mut [u8]) -> Answe
     requires { ⌜ ValidTable (now list) (now pool) ⌝ }
     ensures { λ r. ⌜ callOf r (now (out .exit) ∷ []) ≡ finished (unescape (binding (now (list .entry)) (now (pool .entry))) (now (text .entry))) (now (out .entry)) ⌝ }
 {
-    let counted = count_runs(text, list, pool);
+    let counted = unescape_runs(text, list, pool, &mut out[..0]);
     let Answer::Done {
         first: needed,
         second: _,

@@ -4,19 +4,42 @@ use Rattle.tokens.proofs.Search.{end-after}
 use borrow.Author.Needs.{needs}
 use Rattle.unescape.proofs.far_amp.Statement.{statement}
 use Rattle.unescape.proofs.far_amp.Tie as tie
+use Rattle.unescape.proofs.far_amp.Reads as reads
+use Rattle.unescape.proofs.far_amp.Lts as lts
+use Rattle.unescape.proofs.amp_blocks.Reads as amp-blocks-reads
+use Rattle.unescape.proofs.bytes_amp.Reads as bytes-amp-reads
+use Rattle.unescape.proofs.nears_amp.Reads as nears-amp-reads
 
+-- src/lib.rt:98:34
 amp-blocks-requires : tie.Need-amp-blocks-requires
 amp-blocks-requires c κs = search needs
 
+-- src/lib.rt:98:9
+amp-blocks-requires-2 : tie.Need-amp-blocks-requires-2
+amp-blocks-requires-2 c κs = search needs
+
+-- src/lib.rt:99:21
 nears-amp-requires : tie.Need-nears-amp-requires
 nears-amp-requires c κs = search needs
 
+-- src/lib.rt:99:5
 bytes-amp-requires : tie.Need-bytes-amp-requires
 bytes-amp-requires c κs = search needs
 
+-- src/lib.rt:94:1
 returns : tie.Need-returns
-returns c = end-after isAmp (c .before .before .before .before .args .text .now) (c .before .before .before .before .args .from) (plain-join isAmp (c .before .before .before .before .args .text .now) (c .before .before .before .before .args .from) (c .before .before .amp-blocks .result) (c .before .nears-amp .result) (c .before .before .amp-blocks .ensures) (c .before .nears-amp .ensures)) (c .bytes-amp .ensures)
+returns c =
+    let t = c .before .before .before .before .before .args .text .now in
+    let i = c .before .before .before .before .before .args .from in
+    end-after isAmp t i
+    (plain-join isAmp t i (c .before .before .amp-blocks2 .result) (c .before .nears-amp .result) (plain-join isAmp t i (c .before .before .before .amp-blocks .result) (c .before .before .amp-blocks2 .result) (c .before .before .before .amp-blocks .ensures) (c .before .before .amp-blocks2 .ensures)) (c .before .nears-amp .ensures)) (c .bytes-amp .ensures)
 
 pub far-amp-spec : {M : Type 1} → statement M
 far-amp-spec =
-    tie.close (tie.spec amp-blocks-requires nears-amp-requires bytes-amp-requires returns)
+    tie.close
+    (tie.spec
+    amp-blocks-requires
+    amp-blocks-requires-2
+    nears-amp-requires
+    bytes-amp-requires
+    returns)

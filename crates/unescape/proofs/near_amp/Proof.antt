@@ -11,10 +11,10 @@ use Rattle.unescape.proofs.near_amp.Statement.{statement}
 use Rattle.unescape.proofs.near_amp.Tie as tie
 
 abbrev Inv-loop : tie.InvT-loop
-Inv-loop text from k₀ k = (k ≤ 8) × Plain isAmp text from (from + k)
+Inv-loop text from size k₀ k = (k ≤ size) × Plain isAmp text from (from + k)
 
 abbrev μ-loop : tie.MeasureT-loop
-μ-loop text from k₀ k = 8 - k
+μ-loop text from size k₀ k = size - k
 
 loop-holds : tie.Need-loop-holds Inv-loop μ-loop
 loop-holds c =
@@ -31,7 +31,7 @@ add-result : tie.Need-add-result Inv-loop μ-loop
 add-result c = search needs
 
 returns : tie.Need-returns Inv-loop μ-loop
-returns c = within-here isAmp (c .before .before .before .before .args .text .now) (c .before .before .before .before .args .from) 8 (c .before .before .before .loop .k) (c .before .before .loop-test .taken) (c .before .before .before .loop .inv .1) (eq-eqb _ 38 (c .if1 .taken))
+returns c = within-here isAmp (c .before .before .before .before .args .text .now) (c .before .before .before .before .args .from) (c .before .before .before .before .args .size) (c .before .before .before .loop .k) (c .before .before .loop-test .taken) (c .before .before .before .loop .inv .1) (eq-eqb _ 38 (c .if1 .taken))
 
 add-k : tie.Need-add-k Inv-loop μ-loop
 add-k c = search needs
@@ -47,8 +47,8 @@ add-result-2 c = search needs
 
 returns-2 : tie.Need-returns-2 Inv-loop μ-loop
 returns-2 c =
-    let q : c .before .loop .k ≡ 8 = omega (arith, c .before .loop .inv .0, c .loop-test .left) in
-    within-none isAmp (c .before .before .args .text .now) (c .before .before .args .from) 8 (rw q at (c .before .loop .inv .1))
+    let q : c .before .loop .k ≡ c .before .before .args .size = omega (arith, c .before .loop .inv .0, c .loop-test .left) in
+    within-none isAmp (c .before .before .args .text .now) (c .before .before .args .from) (c .before .before .args .size) (rw q at (c .before .loop .inv .1))
 
 pub near-amp-spec : {M : Type 1} → statement M
 near-amp-spec =

@@ -8,13 +8,13 @@ use Rattle.unescape.proofs.put_near.Statement.{statement}
 use Rattle.unescape.proofs.put_near.Tie as tie
 
 abbrev Inv-loop : tie.InvT-loop
-Inv-loop text from out₀ k₀ out k = Nearby isAmp text from 8 out₀ out k
+Inv-loop text from size out₀ k₀ out k = Nearby isAmp text from size out₀ out k
 
 abbrev μ-loop : tie.MeasureT-loop
-μ-loop text from out₀ k₀ out k = 8 - k
+μ-loop text from size out₀ k₀ out k = size - k
 
 loop-holds : tie.Need-loop-holds Inv-loop μ-loop
-loop-holds c = nearby-none isAmp (c .args .text .now) (c .args .from) 8 (c .pre .0) (c .args .out .now)
+loop-holds c = nearby-none isAmp (c .args .text .now) (c .args .from) (c .args .size) (c .pre .0) (c .args .out .now)
 
 add-b : tie.Need-add-b Inv-loop μ-loop
 add-b c = search needs
@@ -26,13 +26,13 @@ add-result : tie.Need-add-result Inv-loop μ-loop
 add-result c = search needs
 
 same-length : tie.Need-same-length Inv-loop μ-loop
-same-length c = nearby-length isAmp (c .before .before .before .before .args .text .now) (c .before .before .before .before .args .from) 8 (c .before .before .before .before .pre .0) (c .before .before .before .before .args .out .now) (c .before .before .before .loop .inv)
+same-length c = nearby-length isAmp (c .before .before .before .before .args .text .now) (c .before .before .before .before .args .from) (c .before .before .before .before .args .size) (c .before .before .before .before .pre .0) (c .before .before .before .before .args .out .now) (c .before .before .before .loop .inv)
 
 returns : tie.Need-returns Inv-loop μ-loop
-returns c = nearby-here isAmp (c .before .before .before .before .args .text .now) (c .before .before .before .before .args .from) 8 (c .before .before .before .before .pre .0) (c .before .before .before .before .args .out .now) (c .before .before .before .loop .inv) (c .before .before .loop-test .taken) (eq-eqb _ 38 (c .if1 .taken))
+returns c = nearby-here isAmp (c .before .before .before .before .args .text .now) (c .before .before .before .before .args .from) (c .before .before .before .before .args .size) (c .before .before .before .before .pre .0) (c .before .before .before .before .args .out .now) (c .before .before .before .loop .inv) (c .before .before .loop-test .taken) (eq-eqb _ 38 (c .if1 .taken))
 
 slice-write-out : tie.Need-slice-write-out Inv-loop μ-loop
-slice-write-out c = omega (arith, nearby-length isAmp (c .before .before .before .before .args .text .now) (c .before .before .before .before .args .from) 8 (c .before .before .before .before .pre .0) (c .before .before .before .before .args .out .now) (c .before .before .before .loop .inv), c .before .before .before .before .pre .1)
+slice-write-out c = omega (arith, nearby-length isAmp (c .before .before .before .before .args .text .now) (c .before .before .before .before .args .from) (c .before .before .before .before .args .size) (c .before .before .before .before .pre .0) (c .before .before .before .before .args .out .now) (c .before .before .before .loop .inv), c .before .before .before .before .pre .1)
 
 add-k : tie.Need-add-k Inv-loop μ-loop
 add-k c = search needs
@@ -41,16 +41,16 @@ loop-less : tie.Need-loop-less Inv-loop μ-loop
 loop-less c = search needs
 
 loop-again : tie.Need-loop-again Inv-loop μ-loop
-loop-again c = nearby-next isAmp (c .before .before .before .before .args .text .now) (c .before .before .before .before .args .from) 8 (c .before .before .before .before .pre .0) (c .before .before .before .before .args .out .now) (c .before .before .before .loop .inv) (c .before .before .loop-test .taken) (ne-eqb _ 38 (c .if1 .left))
+loop-again c = nearby-next isAmp (c .before .before .before .before .args .text .now) (c .before .before .before .before .args .from) (c .before .before .before .before .args .size) (c .before .before .before .before .pre .0) (c .before .before .before .before .args .out .now) (c .before .before .before .loop .inv) (c .before .before .loop-test .taken) (ne-eqb _ 38 (c .if1 .left))
 
 add-result-2 : tie.Need-add-result-2 Inv-loop μ-loop
 add-result-2 c = search needs
 
 same-length-2 : tie.Need-same-length-2 Inv-loop μ-loop
-same-length-2 c = nearby-length isAmp (c .before .before .args .text .now) (c .before .before .args .from) 8 (c .before .before .pre .0) (c .before .before .args .out .now) (c .before .loop .inv)
+same-length-2 c = nearby-length isAmp (c .before .before .args .text .now) (c .before .before .args .from) (c .before .before .args .size) (c .before .before .pre .0) (c .before .before .args .out .now) (c .before .loop .inv)
 
 returns-2 : tie.Need-returns-2 Inv-loop μ-loop
-returns-2 c = nearby-all isAmp (c .before .before .args .text .now) (c .before .before .args .from) 8 (c .before .before .pre .0) (c .before .before .args .out .now) (c .before .loop .inv) (c .loop-test .left)
+returns-2 c = nearby-all isAmp (c .before .before .args .text .now) (c .before .before .args .from) (c .before .before .args .size) (c .before .before .pre .0) (c .before .before .args .out .now) (c .before .loop .inv) (c .loop-test .left)
 
 pub put-near-spec : {M : Type 1} → statement M
 put-near-spec =

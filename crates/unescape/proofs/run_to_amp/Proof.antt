@@ -1,0 +1,25 @@
+use lib.ListN.{take, drop}
+use Prim.Native.Nat.{_-_}
+use Rattle.output.proofs.Clip.{over-empty}
+use borrow.Author.Needs.{needs}
+use Rattle.unescape.proofs.run_to_amp.Statement.{statement}
+use Rattle.unescape.proofs.run_to_amp.Tie as tie
+
+amp-end-requires : tie.Need-amp-end-requires
+amp-end-requires c κs = search needs
+
+returns : tie.Need-returns
+returns c = (c .amp-end .ensures, over-empty (take (c .amp-end .result - c .before .before .before .before .args .from) (drop (c .before .before .before .before .args .from) (c .before .before .before .before .args .text .now))) (c .before .before .before .before .args .out .now) (c .before .if1 .taken))
+
+put-to-amp-requires : tie.Need-put-to-amp-requires
+put-to-amp-requires c κs = search needs
+
+same-length : tie.Need-same-length
+same-length c = search needs
+
+returns-2 : tie.Need-returns-2
+returns-2 c = search needs
+
+pub run-to-amp-spec : {M : Type 1} → statement M
+run-to-amp-spec =
+    tie.close (tie.spec amp-end-requires returns put-to-amp-requires same-length returns-2)
