@@ -1,7 +1,7 @@
 // Attribute values: normalization and the canonical form. One code path for both versions; `newer` says that it is 1.1.
 ghost use mathlib.Core.Path.{_≡_};
 ghost use mathlib.Core.Bool.{Bool, true, false};
-ghost use mathlib.Core.List.{[], _∷_};
+ghost use mathlib.Core.List.{List, [], _∷_};
 ghost use Prim.Native.Nat.{ℕ, _+_, _-_, _≤_, _<_};
 ghost use lib.ListN.{length, getD};
 ghost use Rattle.text.specs.Call.{callOf, finish};
@@ -14,10 +14,13 @@ ghost use Rattle.tokens.specs.Outcome.{done, finished};
 ghost use Rattle.output.specs.Runs.{Plain};
 ghost use Rattle.tokens.specs.Walking.{RunEnd, Within, Stepped, Walked, Ended, nextAt};
 ghost use Rattle.attribute.specs.Heads.{attributeHead};
-ghost use Rattle.attribute.specs.Walk.{walk, normalize, readingOf};
+ghost use Rattle.tokens.specs.Seen.{Kept};
+ghost use Rattle.tokens.specs.Memory.{Memory, Advanced};
+ghost use Rattle.output.specs.Over.{over};
+ghost use Rattle.attribute.specs.Walk.{Settings, walk, normalize, readingOf};
 ghost use Rattle.attribute.specs.Form.{formed};
 ghost use Rattle.attribute.specs.Checks.{settingsCheck};
-ghost use Rattle.attribute.specs.Steps.{stopByte, outcomeAt, Blank, ampOr, stepFrom, Counted, CountedStep};
+ghost use Rattle.attribute.specs.Steps.{stopByte, outcomeAt, Blank, ampOr, stepFrom, Counted, CountedStep, walking, Passed};
 use entity::Binding;
 use text::Answer;
 use tokens::Step;
@@ -301,7 +304,7 @@ fn normalize_attr_steps(
     let mut len: usize = 0;
     let mut made = openings;
     loop {
-        let end = run_end(text, at, newer);
+        let end = far_stop(text, at, newer);
         let run_at = output::least(len, out.len());
         output::put_over(&text[at..end], &mut out[run_at..]);
         len += end - at;
@@ -347,6 +350,220 @@ fn normalize_attr_steps(
     }
 }
 
+// Passes over every C2 and E2 of XML 1.1 that starts no line end, from a stop on, up to another stop or the text's end.
+fn kept_end(text: &[u8], from: usize) -> usize
+    requires { ⌜ (from ≤ length (now text)) × (from < length (now text) → stopByte true (getD (now text) from 0) ≡ true) ⌝ }
+    ensures { λ r. ⌜ ((depth : ℕ) → (depth ≡ 0 → ⊥) → Passed (ruleFor true) depth (now (text .entry)) from r) ⌝ }
+    ensures { λ r. ⌜ (r < length (now (text .entry)) → stopByte true (getD (now (text .entry)) r 0) ≡ true) ⌝ }
+{
+    let mut i = from;
+    while i < text.len() && 0xc2 <= text[i] && eols::eol_width(text, i, true) == 0 {
+        i = bytes_stop(text, i + 1, true);
+    }
+    i
+}
+
+// The end of a run of the text of a call: where the depth is not used up, such a C2 or E2 does not end it.
+fn outer_run(text: &[u8], from: usize, newer: bool, depth: u64) -> usize
+    requires { ⌜ from ≤ length (now text) ⌝ }
+    ensures { λ r. ⌜ Passed (ruleFor newer) depth (now (text .entry)) from r ⌝ }
+    ensures { λ r. ⌜ (r < length (now (text .entry)) → stopByte newer (getD (now (text .entry)) r 0) ≡ true) ⌝ }
+{
+    let end = run_end(text, from, newer);
+    if end < text.len() {
+        if 0xc2 <= text[end] {
+            if depth != 0 {
+                return kept_end(text, end);
+            }
+        }
+    }
+    end
+}
+
+// The reference at `at` of the text of a call, after a value of `len` bytes: one that was met before, or a new one, which is then kept.
+fn known_step(
+    text: &[u8],
+    at: usize,
+    newer: bool,
+    depth: u64,
+    openings: u64,
+    limit: u64,
+    list: &[u8],
+    pool: &[u8],
+    len: usize,
+    seen: &mut [u64],
+    out: &mut [u8],
+) -> Step
+    requires { ⌜ ValidTable (now list) (now pool) ⌝ }
+    requires { ⌜ (at < length (now text)) × (length (now text) ≤ 16777216) ⌝ }
+    requires { ⌜ getD (now text) at 0 ≡ 38 ⌝ }
+    requires { ⌜ (openings ≤ limit) × (limit ≤ 1000000) ⌝ }
+    requires { ⌜ (len ≤ 0x1000000000000) × Kept (now seen) len limit × (getD (now seen) 20 0 < 4) ⌝ }
+    ensures { λ r. ⌜ ((value whole : List ℕ) → Memory (walking (readingOf (ruleFor newer) (now (list .entry)) (now (pool .entry)) limit) (ruleFor newer) depth limit) (now (text .entry)) (now (seen .entry)) value → now (out .entry) ≡ over value whole → length value ≡ len → Advanced (walking (readingOf (ruleFor newer) (now (list .entry)) (now (pool .entry)) limit) (ruleFor newer) depth limit) (now (text .entry)) at openings value whole (now (seen .exit)) (now (out .exit)) r × CountedStep (length (now (text .entry))) at openings limit r) ⌝ }
+{
+    let again = tokens::seen_step(text, at, len, openings, limit, seen, out);
+    let Step::Stopped {
+        number: _,
+        first: _,
+        second: _,
+    } = again
+    else {
+        return again;
+    };
+    let rest = output::least(len, out.len());
+    let step = normalize_attr_step(
+        text,
+        at,
+        newer,
+        depth,
+        openings,
+        limit,
+        list,
+        pool,
+        &mut out[rest..],
+    );
+    let Step::Next {
+        at: next,
+        len: more,
+        openings: made,
+    } = step
+    else {
+        return step;
+    };
+    tokens::remember(text, at, next - at, len, more, made - openings, seen);
+    step
+}
+
+// A stop other than `&`.
+fn blank_step(
+    text: &[u8],
+    at: usize,
+    newer: bool,
+    depth: u64,
+    openings: u64,
+    out: &mut [u8],
+) -> Step
+    requires { ⌜ (at < length (now text)) × (length (now text) ≤ 16777216) ⌝ }
+    requires { ⌜ stopByte newer (getD (now text) at 0) ≡ true ⌝ }
+    requires { ⌜ (getD (now text) at 0 ≡ 38 → ⊥) ⌝ }
+    ensures { λ r. ⌜ ((s : Settings) → Stepped (nextAt (attributeHead (ruleFor newer)) (now (text .entry)) at) (outcomeAt s (ruleFor newer) depth (now (text .entry)) at openings) (now (out .entry)) (now (out .exit)) r) ⌝ }
+    ensures { λ r. ⌜ ((limit : ℕ) → openings ≤ limit → CountedStep (length (now (text .entry))) at openings limit r) ⌝ }
+{
+    if depth == 0 {
+        return stopped(16, 0, 0);
+    }
+    let blank = blank_at(text, at, newer);
+    byte_step(blank.byte, at + blank.width, openings, out)
+}
+
+// The stop at `at` of the text of a call, after a value of `len` bytes.
+fn outer_step(
+    text: &[u8],
+    at: usize,
+    newer: bool,
+    depth: u64,
+    openings: u64,
+    limit: u64,
+    list: &[u8],
+    pool: &[u8],
+    len: usize,
+    seen: &mut [u64],
+    out: &mut [u8],
+) -> Step
+    requires { ⌜ ValidTable (now list) (now pool) ⌝ }
+    requires { ⌜ (at < length (now text)) × (length (now text) ≤ 16777216) ⌝ }
+    requires { ⌜ stopByte newer (getD (now text) at 0) ≡ true ⌝ }
+    requires { ⌜ (openings ≤ limit) × (limit ≤ 1000000) ⌝ }
+    requires { ⌜ (len ≤ 0x1000000000000) × Kept (now seen) len limit × (getD (now seen) 20 0 < 4) ⌝ }
+    ensures { λ r. ⌜ ((value whole : List ℕ) → Memory (walking (readingOf (ruleFor newer) (now (list .entry)) (now (pool .entry)) limit) (ruleFor newer) depth limit) (now (text .entry)) (now (seen .entry)) value → now (out .entry) ≡ over value whole → length value ≡ len → Advanced (walking (readingOf (ruleFor newer) (now (list .entry)) (now (pool .entry)) limit) (ruleFor newer) depth limit) (now (text .entry)) at openings value whole (now (seen .exit)) (now (out .exit)) r × CountedStep (length (now (text .entry))) at openings limit r) ⌝ }
+{
+    if text[at] == b'&' {
+        return known_step(
+            text,
+            at,
+            newer,
+            depth,
+            openings,
+            limit,
+            list,
+            pool,
+            len,
+            seen,
+            out,
+        );
+    }
+    let rest = output::least(len, out.len());
+    blank_step(text, at, newer, depth, openings, &mut out[rest..])
+}
+
+// The walk over the text of a call. A reference that was met before is not walked again.
+fn normalize_text(
+    text: &[u8],
+    newer: bool,
+    depth: u64,
+    limit: u64,
+    list: &[u8],
+    pool: &[u8],
+    out: &mut [u8],
+) -> Answer
+    requires { ⌜ ValidTable (now list) (now pool) ⌝ }
+    requires { ⌜ length (now text) ≤ 16777216 ⌝ }
+    requires { ⌜ limit ≤ 1000000 ⌝ }
+    ensures { λ r. ⌜ Walked (normalize (readingOf (ruleFor newer) (now (list .entry)) (now (pool .entry)) limit) depth (now (text .entry))) (now (out .entry)) (now (out .exit)) r ⌝ }
+    ensures { λ r. ⌜ Counted (length (now (text .entry))) 0 limit r ⌝ }
+{
+    let mut seen = [0u64; 21];
+    let mut at: usize = 0;
+    let mut len: usize = 0;
+    let mut made: u64 = 0;
+    loop {
+        let end = outer_run(text, at, newer, depth);
+        let run_at = output::least(len, out.len());
+        output::put_over(&text[at..end], &mut out[run_at..]);
+        len += end - at;
+        if end == text.len() {
+            return Answer::Done {
+                first: len as u64,
+                second: made,
+            };
+        }
+        match outer_step(
+            text,
+            end,
+            newer,
+            depth,
+            made,
+            limit,
+            list,
+            pool,
+            len,
+            &mut seen,
+            out,
+        ) {
+            Step::Next {
+                at: next,
+                len: more,
+                openings: now_made,
+            } => {
+                at = next;
+                len += more;
+                made = now_made;
+            }
+            Step::Stopped {
+                number,
+                first,
+                second,
+            } => {
+                return Answer::Refused {
+                    number,
+                    first,
+                    second,
+                };
+            }
+        }
+    }
+}
+
 // The value goes to the start of `out`; a buffer that is too short is refused by the number given. Counts first, and holds a short
 // value meanwhile, so that a refusal leaves the buffer.
 fn normalize_into(
@@ -366,7 +583,7 @@ fn normalize_into(
     ensures { λ r. ⌜ Counted (length (now (text .entry))) 0 limit r ⌝ }
 {
     let mut held = [0u8; 128];
-    let counted = normalize_attr_steps(text, newer, depth, 0, limit, list, pool, &mut held);
+    let counted = normalize_text(text, newer, depth, limit, list, pool, &mut held);
     let Answer::Done {
         first: len,
         second: _,
@@ -385,7 +602,7 @@ fn normalize_into(
         output::put_run(&held[..len as usize], out);
         return counted;
     }
-    normalize_attr_steps(text, newer, depth, 0, limit, list, pool, out)
+    normalize_text(text, newer, depth, limit, list, pool, out)
 }
 
 // As is_plain, for the text of a call, with the last block first: where there is a stop, that mostly ends sooner than the search for
@@ -409,6 +626,20 @@ fn any_last(text: &[u8], newer: bool) -> bool
         return bytes_stop(text, 0, newer) != n;
     }
     any_stop(text, n - 32, newer, 32)
+}
+
+// Is the text of a call its own value? A long one of XML 1.1 is searched for stops other than a C2 or E2 that starts no line end.
+fn is_own_value(text: &[u8], newer: bool, depth: u64) -> bool
+    requires { ⌜ length (now text) ≤ 16777216 ⌝ }
+    ensures { λ r. ⌜ (r ≡ true → Passed (ruleFor newer) depth (now (text .entry)) 0 (length (now (text .entry)))) ⌝ }
+{
+    if is_whole(text, newer) {
+        return true;
+    }
+    if !newer | (depth == 0) | (text.len() <= 128) {
+        return false;
+    }
+    kept_end(text, far_stop(text, 0, true)) == text.len()
 }
 
 // Refusals 2, 3 and 4.
@@ -448,7 +679,7 @@ pub fn normalize_attribute_value(
     ensures { λ r. ⌜ callOf r (now (out .exit) ∷ []) ≡ finished (normalize (readingOf (ruleOf version) (now (list .entry)) (now (pool .entry)) limit) depth (now (text .entry))) (now (out .entry)) ⌝ }
 {
     let newer = 1 < version;
-    if is_whole(text, newer) {
+    if is_own_value(text, newer, depth) {
         return tokens::copied_whole(text, 19, out);
     }
     normalize_into(text, newer, depth, limit, list, pool, 19, out)
@@ -493,7 +724,7 @@ pub fn canonical_form(
     ensures { λ r. ⌜ callOf r (now (scratch .exit) ∷ now (out .exit) ∷ []) ≡ formed (ruleOf version) (normalize (readingOf (ruleOf version) (now (list .entry)) (now (pool .entry)) limit) depth (now (text .entry))) (now (scratch .entry)) (now (out .entry)) ⌝ }
 {
     let newer = 1 < version;
-    let filled = if is_whole(text, newer) {
+    let filled = if is_own_value(text, newer, depth) {
         tokens::copied_whole(text, 18, scratch)
     } else {
         normalize_into(text, newer, depth, limit, list, pool, 18, scratch)

@@ -27,7 +27,7 @@ use Rattle.attribute.proofs.blank_at.Reads as blank-at-reads
 use Rattle.attribute.proofs.bound_to.Reads as bound-to-reads
 use Rattle.attribute.proofs.byte_step.Reads as byte-step-reads
 use Rattle.attribute.proofs.is_plain.Reads as is-plain-reads
-use Rattle.attribute.proofs.run_end.Reads as run-end-reads
+use Rattle.attribute.proofs.far_stop.Reads as far-stop-reads
 use Rattle.attribute.proofs.stopped.Reads as stopped-reads
 use Rattle.attribute.proofs.walked_step.Reads as walked-step-reads
 use Rattle.output.proofs.least.Reads as least-reads
@@ -1897,8 +1897,8 @@ abbrev normalize-attr-steps-μ-loop : normalize-attr-steps-lts.MeasureT-loop
 normalize-attr-steps-μ-loop text newer depth openings limit list pool out₀ at₀ len₀ made₀ out at len made = length text - at
 
 normalize-attr-steps-loop-holds : (t : ℕ) → normalize-attr-steps-lts.Need-loop-holds (
-  run-end-reads.Asked,
-  run-end-reads.Learnt,
+  far-stop-reads.Asked,
+  far-stop-reads.Learnt,
   least-reads.Asked,
   least-reads.Learnt,
   put-over-reads.Asked,
@@ -1912,9 +1912,9 @@ normalize-attr-steps-loop-holds : (t : ℕ) → normalize-attr-steps-lts.Need-lo
     normalize-attr-steps-μ-loop
 normalize-attr-steps-loop-holds t c = (progress-start (attributeHead (ruleFor (c .before .before .before .before .args .newer))) (stopAnswer (readingOf (ruleFor (c .before .before .before .before .args .newer)) (c .before .before .before .before .args .list .now) (c .before .before .before .before .args .pool .now) (c .before .before .before .before .args .limit)) (c .before .before .before .before .args .depth)) (c .before .before .before .before .args .text .now) (c .before .before .before .before .args .openings) (c .before .before .before .before .args .out .now), omega arith, c .before .before .before .before .pre .1 .1 .1 .0, omega arith)
 
-normalize-attr-steps-run-end-requires : (t : ℕ) → normalize-attr-steps-lts.Need-run-end-requires (
-  run-end-reads.Asked,
-  run-end-reads.Learnt,
+normalize-attr-steps-far-stop-requires : (t : ℕ) → normalize-attr-steps-lts.Need-far-stop-requires (
+  far-stop-reads.Asked,
+  far-stop-reads.Learnt,
   least-reads.Asked,
   least-reads.Learnt,
   put-over-reads.Asked,
@@ -1926,11 +1926,11 @@ normalize-attr-steps-run-end-requires : (t : ℕ) → normalize-attr-steps-lts.N
     normalize-attr-steps.Post
     normalize-attr-steps-Inv-loop
     normalize-attr-steps-μ-loop
-normalize-attr-steps-run-end-requires t c κs = c .loop .inv .0 .inside
+normalize-attr-steps-far-stop-requires t c κs = c .loop .inv .0 .inside
 
 normalize-attr-steps-least-requires : (t : ℕ) → normalize-attr-steps-lts.Need-least-requires (
-  run-end-reads.Asked,
-  run-end-reads.Learnt,
+  far-stop-reads.Asked,
+  far-stop-reads.Learnt,
   least-reads.Asked,
   least-reads.Learnt,
   put-over-reads.Asked,
@@ -1945,8 +1945,8 @@ normalize-attr-steps-least-requires : (t : ℕ) → normalize-attr-steps-lts.Nee
 normalize-attr-steps-least-requires t c κs = tt
 
 normalize-attr-steps-sub-put-over : (t : ℕ) → normalize-attr-steps-lts.Need-sub-put-over (
-  run-end-reads.Asked,
-  run-end-reads.Learnt,
+  far-stop-reads.Asked,
+  far-stop-reads.Learnt,
   least-reads.Asked,
   least-reads.Learnt,
   put-over-reads.Asked,
@@ -1958,12 +1958,12 @@ normalize-attr-steps-sub-put-over : (t : ℕ) → normalize-attr-steps-lts.Need-
     normalize-attr-steps.Post
     normalize-attr-steps-Inv-loop
     normalize-attr-steps-μ-loop
-normalize-attr-steps-sub-put-over t c = c .before .run-end .ensures .run .from
+normalize-attr-steps-sub-put-over t c = c .before .far-stop .ensures .run .from
 
 normalize-attr-steps-part-put-over-start :
     (t : ℕ) → normalize-attr-steps-lts.Need-part-put-over-start (
-      run-end-reads.Asked,
-      run-end-reads.Learnt,
+      far-stop-reads.Asked,
+      far-stop-reads.Learnt,
       least-reads.Asked,
       least-reads.Learnt,
       put-over-reads.Asked,
@@ -1975,11 +1975,11 @@ normalize-attr-steps-part-put-over-start :
     normalize-attr-steps.Post
     normalize-attr-steps-Inv-loop
     normalize-attr-steps-μ-loop
-normalize-attr-steps-part-put-over-start t c = c .before .run-end .ensures .run .from
+normalize-attr-steps-part-put-over-start t c = c .before .far-stop .ensures .run .from
 
 normalize-attr-steps-part-put-over-end : (t : ℕ) → normalize-attr-steps-lts.Need-part-put-over-end (
-  run-end-reads.Asked,
-  run-end-reads.Learnt,
+  far-stop-reads.Asked,
+  far-stop-reads.Learnt,
   least-reads.Asked,
   least-reads.Learnt,
   put-over-reads.Asked,
@@ -1991,11 +1991,11 @@ normalize-attr-steps-part-put-over-end : (t : ℕ) → normalize-attr-steps-lts.
     normalize-attr-steps.Post
     normalize-attr-steps-Inv-loop
     normalize-attr-steps-μ-loop
-normalize-attr-steps-part-put-over-end t c = c .before .run-end .ensures .run .to
+normalize-attr-steps-part-put-over-end t c = c .before .far-stop .ensures .run .to
 
 normalize-attr-steps-sub-put-over-2 : (t : ℕ) → normalize-attr-steps-lts.Need-sub-put-over-2 (
-  run-end-reads.Asked,
-  run-end-reads.Learnt,
+  far-stop-reads.Asked,
+  far-stop-reads.Learnt,
   least-reads.Asked,
   least-reads.Learnt,
   put-over-reads.Asked,
@@ -2011,8 +2011,8 @@ normalize-attr-steps-sub-put-over-2 t c = omega (arith, c .before .least .ensure
 
 normalize-attr-steps-part-put-over-start-2 :
     (t : ℕ) → normalize-attr-steps-lts.Need-part-put-over-start-2 (
-      run-end-reads.Asked,
-      run-end-reads.Learnt,
+      far-stop-reads.Asked,
+      far-stop-reads.Learnt,
       least-reads.Asked,
       least-reads.Learnt,
       put-over-reads.Asked,
@@ -2028,8 +2028,8 @@ normalize-attr-steps-part-put-over-start-2 t c = omega (arith, c .before .least 
 
 normalize-attr-steps-part-put-over-end-2 :
     (t : ℕ) → normalize-attr-steps-lts.Need-part-put-over-end-2 (
-      run-end-reads.Asked,
-      run-end-reads.Learnt,
+      far-stop-reads.Asked,
+      far-stop-reads.Learnt,
       least-reads.Asked,
       least-reads.Learnt,
       put-over-reads.Asked,
@@ -2044,8 +2044,8 @@ normalize-attr-steps-part-put-over-end-2 :
 normalize-attr-steps-part-put-over-end-2 t c = search needs
 
 normalize-attr-steps-put-over-requires : (t : ℕ) → normalize-attr-steps-lts.Need-put-over-requires (
-  run-end-reads.Asked,
-  run-end-reads.Learnt,
+  far-stop-reads.Asked,
+  far-stop-reads.Learnt,
   least-reads.Asked,
   least-reads.Learnt,
   put-over-reads.Asked,
@@ -2060,8 +2060,8 @@ normalize-attr-steps-put-over-requires : (t : ℕ) → normalize-attr-steps-lts.
 normalize-attr-steps-put-over-requires t c κs = tt
 
 normalize-attr-steps-sub-len : (t : ℕ) → normalize-attr-steps-lts.Need-sub-len (
-  run-end-reads.Asked,
-  run-end-reads.Learnt,
+  far-stop-reads.Asked,
+  far-stop-reads.Learnt,
   least-reads.Asked,
   least-reads.Learnt,
   put-over-reads.Asked,
@@ -2073,11 +2073,11 @@ normalize-attr-steps-sub-len : (t : ℕ) → normalize-attr-steps-lts.Need-sub-l
     normalize-attr-steps.Post
     normalize-attr-steps-Inv-loop
     normalize-attr-steps-μ-loop
-normalize-attr-steps-sub-len t c = c .before .before .before .before .before .before .run-end .ensures .run .from
+normalize-attr-steps-sub-len t c = c .before .before .before .before .before .before .far-stop .ensures .run .from
 
 normalize-attr-steps-add-len : (t : ℕ) → normalize-attr-steps-lts.Need-add-len (
-  run-end-reads.Asked,
-  run-end-reads.Learnt,
+  far-stop-reads.Asked,
+  far-stop-reads.Learnt,
   least-reads.Asked,
   least-reads.Learnt,
   put-over-reads.Asked,
@@ -2089,11 +2089,11 @@ normalize-attr-steps-add-len : (t : ℕ) → normalize-attr-steps-lts.Need-add-l
     normalize-attr-steps.Post
     normalize-attr-steps-Inv-loop
     normalize-attr-steps-μ-loop
-normalize-attr-steps-add-len t c = omega (arith, c .before .before .before .before .before .before .before .loop .inv .1, c .before .before .before .before .before .before .before .loop .inv .2, c .before .before .before .before .before .before .before .loop .inv .3, c .before .before .before .before .before .before .before .before .before .before .before .before .pre .1 .1 .0, c .before .before .before .before .before .before .before .before .before .before .before .before .pre .1 .1 .1, c .before .before .before .before .before .before .run-end .ensures .run .from, c .before .before .before .before .before .before .run-end .ensures .run .to)
+normalize-attr-steps-add-len t c = omega (arith, c .before .before .before .before .before .before .before .loop .inv .1, c .before .before .before .before .before .before .before .loop .inv .2, c .before .before .before .before .before .before .before .loop .inv .3, c .before .before .before .before .before .before .before .before .before .before .before .before .pre .1 .1 .0, c .before .before .before .before .before .before .before .before .before .before .before .before .pre .1 .1 .1, c .before .before .before .before .before .before .far-stop .ensures .run .from, c .before .before .before .before .before .before .far-stop .ensures .run .to)
 
 normalize-attr-steps-same-length : (t : ℕ) → normalize-attr-steps-lts.Need-same-length (
-  run-end-reads.Asked,
-  run-end-reads.Learnt,
+  far-stop-reads.Asked,
+  far-stop-reads.Learnt,
   least-reads.Asked,
   least-reads.Learnt,
   put-over-reads.Asked,
@@ -2105,11 +2105,11 @@ normalize-attr-steps-same-length : (t : ℕ) → normalize-attr-steps-lts.Need-s
     normalize-attr-steps.Post
     normalize-attr-steps-Inv-loop
     normalize-attr-steps-μ-loop
-normalize-attr-steps-same-length t c = progress-length (attributeHead (ruleFor (c .before .before .before .before .before .before .before .before .before .before .before .before .before .args .newer))) (stopAnswer (readingOf (ruleFor (c .before .before .before .before .before .before .before .before .before .before .before .before .before .args .newer)) (c .before .before .before .before .before .before .before .before .before .before .before .before .before .args .list .now) (c .before .before .before .before .before .before .before .before .before .before .before .before .before .args .pool .now) (c .before .before .before .before .before .before .before .before .before .before .before .before .before .args .limit)) (c .before .before .before .before .before .before .before .before .before .before .before .before .before .args .depth)) (c .before .before .before .before .before .before .before .before .before .before .before .before .before .args .text .now) (c .before .before .before .before .before .before .before .before .before .before .before .before .before .args .openings) (c .before .before .before .before .before .before .before .before .before .before .before .before .before .args .out .now) (progress-run (attributeHead (ruleFor (c .before .before .before .before .before .before .before .before .before .before .before .before .before .args .newer))) (stopAnswer (readingOf (ruleFor (c .before .before .before .before .before .before .before .before .before .before .before .before .before .args .newer)) (c .before .before .before .before .before .before .before .before .before .before .before .before .before .args .list .now) (c .before .before .before .before .before .before .before .before .before .before .before .before .before .args .pool .now) (c .before .before .before .before .before .before .before .before .before .before .before .before .before .args .limit)) (c .before .before .before .before .before .before .before .before .before .before .before .before .before .args .depth)) (c .before .before .before .before .before .before .before .before .before .before .before .before .before .args .text .now) (c .before .before .before .before .before .before .before .before .before .before .before .before .before .args .openings) (c .before .before .before .before .before .before .before .before .before .before .before .before .before .args .out .now) (c .before .before .before .before .before .before .before .before .loop .inv .0) (c .before .before .before .before .before .before .least .ensures) (stopByte (c .before .before .before .before .before .before .before .before .before .before .before .before .before .args .newer)) (copies (c .before .before .before .before .before .before .before .before .before .before .before .before .before .args .newer)) (c .before .before .before .before .before .before .before .run-end .ensures .run) (c .before .before .before .put-over .ensures))
+normalize-attr-steps-same-length t c = progress-length (attributeHead (ruleFor (c .before .before .before .before .before .before .before .before .before .before .before .before .before .args .newer))) (stopAnswer (readingOf (ruleFor (c .before .before .before .before .before .before .before .before .before .before .before .before .before .args .newer)) (c .before .before .before .before .before .before .before .before .before .before .before .before .before .args .list .now) (c .before .before .before .before .before .before .before .before .before .before .before .before .before .args .pool .now) (c .before .before .before .before .before .before .before .before .before .before .before .before .before .args .limit)) (c .before .before .before .before .before .before .before .before .before .before .before .before .before .args .depth)) (c .before .before .before .before .before .before .before .before .before .before .before .before .before .args .text .now) (c .before .before .before .before .before .before .before .before .before .before .before .before .before .args .openings) (c .before .before .before .before .before .before .before .before .before .before .before .before .before .args .out .now) (progress-run (attributeHead (ruleFor (c .before .before .before .before .before .before .before .before .before .before .before .before .before .args .newer))) (stopAnswer (readingOf (ruleFor (c .before .before .before .before .before .before .before .before .before .before .before .before .before .args .newer)) (c .before .before .before .before .before .before .before .before .before .before .before .before .before .args .list .now) (c .before .before .before .before .before .before .before .before .before .before .before .before .before .args .pool .now) (c .before .before .before .before .before .before .before .before .before .before .before .before .before .args .limit)) (c .before .before .before .before .before .before .before .before .before .before .before .before .before .args .depth)) (c .before .before .before .before .before .before .before .before .before .before .before .before .before .args .text .now) (c .before .before .before .before .before .before .before .before .before .before .before .before .before .args .openings) (c .before .before .before .before .before .before .before .before .before .before .before .before .before .args .out .now) (c .before .before .before .before .before .before .before .before .loop .inv .0) (c .before .before .before .before .before .before .least .ensures) (stopByte (c .before .before .before .before .before .before .before .before .before .before .before .before .before .args .newer)) (copies (c .before .before .before .before .before .before .before .before .before .before .before .before .before .args .newer)) (c .before .before .before .before .before .before .before .far-stop .ensures .run) (c .before .before .before .put-over .ensures))
 
 normalize-attr-steps-returns : (t : ℕ) → normalize-attr-steps-lts.Need-returns (
-  run-end-reads.Asked,
-  run-end-reads.Learnt,
+  far-stop-reads.Asked,
+  far-stop-reads.Learnt,
   least-reads.Asked,
   least-reads.Learnt,
   put-over-reads.Asked,
@@ -2122,13 +2122,13 @@ normalize-attr-steps-returns : (t : ℕ) → normalize-attr-steps-lts.Need-retur
     normalize-attr-steps-Inv-loop
     normalize-attr-steps-μ-loop
 normalize-attr-steps-returns t c = (
-  walked-as (walk-run (readingOf (ruleFor (c .before .before .before .before .before .before .before .before .before .before .before .before .before .args .newer)) (c .before .before .before .before .before .before .before .before .before .before .before .before .before .args .list .now) (c .before .before .before .before .before .before .before .before .before .before .before .before .before .args .pool .now) (c .before .before .before .before .before .before .before .before .before .before .before .before .before .args .limit)) (ruleFor (c .before .before .before .before .before .before .before .before .before .before .before .before .before .args .newer)) (c .before .before .before .before .before .before .before .before .before .before .before .before .before .args .depth) (c .before .before .before .before .before .before .before .before .before .before .before .before .before .args .text .now) (c .before .before .before .before .before .before .before .before .before .before .before .before .before .args .openings)) (progress-end (attributeHead (ruleFor (c .before .before .before .before .before .before .before .before .before .before .before .before .before .args .newer))) (stopAnswer (readingOf (ruleFor (c .before .before .before .before .before .before .before .before .before .before .before .before .before .args .newer)) (c .before .before .before .before .before .before .before .before .before .before .before .before .before .args .list .now) (c .before .before .before .before .before .before .before .before .before .before .before .before .before .args .pool .now) (c .before .before .before .before .before .before .before .before .before .before .before .before .before .args .limit)) (c .before .before .before .before .before .before .before .before .before .before .before .before .before .args .depth)) (c .before .before .before .before .before .before .before .before .before .before .before .before .before .args .text .now) (c .before .before .before .before .before .before .before .before .before .before .before .before .before .args .openings) (c .before .before .before .before .before .before .before .before .before .before .before .before .before .args .out .now) (progress-run (attributeHead (ruleFor (c .before .before .before .before .before .before .before .before .before .before .before .before .before .args .newer))) (stopAnswer (readingOf (ruleFor (c .before .before .before .before .before .before .before .before .before .before .before .before .before .args .newer)) (c .before .before .before .before .before .before .before .before .before .before .before .before .before .args .list .now) (c .before .before .before .before .before .before .before .before .before .before .before .before .before .args .pool .now) (c .before .before .before .before .before .before .before .before .before .before .before .before .before .args .limit)) (c .before .before .before .before .before .before .before .before .before .before .before .before .before .args .depth)) (c .before .before .before .before .before .before .before .before .before .before .before .before .before .args .text .now) (c .before .before .before .before .before .before .before .before .before .before .before .before .before .args .openings) (c .before .before .before .before .before .before .before .before .before .before .before .before .before .args .out .now) (c .before .before .before .before .before .before .before .before .loop .inv .0) (c .before .before .before .before .before .before .least .ensures) (stopByte (c .before .before .before .before .before .before .before .before .before .before .before .before .before .args .newer)) (copies (c .before .before .before .before .before .before .before .before .before .before .before .before .before .args .newer)) (c .before .before .before .before .before .before .before .run-end .ensures .run) (c .before .before .before .put-over .ensures)) (omega (arith, c .if1 .taken))),
-  (c .before .before .before .before .before .before .before .before .loop .inv .1, c .before .before .before .before .before .before .before .before .loop .inv .2, omega (arith, c .before .before .before .before .before .before .before .before .loop .inv .3, c .before .before .before .before .before .before .before .run-end .ensures .run .from, c .if1 .taken)),
+  walked-as (walk-run (readingOf (ruleFor (c .before .before .before .before .before .before .before .before .before .before .before .before .before .args .newer)) (c .before .before .before .before .before .before .before .before .before .before .before .before .before .args .list .now) (c .before .before .before .before .before .before .before .before .before .before .before .before .before .args .pool .now) (c .before .before .before .before .before .before .before .before .before .before .before .before .before .args .limit)) (ruleFor (c .before .before .before .before .before .before .before .before .before .before .before .before .before .args .newer)) (c .before .before .before .before .before .before .before .before .before .before .before .before .before .args .depth) (c .before .before .before .before .before .before .before .before .before .before .before .before .before .args .text .now) (c .before .before .before .before .before .before .before .before .before .before .before .before .before .args .openings)) (progress-end (attributeHead (ruleFor (c .before .before .before .before .before .before .before .before .before .before .before .before .before .args .newer))) (stopAnswer (readingOf (ruleFor (c .before .before .before .before .before .before .before .before .before .before .before .before .before .args .newer)) (c .before .before .before .before .before .before .before .before .before .before .before .before .before .args .list .now) (c .before .before .before .before .before .before .before .before .before .before .before .before .before .args .pool .now) (c .before .before .before .before .before .before .before .before .before .before .before .before .before .args .limit)) (c .before .before .before .before .before .before .before .before .before .before .before .before .before .args .depth)) (c .before .before .before .before .before .before .before .before .before .before .before .before .before .args .text .now) (c .before .before .before .before .before .before .before .before .before .before .before .before .before .args .openings) (c .before .before .before .before .before .before .before .before .before .before .before .before .before .args .out .now) (progress-run (attributeHead (ruleFor (c .before .before .before .before .before .before .before .before .before .before .before .before .before .args .newer))) (stopAnswer (readingOf (ruleFor (c .before .before .before .before .before .before .before .before .before .before .before .before .before .args .newer)) (c .before .before .before .before .before .before .before .before .before .before .before .before .before .args .list .now) (c .before .before .before .before .before .before .before .before .before .before .before .before .before .args .pool .now) (c .before .before .before .before .before .before .before .before .before .before .before .before .before .args .limit)) (c .before .before .before .before .before .before .before .before .before .before .before .before .before .args .depth)) (c .before .before .before .before .before .before .before .before .before .before .before .before .before .args .text .now) (c .before .before .before .before .before .before .before .before .before .before .before .before .before .args .openings) (c .before .before .before .before .before .before .before .before .before .before .before .before .before .args .out .now) (c .before .before .before .before .before .before .before .before .loop .inv .0) (c .before .before .before .before .before .before .least .ensures) (stopByte (c .before .before .before .before .before .before .before .before .before .before .before .before .before .args .newer)) (copies (c .before .before .before .before .before .before .before .before .before .before .before .before .before .args .newer)) (c .before .before .before .before .before .before .before .far-stop .ensures .run) (c .before .before .before .put-over .ensures)) (omega (arith, c .if1 .taken))),
+  (c .before .before .before .before .before .before .before .before .loop .inv .1, c .before .before .before .before .before .before .before .before .loop .inv .2, omega (arith, c .before .before .before .before .before .before .before .before .loop .inv .3, c .before .before .before .before .before .before .before .far-stop .ensures .run .from, c .if1 .taken)),
 )
 
 normalize-attr-steps-least-requires-2 : (t : ℕ) → normalize-attr-steps-lts.Need-least-requires-2 (
-  run-end-reads.Asked,
-  run-end-reads.Learnt,
+  far-stop-reads.Asked,
+  far-stop-reads.Learnt,
   least-reads.Asked,
   least-reads.Learnt,
   put-over-reads.Asked,
@@ -2144,8 +2144,8 @@ normalize-attr-steps-least-requires-2 t c κs = tt
 
 normalize-attr-steps-sub-normalize-attr-step :
     (t : ℕ) → normalize-attr-steps-lts.Need-sub-normalize-attr-step (
-      run-end-reads.Asked,
-      run-end-reads.Learnt,
+      far-stop-reads.Asked,
+      far-stop-reads.Learnt,
       least-reads.Asked,
       least-reads.Learnt,
       put-over-reads.Asked,
@@ -2161,8 +2161,8 @@ normalize-attr-steps-sub-normalize-attr-step t c = omega (arith, c .least2 .ensu
 
 normalize-attr-steps-part-normalize-attr-step-start :
     (t : ℕ) → normalize-attr-steps-lts.Need-part-normalize-attr-step-start (
-      run-end-reads.Asked,
-      run-end-reads.Learnt,
+      far-stop-reads.Asked,
+      far-stop-reads.Learnt,
       least-reads.Asked,
       least-reads.Learnt,
       put-over-reads.Asked,
@@ -2178,8 +2178,8 @@ normalize-attr-steps-part-normalize-attr-step-start t c = omega (arith, c .least
 
 normalize-attr-steps-part-normalize-attr-step-end :
     (t : ℕ) → normalize-attr-steps-lts.Need-part-normalize-attr-step-end (
-      run-end-reads.Asked,
-      run-end-reads.Learnt,
+      far-stop-reads.Asked,
+      far-stop-reads.Learnt,
       least-reads.Asked,
       least-reads.Learnt,
       put-over-reads.Asked,
@@ -2195,8 +2195,8 @@ normalize-attr-steps-part-normalize-attr-step-end t c = search needs
 
 normalize-attr-steps-normalize-attr-step-requires :
     (t : ℕ) → normalize-attr-steps-lts.Need-normalize-attr-step-requires (
-      run-end-reads.Asked,
-      run-end-reads.Learnt,
+      far-stop-reads.Asked,
+      far-stop-reads.Learnt,
       least-reads.Asked,
       least-reads.Learnt,
       put-over-reads.Asked,
@@ -2210,12 +2210,12 @@ normalize-attr-steps-normalize-attr-step-requires :
     normalize-attr-steps-μ-loop
 normalize-attr-steps-normalize-attr-step-requires t c κs =
     let less : c .before .before .before .before .before .before .before .before .before .before .before .before .before .before .before .args .depth + c .before .before .before .before .before .before .before .before .before .before .before .before .before .before .before .args .depth < t = omega (arith, c .before .before .before .before .before .before .before .before .before .before .before .before .before .before .before .pre .0) in
-    let here : c .before .before .before .before .before .before .before .before .before .run-end .result < length (c .before .before .before .before .before .before .before .before .before .before .before .before .before .before .before .args .text .now) = omega (arith, c .before .before .before .before .before .before .before .before .before .run-end .ensures .run .to, c .before .before .if1 .left) in
-    (less, (c .before .before .before .before .before .before .before .before .before .before .before .before .before .before .before .pre .1 .0, ((here, c .before .before .before .before .before .before .before .before .before .before .before .before .before .before .before .pre .1 .1 .0), (c .before .before .before .before .before .before .before .before .before .run-end .ensures .ends here, (c .before .before .before .before .before .before .before .before .before .before .loop .inv .2, c .before .before .before .before .before .before .before .before .before .before .before .before .before .before .before .pre .1 .1 .1 .1)))))
+    let here : c .before .before .before .before .before .before .before .before .before .far-stop .result < length (c .before .before .before .before .before .before .before .before .before .before .before .before .before .before .before .args .text .now) = omega (arith, c .before .before .before .before .before .before .before .before .before .far-stop .ensures .run .to, c .before .before .if1 .left) in
+    (less, (c .before .before .before .before .before .before .before .before .before .before .before .before .before .before .before .pre .1 .0, ((here, c .before .before .before .before .before .before .before .before .before .before .before .before .before .before .before .pre .1 .1 .0), (c .before .before .before .before .before .before .before .before .before .far-stop .ensures .ends here, (c .before .before .before .before .before .before .before .before .before .before .loop .inv .2, c .before .before .before .before .before .before .before .before .before .before .before .before .before .before .before .pre .1 .1 .1 .1)))))
 
 normalize-attr-steps-enum-known-next : (t : ℕ) → normalize-attr-steps-lts.Need-enum-known-next (
-  run-end-reads.Asked,
-  run-end-reads.Learnt,
+  far-stop-reads.Asked,
+  far-stop-reads.Learnt,
   least-reads.Asked,
   least-reads.Learnt,
   put-over-reads.Asked,
@@ -2230,8 +2230,8 @@ normalize-attr-steps-enum-known-next : (t : ℕ) → normalize-attr-steps-lts.Ne
 normalize-attr-steps-enum-known-next t c = search needs
 
 normalize-attr-steps-add-len-2 : (t : ℕ) → normalize-attr-steps-lts.Need-add-len-2 (
-  run-end-reads.Asked,
-  run-end-reads.Learnt,
+  far-stop-reads.Asked,
+  far-stop-reads.Learnt,
   least-reads.Asked,
   least-reads.Learnt,
   put-over-reads.Asked,
@@ -2244,12 +2244,12 @@ normalize-attr-steps-add-len-2 : (t : ℕ) → normalize-attr-steps-lts.Need-add
     normalize-attr-steps-Inv-loop
     normalize-attr-steps-μ-loop
 normalize-attr-steps-add-len-2 t c =
-    let k = subst (CountedStep (length (c .before .before .before .before .before .before .before .before .before .before .before .before .before .before .before .before .before .before .before .before .before .args .text .now)) (c .before .before .before .before .before .before .before .before .before .before .before .before .before .before .before .run-end .result) (c .before .before .before .before .before .before .before .before .before .before .before .before .before .before .before .before .loop .made) (c .before .before .before .before .before .before .before .before .before .before .before .before .before .before .before .before .before .before .before .before .before .args .limit)) (c .before .next .given .1) (c .before .before .before .before .before .normalize-attr-step .ensures .1) in
-    omega (arith, c .before .before .before .before .before .before .before .before .before .before .before .before .before .before .before .before .loop .inv .1, c .before .before .before .before .before .before .before .before .before .before .before .before .before .before .before .before .loop .inv .2, c .before .before .before .before .before .before .before .before .before .before .before .before .before .before .before .before .loop .inv .3, k .1, k .2, k .3, k .4, c .before .before .before .before .before .before .before .before .before .before .before .before .before .before .before .before .before .before .before .before .before .pre .1 .1 .0, c .before .before .before .before .before .before .before .before .before .before .before .before .before .before .before .before .before .before .before .before .before .pre .1 .1 .1, c .before .before .before .before .before .before .before .before .before .before .before .before .before .before .before .run-end .ensures .run .from)
+    let k = subst (CountedStep (length (c .before .before .before .before .before .before .before .before .before .before .before .before .before .before .before .before .before .before .before .before .before .args .text .now)) (c .before .before .before .before .before .before .before .before .before .before .before .before .before .before .before .far-stop .result) (c .before .before .before .before .before .before .before .before .before .before .before .before .before .before .before .before .loop .made) (c .before .before .before .before .before .before .before .before .before .before .before .before .before .before .before .before .before .before .before .before .before .args .limit)) (c .before .next .given .1) (c .before .before .before .before .before .normalize-attr-step .ensures .1) in
+    omega (arith, c .before .before .before .before .before .before .before .before .before .before .before .before .before .before .before .before .loop .inv .1, c .before .before .before .before .before .before .before .before .before .before .before .before .before .before .before .before .loop .inv .2, c .before .before .before .before .before .before .before .before .before .before .before .before .before .before .before .before .loop .inv .3, k .1, k .2, k .3, k .4, c .before .before .before .before .before .before .before .before .before .before .before .before .before .before .before .before .before .before .before .before .before .pre .1 .1 .0, c .before .before .before .before .before .before .before .before .before .before .before .before .before .before .before .before .before .before .before .before .before .pre .1 .1 .1, c .before .before .before .before .before .before .before .before .before .before .before .before .before .before .before .far-stop .ensures .run .from)
 
 normalize-attr-steps-loop-less : (t : ℕ) → normalize-attr-steps-lts.Need-loop-less (
-  run-end-reads.Asked,
-  run-end-reads.Learnt,
+  far-stop-reads.Asked,
+  far-stop-reads.Learnt,
   least-reads.Asked,
   least-reads.Learnt,
   put-over-reads.Asked,
@@ -2262,12 +2262,12 @@ normalize-attr-steps-loop-less : (t : ℕ) → normalize-attr-steps-lts.Need-loo
     normalize-attr-steps-Inv-loop
     normalize-attr-steps-μ-loop
 normalize-attr-steps-loop-less t c =
-    let k = subst (CountedStep (length (c .before .before .before .before .before .before .before .before .before .before .before .before .before .before .before .before .before .before .before .before .before .args .text .now)) (c .before .before .before .before .before .before .before .before .before .before .before .before .before .before .before .run-end .result) (c .before .before .before .before .before .before .before .before .before .before .before .before .before .before .before .before .loop .made) (c .before .before .before .before .before .before .before .before .before .before .before .before .before .before .before .before .before .before .before .before .before .args .limit)) (c .before .next .given .1) (c .before .before .before .before .before .normalize-attr-step .ensures .1) in
-    omega (arith, k .0, k .1, c .before .before .before .before .before .before .before .before .before .before .before .before .before .before .before .run-end .ensures .run .from)
+    let k = subst (CountedStep (length (c .before .before .before .before .before .before .before .before .before .before .before .before .before .before .before .before .before .before .before .before .before .args .text .now)) (c .before .before .before .before .before .before .before .before .before .before .before .before .before .before .before .far-stop .result) (c .before .before .before .before .before .before .before .before .before .before .before .before .before .before .before .before .loop .made) (c .before .before .before .before .before .before .before .before .before .before .before .before .before .before .before .before .before .before .before .before .before .args .limit)) (c .before .next .given .1) (c .before .before .before .before .before .normalize-attr-step .ensures .1) in
+    omega (arith, k .0, k .1, c .before .before .before .before .before .before .before .before .before .before .before .before .before .before .before .far-stop .ensures .run .from)
 
 normalize-attr-steps-loop-again : (t : ℕ) → normalize-attr-steps-lts.Need-loop-again (
-  run-end-reads.Asked,
-  run-end-reads.Learnt,
+  far-stop-reads.Asked,
+  far-stop-reads.Learnt,
   least-reads.Asked,
   least-reads.Learnt,
   put-over-reads.Asked,
@@ -2280,16 +2280,16 @@ normalize-attr-steps-loop-again : (t : ℕ) → normalize-attr-steps-lts.Need-lo
     normalize-attr-steps-Inv-loop
     normalize-attr-steps-μ-loop
 normalize-attr-steps-loop-again t c =
-    let k = subst (CountedStep (length (c .before .before .before .before .before .before .before .before .before .before .before .before .before .before .before .before .before .before .before .before .before .args .text .now)) (c .before .before .before .before .before .before .before .before .before .before .before .before .before .before .before .run-end .result) (c .before .before .before .before .before .before .before .before .before .before .before .before .before .before .before .before .loop .made) (c .before .before .before .before .before .before .before .before .before .before .before .before .before .before .before .before .before .before .before .before .before .args .limit)) (c .before .next .given .1) (c .before .before .before .before .before .normalize-attr-step .ensures .1) in (
-      progress-step (attributeHead (ruleFor (c .before .before .before .before .before .before .before .before .before .before .before .before .before .before .before .before .before .before .before .before .before .args .newer))) (stopAnswer (readingOf (ruleFor (c .before .before .before .before .before .before .before .before .before .before .before .before .before .before .before .before .before .before .before .before .before .args .newer)) (c .before .before .before .before .before .before .before .before .before .before .before .before .before .before .before .before .before .before .before .before .before .args .list .now) (c .before .before .before .before .before .before .before .before .before .before .before .before .before .before .before .before .before .before .before .before .before .args .pool .now) (c .before .before .before .before .before .before .before .before .before .before .before .before .before .before .before .before .before .before .before .before .before .args .limit)) (c .before .before .before .before .before .before .before .before .before .before .before .before .before .before .before .before .before .before .before .before .before .args .depth)) (c .before .before .before .before .before .before .before .before .before .before .before .before .before .before .before .before .before .before .before .before .before .args .text .now) (c .before .before .before .before .before .before .before .before .before .before .before .before .before .before .before .before .before .before .before .before .before .args .openings) (c .before .before .before .before .before .before .before .before .before .before .before .before .before .before .before .before .before .before .before .before .before .args .out .now) (progress-run (attributeHead (ruleFor (c .before .before .before .before .before .before .before .before .before .before .before .before .before .before .before .before .before .before .before .before .before .args .newer))) (stopAnswer (readingOf (ruleFor (c .before .before .before .before .before .before .before .before .before .before .before .before .before .before .before .before .before .before .before .before .before .args .newer)) (c .before .before .before .before .before .before .before .before .before .before .before .before .before .before .before .before .before .before .before .before .before .args .list .now) (c .before .before .before .before .before .before .before .before .before .before .before .before .before .before .before .before .before .before .before .before .before .args .pool .now) (c .before .before .before .before .before .before .before .before .before .before .before .before .before .before .before .before .before .before .before .before .before .args .limit)) (c .before .before .before .before .before .before .before .before .before .before .before .before .before .before .before .before .before .before .before .before .before .args .depth)) (c .before .before .before .before .before .before .before .before .before .before .before .before .before .before .before .before .before .before .before .before .before .args .text .now) (c .before .before .before .before .before .before .before .before .before .before .before .before .before .before .before .before .before .before .before .before .before .args .openings) (c .before .before .before .before .before .before .before .before .before .before .before .before .before .before .before .before .before .before .before .before .before .args .out .now) (c .before .before .before .before .before .before .before .before .before .before .before .before .before .before .before .before .loop .inv .0) (c .before .before .before .before .before .before .before .before .before .before .before .before .before .before .least .ensures) (stopByte (c .before .before .before .before .before .before .before .before .before .before .before .before .before .before .before .before .before .before .before .before .before .args .newer)) (copies (c .before .before .before .before .before .before .before .before .before .before .before .before .before .before .before .before .before .before .before .before .before .args .newer)) (c .before .before .before .before .before .before .before .before .before .before .before .before .before .before .before .run-end .ensures .run) (c .before .before .before .before .before .before .before .before .before .before .before .put-over .ensures)) (c .before .before .before .before .before .before .before .least2 .ensures) (omega (arith, c .before .before .before .before .before .before .before .before .before .before .before .before .before .before .before .run-end .ensures .run .to, c .before .before .before .before .before .before .before .before .if1 .left)) (stepped-told (c .before .next .given .1) (c .before .before .before .before .before .normalize-attr-step .ensures .0)) (k .1),
+    let k = subst (CountedStep (length (c .before .before .before .before .before .before .before .before .before .before .before .before .before .before .before .before .before .before .before .before .before .args .text .now)) (c .before .before .before .before .before .before .before .before .before .before .before .before .before .before .before .far-stop .result) (c .before .before .before .before .before .before .before .before .before .before .before .before .before .before .before .before .loop .made) (c .before .before .before .before .before .before .before .before .before .before .before .before .before .before .before .before .before .before .before .before .before .args .limit)) (c .before .next .given .1) (c .before .before .before .before .before .normalize-attr-step .ensures .1) in (
+      progress-step (attributeHead (ruleFor (c .before .before .before .before .before .before .before .before .before .before .before .before .before .before .before .before .before .before .before .before .before .args .newer))) (stopAnswer (readingOf (ruleFor (c .before .before .before .before .before .before .before .before .before .before .before .before .before .before .before .before .before .before .before .before .before .args .newer)) (c .before .before .before .before .before .before .before .before .before .before .before .before .before .before .before .before .before .before .before .before .before .args .list .now) (c .before .before .before .before .before .before .before .before .before .before .before .before .before .before .before .before .before .before .before .before .before .args .pool .now) (c .before .before .before .before .before .before .before .before .before .before .before .before .before .before .before .before .before .before .before .before .before .args .limit)) (c .before .before .before .before .before .before .before .before .before .before .before .before .before .before .before .before .before .before .before .before .before .args .depth)) (c .before .before .before .before .before .before .before .before .before .before .before .before .before .before .before .before .before .before .before .before .before .args .text .now) (c .before .before .before .before .before .before .before .before .before .before .before .before .before .before .before .before .before .before .before .before .before .args .openings) (c .before .before .before .before .before .before .before .before .before .before .before .before .before .before .before .before .before .before .before .before .before .args .out .now) (progress-run (attributeHead (ruleFor (c .before .before .before .before .before .before .before .before .before .before .before .before .before .before .before .before .before .before .before .before .before .args .newer))) (stopAnswer (readingOf (ruleFor (c .before .before .before .before .before .before .before .before .before .before .before .before .before .before .before .before .before .before .before .before .before .args .newer)) (c .before .before .before .before .before .before .before .before .before .before .before .before .before .before .before .before .before .before .before .before .before .args .list .now) (c .before .before .before .before .before .before .before .before .before .before .before .before .before .before .before .before .before .before .before .before .before .args .pool .now) (c .before .before .before .before .before .before .before .before .before .before .before .before .before .before .before .before .before .before .before .before .before .args .limit)) (c .before .before .before .before .before .before .before .before .before .before .before .before .before .before .before .before .before .before .before .before .before .args .depth)) (c .before .before .before .before .before .before .before .before .before .before .before .before .before .before .before .before .before .before .before .before .before .args .text .now) (c .before .before .before .before .before .before .before .before .before .before .before .before .before .before .before .before .before .before .before .before .before .args .openings) (c .before .before .before .before .before .before .before .before .before .before .before .before .before .before .before .before .before .before .before .before .before .args .out .now) (c .before .before .before .before .before .before .before .before .before .before .before .before .before .before .before .before .loop .inv .0) (c .before .before .before .before .before .before .before .before .before .before .before .before .before .before .least .ensures) (stopByte (c .before .before .before .before .before .before .before .before .before .before .before .before .before .before .before .before .before .before .before .before .before .args .newer)) (copies (c .before .before .before .before .before .before .before .before .before .before .before .before .before .before .before .before .before .before .before .before .before .args .newer)) (c .before .before .before .before .before .before .before .before .before .before .before .before .before .before .before .far-stop .ensures .run) (c .before .before .before .before .before .before .before .before .before .before .before .put-over .ensures)) (c .before .before .before .before .before .before .before .least2 .ensures) (omega (arith, c .before .before .before .before .before .before .before .before .before .before .before .before .before .before .before .far-stop .ensures .run .to, c .before .before .before .before .before .before .before .before .if1 .left)) (stepped-told (c .before .next .given .1) (c .before .before .before .before .before .normalize-attr-step .ensures .0)) (k .1),
       omega (arith, c .before .before .before .before .before .before .before .before .before .before .before .before .before .before .before .before .loop .inv .1, k .2),
       k .3,
-      omega (arith, c .before .before .before .before .before .before .before .before .before .before .before .before .before .before .before .before .loop .inv .3, k .4, c .before .before .before .before .before .before .before .before .before .before .before .before .before .before .before .run-end .ensures .run .from),
+      omega (arith, c .before .before .before .before .before .before .before .before .before .before .before .before .before .before .before .before .loop .inv .3, k .4, c .before .before .before .before .before .before .before .before .before .before .before .before .before .before .before .far-stop .ensures .run .from),
     )
 
 normalize-attr-steps-enum-known-number : (t : ℕ) → normalize-attr-steps-lts.Need-enum-known-number (
-  run-end-reads.Asked,
-  run-end-reads.Learnt,
+  far-stop-reads.Asked,
+  far-stop-reads.Learnt,
   least-reads.Asked,
   least-reads.Learnt,
   put-over-reads.Asked,
@@ -2304,8 +2304,8 @@ normalize-attr-steps-enum-known-number : (t : ℕ) → normalize-attr-steps-lts.
 normalize-attr-steps-enum-known-number t c = search needs
 
 normalize-attr-steps-same-length-2 : (t : ℕ) → normalize-attr-steps-lts.Need-same-length-2 (
-  run-end-reads.Asked,
-  run-end-reads.Learnt,
+  far-stop-reads.Asked,
+  far-stop-reads.Learnt,
   least-reads.Asked,
   least-reads.Learnt,
   put-over-reads.Asked,
@@ -2318,11 +2318,11 @@ normalize-attr-steps-same-length-2 : (t : ℕ) → normalize-attr-steps-lts.Need
     normalize-attr-steps-Inv-loop
     normalize-attr-steps-μ-loop
 normalize-attr-steps-same-length-2 t c =
-    walked-length (progress-refused (attributeHead (ruleFor (c .before .before .before .before .before .before .before .before .before .before .before .before .before .before .before .before .before .before .before .before .before .args .newer))) (stopAnswer (readingOf (ruleFor (c .before .before .before .before .before .before .before .before .before .before .before .before .before .before .before .before .before .before .before .before .before .args .newer)) (c .before .before .before .before .before .before .before .before .before .before .before .before .before .before .before .before .before .before .before .before .before .args .list .now) (c .before .before .before .before .before .before .before .before .before .before .before .before .before .before .before .before .before .before .before .before .before .args .pool .now) (c .before .before .before .before .before .before .before .before .before .before .before .before .before .before .before .before .before .before .before .before .before .args .limit)) (c .before .before .before .before .before .before .before .before .before .before .before .before .before .before .before .before .before .before .before .before .before .args .depth)) (c .before .before .before .before .before .before .before .before .before .before .before .before .before .before .before .before .before .before .before .before .before .args .text .now) (c .before .before .before .before .before .before .before .before .before .before .before .before .before .before .before .before .before .before .before .before .before .args .openings) (c .before .before .before .before .before .before .before .before .before .before .before .before .before .before .before .before .before .before .before .before .before .args .out .now) (progress-run (attributeHead (ruleFor (c .before .before .before .before .before .before .before .before .before .before .before .before .before .before .before .before .before .before .before .before .before .args .newer))) (stopAnswer (readingOf (ruleFor (c .before .before .before .before .before .before .before .before .before .before .before .before .before .before .before .before .before .before .before .before .before .args .newer)) (c .before .before .before .before .before .before .before .before .before .before .before .before .before .before .before .before .before .before .before .before .before .args .list .now) (c .before .before .before .before .before .before .before .before .before .before .before .before .before .before .before .before .before .before .before .before .before .args .pool .now) (c .before .before .before .before .before .before .before .before .before .before .before .before .before .before .before .before .before .before .before .before .before .args .limit)) (c .before .before .before .before .before .before .before .before .before .before .before .before .before .before .before .before .before .before .before .before .before .args .depth)) (c .before .before .before .before .before .before .before .before .before .before .before .before .before .before .before .before .before .before .before .before .before .args .text .now) (c .before .before .before .before .before .before .before .before .before .before .before .before .before .before .before .before .before .before .before .before .before .args .openings) (c .before .before .before .before .before .before .before .before .before .before .before .before .before .before .before .before .before .before .before .before .before .args .out .now) (c .before .before .before .before .before .before .before .before .before .before .before .before .before .before .before .before .loop .inv .0) (c .before .before .before .before .before .before .before .before .before .before .before .before .before .before .least .ensures) (stopByte (c .before .before .before .before .before .before .before .before .before .before .before .before .before .before .before .before .before .before .before .before .before .args .newer)) (copies (c .before .before .before .before .before .before .before .before .before .before .before .before .before .before .before .before .before .before .before .before .before .args .newer)) (c .before .before .before .before .before .before .before .before .before .before .before .before .before .before .before .run-end .ensures .run) (c .before .before .before .before .before .before .before .before .before .before .before .put-over .ensures)) (c .before .before .before .before .before .before .before .least2 .ensures) (omega (arith, c .before .before .before .before .before .before .before .before .before .before .before .before .before .before .before .run-end .ensures .run .to, c .before .before .before .before .before .before .before .before .if1 .left)) (stepped-told (c .before .number .given .1) (c .before .before .before .before .before .normalize-attr-step .ensures .0)))
+    walked-length (progress-refused (attributeHead (ruleFor (c .before .before .before .before .before .before .before .before .before .before .before .before .before .before .before .before .before .before .before .before .before .args .newer))) (stopAnswer (readingOf (ruleFor (c .before .before .before .before .before .before .before .before .before .before .before .before .before .before .before .before .before .before .before .before .before .args .newer)) (c .before .before .before .before .before .before .before .before .before .before .before .before .before .before .before .before .before .before .before .before .before .args .list .now) (c .before .before .before .before .before .before .before .before .before .before .before .before .before .before .before .before .before .before .before .before .before .args .pool .now) (c .before .before .before .before .before .before .before .before .before .before .before .before .before .before .before .before .before .before .before .before .before .args .limit)) (c .before .before .before .before .before .before .before .before .before .before .before .before .before .before .before .before .before .before .before .before .before .args .depth)) (c .before .before .before .before .before .before .before .before .before .before .before .before .before .before .before .before .before .before .before .before .before .args .text .now) (c .before .before .before .before .before .before .before .before .before .before .before .before .before .before .before .before .before .before .before .before .before .args .openings) (c .before .before .before .before .before .before .before .before .before .before .before .before .before .before .before .before .before .before .before .before .before .args .out .now) (progress-run (attributeHead (ruleFor (c .before .before .before .before .before .before .before .before .before .before .before .before .before .before .before .before .before .before .before .before .before .args .newer))) (stopAnswer (readingOf (ruleFor (c .before .before .before .before .before .before .before .before .before .before .before .before .before .before .before .before .before .before .before .before .before .args .newer)) (c .before .before .before .before .before .before .before .before .before .before .before .before .before .before .before .before .before .before .before .before .before .args .list .now) (c .before .before .before .before .before .before .before .before .before .before .before .before .before .before .before .before .before .before .before .before .before .args .pool .now) (c .before .before .before .before .before .before .before .before .before .before .before .before .before .before .before .before .before .before .before .before .before .args .limit)) (c .before .before .before .before .before .before .before .before .before .before .before .before .before .before .before .before .before .before .before .before .before .args .depth)) (c .before .before .before .before .before .before .before .before .before .before .before .before .before .before .before .before .before .before .before .before .before .args .text .now) (c .before .before .before .before .before .before .before .before .before .before .before .before .before .before .before .before .before .before .before .before .before .args .openings) (c .before .before .before .before .before .before .before .before .before .before .before .before .before .before .before .before .before .before .before .before .before .args .out .now) (c .before .before .before .before .before .before .before .before .before .before .before .before .before .before .before .before .loop .inv .0) (c .before .before .before .before .before .before .before .before .before .before .before .before .before .before .least .ensures) (stopByte (c .before .before .before .before .before .before .before .before .before .before .before .before .before .before .before .before .before .before .before .before .before .args .newer)) (copies (c .before .before .before .before .before .before .before .before .before .before .before .before .before .before .before .before .before .before .before .before .before .args .newer)) (c .before .before .before .before .before .before .before .before .before .before .before .before .before .before .before .far-stop .ensures .run) (c .before .before .before .before .before .before .before .before .before .before .before .put-over .ensures)) (c .before .before .before .before .before .before .before .least2 .ensures) (omega (arith, c .before .before .before .before .before .before .before .before .before .before .before .before .before .before .before .far-stop .ensures .run .to, c .before .before .before .before .before .before .before .before .if1 .left)) (stepped-told (c .before .number .given .1) (c .before .before .before .before .before .normalize-attr-step .ensures .0)))
 
 normalize-attr-steps-returns-2 : (t : ℕ) → normalize-attr-steps-lts.Need-returns-2 (
-  run-end-reads.Asked,
-  run-end-reads.Learnt,
+  far-stop-reads.Asked,
+  far-stop-reads.Learnt,
   least-reads.Asked,
   least-reads.Learnt,
   put-over-reads.Asked,
@@ -2335,7 +2335,7 @@ normalize-attr-steps-returns-2 : (t : ℕ) → normalize-attr-steps-lts.Need-ret
     normalize-attr-steps-Inv-loop
     normalize-attr-steps-μ-loop
 normalize-attr-steps-returns-2 t c =
-    (walked-as (walk-run (readingOf (ruleFor (c .before .before .before .before .before .before .before .before .before .before .before .before .before .before .before .before .before .before .before .before .before .args .newer)) (c .before .before .before .before .before .before .before .before .before .before .before .before .before .before .before .before .before .before .before .before .before .args .list .now) (c .before .before .before .before .before .before .before .before .before .before .before .before .before .before .before .before .before .before .before .before .before .args .pool .now) (c .before .before .before .before .before .before .before .before .before .before .before .before .before .before .before .before .before .before .before .before .before .args .limit)) (ruleFor (c .before .before .before .before .before .before .before .before .before .before .before .before .before .before .before .before .before .before .before .before .before .args .newer)) (c .before .before .before .before .before .before .before .before .before .before .before .before .before .before .before .before .before .before .before .before .before .args .depth) (c .before .before .before .before .before .before .before .before .before .before .before .before .before .before .before .before .before .before .before .before .before .args .text .now) (c .before .before .before .before .before .before .before .before .before .before .before .before .before .before .before .before .before .before .before .before .before .args .openings)) (progress-refused (attributeHead (ruleFor (c .before .before .before .before .before .before .before .before .before .before .before .before .before .before .before .before .before .before .before .before .before .args .newer))) (stopAnswer (readingOf (ruleFor (c .before .before .before .before .before .before .before .before .before .before .before .before .before .before .before .before .before .before .before .before .before .args .newer)) (c .before .before .before .before .before .before .before .before .before .before .before .before .before .before .before .before .before .before .before .before .before .args .list .now) (c .before .before .before .before .before .before .before .before .before .before .before .before .before .before .before .before .before .before .before .before .before .args .pool .now) (c .before .before .before .before .before .before .before .before .before .before .before .before .before .before .before .before .before .before .before .before .before .args .limit)) (c .before .before .before .before .before .before .before .before .before .before .before .before .before .before .before .before .before .before .before .before .before .args .depth)) (c .before .before .before .before .before .before .before .before .before .before .before .before .before .before .before .before .before .before .before .before .before .args .text .now) (c .before .before .before .before .before .before .before .before .before .before .before .before .before .before .before .before .before .before .before .before .before .args .openings) (c .before .before .before .before .before .before .before .before .before .before .before .before .before .before .before .before .before .before .before .before .before .args .out .now) (progress-run (attributeHead (ruleFor (c .before .before .before .before .before .before .before .before .before .before .before .before .before .before .before .before .before .before .before .before .before .args .newer))) (stopAnswer (readingOf (ruleFor (c .before .before .before .before .before .before .before .before .before .before .before .before .before .before .before .before .before .before .before .before .before .args .newer)) (c .before .before .before .before .before .before .before .before .before .before .before .before .before .before .before .before .before .before .before .before .before .args .list .now) (c .before .before .before .before .before .before .before .before .before .before .before .before .before .before .before .before .before .before .before .before .before .args .pool .now) (c .before .before .before .before .before .before .before .before .before .before .before .before .before .before .before .before .before .before .before .before .before .args .limit)) (c .before .before .before .before .before .before .before .before .before .before .before .before .before .before .before .before .before .before .before .before .before .args .depth)) (c .before .before .before .before .before .before .before .before .before .before .before .before .before .before .before .before .before .before .before .before .before .args .text .now) (c .before .before .before .before .before .before .before .before .before .before .before .before .before .before .before .before .before .before .before .before .before .args .openings) (c .before .before .before .before .before .before .before .before .before .before .before .before .before .before .before .before .before .before .before .before .before .args .out .now) (c .before .before .before .before .before .before .before .before .before .before .before .before .before .before .before .before .loop .inv .0) (c .before .before .before .before .before .before .before .before .before .before .before .before .before .before .least .ensures) (stopByte (c .before .before .before .before .before .before .before .before .before .before .before .before .before .before .before .before .before .before .before .before .before .args .newer)) (copies (c .before .before .before .before .before .before .before .before .before .before .before .before .before .before .before .before .before .before .before .before .before .args .newer)) (c .before .before .before .before .before .before .before .before .before .before .before .before .before .before .before .run-end .ensures .run) (c .before .before .before .before .before .before .before .before .before .before .before .put-over .ensures)) (c .before .before .before .before .before .before .before .least2 .ensures) (omega (arith, c .before .before .before .before .before .before .before .before .before .before .before .before .before .before .before .run-end .ensures .run .to, c .before .before .before .before .before .before .before .before .if1 .left)) (stepped-told (c .before .number .given .1) (c .before .before .before .before .before .normalize-attr-step .ensures .0))), tt)
+    (walked-as (walk-run (readingOf (ruleFor (c .before .before .before .before .before .before .before .before .before .before .before .before .before .before .before .before .before .before .before .before .before .args .newer)) (c .before .before .before .before .before .before .before .before .before .before .before .before .before .before .before .before .before .before .before .before .before .args .list .now) (c .before .before .before .before .before .before .before .before .before .before .before .before .before .before .before .before .before .before .before .before .before .args .pool .now) (c .before .before .before .before .before .before .before .before .before .before .before .before .before .before .before .before .before .before .before .before .before .args .limit)) (ruleFor (c .before .before .before .before .before .before .before .before .before .before .before .before .before .before .before .before .before .before .before .before .before .args .newer)) (c .before .before .before .before .before .before .before .before .before .before .before .before .before .before .before .before .before .before .before .before .before .args .depth) (c .before .before .before .before .before .before .before .before .before .before .before .before .before .before .before .before .before .before .before .before .before .args .text .now) (c .before .before .before .before .before .before .before .before .before .before .before .before .before .before .before .before .before .before .before .before .before .args .openings)) (progress-refused (attributeHead (ruleFor (c .before .before .before .before .before .before .before .before .before .before .before .before .before .before .before .before .before .before .before .before .before .args .newer))) (stopAnswer (readingOf (ruleFor (c .before .before .before .before .before .before .before .before .before .before .before .before .before .before .before .before .before .before .before .before .before .args .newer)) (c .before .before .before .before .before .before .before .before .before .before .before .before .before .before .before .before .before .before .before .before .before .args .list .now) (c .before .before .before .before .before .before .before .before .before .before .before .before .before .before .before .before .before .before .before .before .before .args .pool .now) (c .before .before .before .before .before .before .before .before .before .before .before .before .before .before .before .before .before .before .before .before .before .args .limit)) (c .before .before .before .before .before .before .before .before .before .before .before .before .before .before .before .before .before .before .before .before .before .args .depth)) (c .before .before .before .before .before .before .before .before .before .before .before .before .before .before .before .before .before .before .before .before .before .args .text .now) (c .before .before .before .before .before .before .before .before .before .before .before .before .before .before .before .before .before .before .before .before .before .args .openings) (c .before .before .before .before .before .before .before .before .before .before .before .before .before .before .before .before .before .before .before .before .before .args .out .now) (progress-run (attributeHead (ruleFor (c .before .before .before .before .before .before .before .before .before .before .before .before .before .before .before .before .before .before .before .before .before .args .newer))) (stopAnswer (readingOf (ruleFor (c .before .before .before .before .before .before .before .before .before .before .before .before .before .before .before .before .before .before .before .before .before .args .newer)) (c .before .before .before .before .before .before .before .before .before .before .before .before .before .before .before .before .before .before .before .before .before .args .list .now) (c .before .before .before .before .before .before .before .before .before .before .before .before .before .before .before .before .before .before .before .before .before .args .pool .now) (c .before .before .before .before .before .before .before .before .before .before .before .before .before .before .before .before .before .before .before .before .before .args .limit)) (c .before .before .before .before .before .before .before .before .before .before .before .before .before .before .before .before .before .before .before .before .before .args .depth)) (c .before .before .before .before .before .before .before .before .before .before .before .before .before .before .before .before .before .before .before .before .before .args .text .now) (c .before .before .before .before .before .before .before .before .before .before .before .before .before .before .before .before .before .before .before .before .before .args .openings) (c .before .before .before .before .before .before .before .before .before .before .before .before .before .before .before .before .before .before .before .before .before .args .out .now) (c .before .before .before .before .before .before .before .before .before .before .before .before .before .before .before .before .loop .inv .0) (c .before .before .before .before .before .before .before .before .before .before .before .before .before .before .least .ensures) (stopByte (c .before .before .before .before .before .before .before .before .before .before .before .before .before .before .before .before .before .before .before .before .before .args .newer)) (copies (c .before .before .before .before .before .before .before .before .before .before .before .before .before .before .before .before .before .before .before .before .before .args .newer)) (c .before .before .before .before .before .before .before .before .before .before .before .before .before .before .before .far-stop .ensures .run) (c .before .before .before .before .before .before .before .before .before .before .before .put-over .ensures)) (c .before .before .before .before .before .before .before .least2 .ensures) (omega (arith, c .before .before .before .before .before .before .before .before .before .before .before .before .before .before .before .far-stop .ensures .run .to, c .before .before .before .before .before .before .before .before .if1 .left)) (stepped-told (c .before .number .given .1) (c .before .before .before .before .before .normalize-attr-step .ensures .0))), tt)
 
 pub +normalize-attr-step+normalize-attr-steps-spec : {M : Type 1} → statement M
 +normalize-attr-step+normalize-attr-steps-spec =
@@ -2431,8 +2431,8 @@ pub +normalize-attr-step+normalize-attr-steps-spec : {M : Type 1} → statement 
     (normalize-attr-step-returns-9 t)
     (normalize-attr-step-returns-10 t))
     λ t. normalize-attr-steps-lts.spec (
-      run-end-reads.Asked,
-      run-end-reads.Learnt,
+      far-stop-reads.Asked,
+      far-stop-reads.Learnt,
       least-reads.Asked,
       least-reads.Learnt,
       put-over-reads.Asked,
@@ -2445,7 +2445,7 @@ pub +normalize-attr-step+normalize-attr-steps-spec : {M : Type 1} → statement 
     normalize-attr-steps-Inv-loop
     normalize-attr-steps-μ-loop
     (normalize-attr-steps-loop-holds t)
-    (normalize-attr-steps-run-end-requires t)
+    (normalize-attr-steps-far-stop-requires t)
     (normalize-attr-steps-least-requires t)
     (normalize-attr-steps-sub-put-over t)
     (normalize-attr-steps-part-put-over-start t)

@@ -32,7 +32,7 @@ ended c =
     let a = c .before .before .before .before .before .before .before .args in
     ⊎-elim
     (λ w.
-    let e = whole-ended 18 (a .text .now) (a .scratch .now) (w .2 .ensures) (ltb 1 (a .version)) (a .list .now) (a .pool .now) (a .limit) (a .depth) (c .before .is-whole .ensures (w .0 .taken)) in
+    let e = whole-ended 18 (a .text .now) (a .scratch .now) (w .2 .ensures) (ltb 1 (a .version)) (a .list .now) (a .pool .now) (a .limit) (a .depth) (c .before .is-own-value .ensures (w .0 .taken)) in
     (w .6 ∙ e .0, w .5 ∙ e .1))
     (λ w. (w .6 ∙ w .2 .ensures .0 .0, w .5 ∙ w .2 .ensures .0 .1))
     (c .if1 .came)
@@ -50,8 +50,8 @@ kept : (c : tie.Joined1) → length (c .if1 .scratch) ≡ length (c .before .bef
 kept c =
     ⊎-elim (λ w. ap length (w .5) ∙ w .2 .kept .1 .1 .0) (λ w. ap length (w .5) ∙ w .2 .kept .1 .1 .1 .1 .1 .1 .1 .0) (c .if1 .came)
 
-is-whole-requires : tie.Need-is-whole-requires
-is-whole-requires c κs = search needs
+is-own-value-requires : tie.Need-is-own-value-requires
+is-own-value-requires c κs = search needs
 
 copied-whole-requires : tie.Need-copied-whole-requires
 copied-whole-requires c κs = search needs
@@ -107,7 +107,7 @@ pub canonical-form-spec : {M : Type 1} → statement M
 canonical-form-spec =
     tie.close
     (tie.spec
-    is-whole-requires
+    is-own-value-requires
     copied-whole-requires
     normalize-into-requires
     enum-known-filled

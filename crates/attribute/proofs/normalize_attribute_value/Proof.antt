@@ -11,8 +11,8 @@ use borrow.Author.Needs.{needs}
 use Rattle.attribute.proofs.normalize_attribute_value.Statement.{statement}
 use Rattle.attribute.proofs.normalize_attribute_value.Tie as tie
 
-is-whole-requires : tie.Need-is-whole-requires
-is-whole-requires c κs = search needs
+is-own-value-requires : tie.Need-is-own-value-requires
+is-own-value-requires c κs = search needs
 
 copied-whole-requires : tie.Need-copied-whole-requires
 copied-whole-requires c κs = search needs
@@ -25,7 +25,7 @@ returns c =
     let a = c .before .before .before .before .before .before .before .before .before .before .args in
     let newer = ltb 1 (a .version) in
     ended-call (normalize (readingOf (ruleFor newer) (a .list .now) (a .pool .now) (a .limit)) (a .depth) (a .text .now)) (a .out .now)
-    (whole-ended 19 (a .text .now) (a .out .now) (c .before .before .copied-whole .ensures) newer (a .list .now) (a .pool .now) (a .limit) (a .depth) (c .before .before .before .before .before .is-whole .ensures (c .before .before .before .before .if1 .taken)))
+    (whole-ended 19 (a .text .now) (a .out .now) (c .before .before .copied-whole .ensures) newer (a .list .now) (a .pool .now) (a .limit) (a .depth) (c .before .before .before .before .before .is-own-value .ensures (c .before .before .before .before .if1 .taken)))
     ∙ ap (λ (r : Rule). finished (normalize (readingOf r (a .list .now) (a .pool .now) (a .limit)) (a .depth) (a .text .now)) (a .out .now)) (version-rule (a .version) newer refl)
 
 normalize-into-requires : tie.Need-normalize-into-requires
@@ -45,7 +45,7 @@ pub normalize-attribute-value-spec : {M : Type 1} → statement M
 normalize-attribute-value-spec =
     tie.close
     (tie.spec
-    is-whole-requires
+    is-own-value-requires
     copied-whole-requires
     same-length
     returns
