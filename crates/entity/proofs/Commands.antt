@@ -9,7 +9,7 @@ use native.Mathlib.Numerals.{add-one}
 use lib.Dec.{eqb, ltb}
 use lib.ListN.{length, getD, drop, length-drop, drop-of-length-le}
 use lib.Seq.{drop-cons, drop-drop}
-use borrow.Author.Tests.{lt-ltb, le-ltb, eq-eqb, ne-eqb, ltb-true, ltb-false}
+use borrow.Author.Tests.{lt-ltb, le-ltb, eq-eqb, ne-eqb, ltb-true, ltb-false, eqb-true, eqb-false}
 use Rattle.text.specs.Bytes.{pick}
 use Rattle.text.specs.Call.{andThen, passed}
 use Rattle.text.specs.declared.Answer.{Answer}
@@ -215,3 +215,21 @@ module _ (list pool : List ℕ) where
           let f = command-done list pool at (is-done e) .0 in
           let l = s .few in
           record { fits = f; few = omega arith; short = s .short; is = unfold answerFrom in sym (rw e at turn) ∙ s .is }
+
+-- a list of one byte, or of none, has no command: its end answers, also where it is the first byte of one
+short-one : (list pool : List ℕ) → length list < 2 → getD list 0 0 ≡ 1 → (lastCheck list 0 0 ≡ commandCheck list pool 0) × (0 < length list)
+unfolding lastCheck commandCheck
+short-one [] pool h e = absurd (omega arith)
+short-one (b ∷ bs) pool h e = (rw (ne-eqb b 0 (λ z. omega arith), lt-ltb (length (b ∷ bs)) 12 (omega (arith, h))), omega arith)
+
+pub short-list : (list pool : List ℕ) → length list < 2 → length pool ≤ 1048576 → lastCheck list 0 0 ≡ tableCheck list pool
+unfolding commandCheck
+short-list list pool h k = go (eqb (getD list 0 0) 1) refl
+  where
+    go : (t : Bool) → eqb (getD list 0 0) 1 ≡ t → lastCheck list 0 0 ≡ tableCheck list pool
+    go false e = finish list pool 0 0 (start list pool (omega (arith, h)) k) (λ l q. eqb-false (getD list 0 0) 1 e q)
+    go true e =
+        let q = eqb-true (getD list 0 0) 1 e in
+        let s = short-one list pool h q in
+        let r : commandCheck list pool 0 ≡ Refused 7 0 0 = rw (lt-ltb (length list) 12 (omega (arith, h))) in
+        s .0 ∙ refuses list pool 0 0 (start list pool (omega (arith, h)) k) (s .1) q r

@@ -160,16 +160,11 @@ fn check_end(list: &[u8], at: usize, count: u64) -> Answer
     }
 }
 
-// Refusals 6 to 9, else the number of declarations.
-pub fn check_table(list: &[u8], pool: &[u8]) -> Answer
+// Refusals 7 to 9, else the number of declarations.
+fn check_commands(list: &[u8], pool: &[u8]) -> Answer
+    requires { ⌜ (length (now list) ≤ 49153) × (length (now pool) ≤ 1048576) ⌝ }
     ensures { λ r. ⌜ r ≡ tableCheck (now (list .entry)) (now (pool .entry)) ⌝ }
 {
-    if 49153 < list.len() {
-        return refused(6, 0);
-    }
-    if 1048576 < pool.len() {
-        return refused(6, 0);
-    }
     let ascii = ascii_of(list, pool);
     let mut at: usize = 0;
     let mut count: u64 = 0;
@@ -186,6 +181,22 @@ pub fn check_table(list: &[u8], pool: &[u8]) -> Answer
         count += 1;
     }
     check_end(list, at, count)
+}
+
+// Refusals 6 to 9, else the number of declarations. A list without commands is often lent, and told at once.
+pub fn check_table(list: &[u8], pool: &[u8]) -> Answer
+    ensures { λ r. ⌜ r ≡ tableCheck (now (list .entry)) (now (pool .entry)) ⌝ }
+{
+    if 49153 < list.len() {
+        return refused(6, 0);
+    }
+    if 1048576 < pool.len() {
+        return refused(6, 0);
+    }
+    if list.len() < 2 {
+        return check_end(list, 0, 0);
+    }
+    check_commands(list, pool)
 }
 
 pub fn is_three(name: &[u8], a: u8, b: u8, c: u8) -> bool

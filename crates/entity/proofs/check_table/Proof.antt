@@ -1,102 +1,56 @@
-use mathlib.Core.Path.{sym, _∙_}
-use mathlib.Core.Logic.{⊎-elim}
+use mathlib.Core.Path.{_∙_}
 use native.Mathlib.Omega.{arith}
+use Rattle.entity.proofs.Commands.{long-list, long-pool, short-list}
 use borrow.Author.Needs.{needs}
-use borrow.Author.Tests.{eqb-true, eqb-false}
-use lib.ListN.{length}
-use Prim.Native.Nat.{_-_}
-use Rattle.entity.proofs.Commands.{Standing, start, long-list, long-pool, finish, refuses, goes-on}
 use Rattle.entity.proofs.check_table.Statement.{statement}
 use Rattle.entity.proofs.check_table.Tie as tie
+use Rattle.entity.proofs.check_table.Reads as reads
+use Rattle.entity.proofs.check_table.Lts as lts
+use Rattle.entity.proofs.check_commands.Reads as check-commands-reads
+use Rattle.entity.proofs.check_end.Reads as check-end-reads
+use Rattle.entity.proofs.refused.Reads as refused-reads
 
-abbrev Inv-loop : tie.InvT-loop
-Inv-loop list pool ascii at₀ count₀ at count = Standing list pool at count
-
-abbrev μ-loop : tie.MeasureT-loop
-μ-loop list pool ascii at₀ count₀ at count = length list - at
-
-refused-requires : tie.Need-refused-requires Inv-loop μ-loop
+-- src/lib.rt:191:9
+refused-requires : tie.Need-refused-requires
 refused-requires c κs = search needs
 
-returns : tie.Need-returns Inv-loop μ-loop
+-- src/lib.rt:191:9
+returns : tie.Need-returns
 returns c = c .refused .ensures ∙ long-list (c .before .before .before .before .args .list .now) (c .before .before .before .before .args .pool .now) (omega arith)
 
-refused-requires-2 : tie.Need-refused-requires-2 Inv-loop μ-loop
+-- src/lib.rt:194:9
+refused-requires-2 : tie.Need-refused-requires-2
 refused-requires-2 c κs = search needs
 
-returns-2 : tie.Need-returns-2 Inv-loop μ-loop
+-- src/lib.rt:194:9
+returns-2 : tie.Need-returns-2
 returns-2 c = c .refused2 .ensures ∙ long-pool (c .before .before .before .before .before .args .list .now) (c .before .before .before .before .before .args .pool .now) (omega arith) (omega arith)
 
-ascii-of-requires : tie.Need-ascii-of-requires Inv-loop μ-loop
-ascii-of-requires c κs = omega arith
+-- src/lib.rt:197:9
+check-end-requires : tie.Need-check-end-requires
+check-end-requires c κs = omega arith
 
-loop-holds : tie.Need-loop-holds Inv-loop μ-loop
-loop-holds c = start (c .before .before .before .before .before .args .list .now) (c .before .before .before .before .before .args .pool .now) (omega arith) (omega arith)
+-- src/lib.rt:197:9
+returns-3 : tie.Need-returns-3
+returns-3 c = c .check-end .ensures ∙ short-list (c .before .before .before .before .before .before .args .list .now) (c .before .before .before .before .before .before .args .pool .now) (omega arith) (omega arith)
 
-shared-slice-read-if3 : tie.Need-shared-slice-read-if3 Inv-loop μ-loop
-shared-slice-read-if3 c = c .before .loop-test .taken
+-- src/lib.rt:199:5
+check-commands-requires : tie.Need-check-commands-requires
+check-commands-requires c κs = (omega arith, omega arith)
 
-check-command-requires : tie.Need-check-command-requires Inv-loop μ-loop
-check-command-requires c κs = (c .before .before .loop-test .taken, c .before .before .before .before .ascii-of .ensures)
-
-enum-told : tie.Need-enum-told Inv-loop μ-loop
-enum-told c = search needs
-
-enum-told-2 : tie.Need-enum-told-2 Inv-loop μ-loop
-enum-told-2 c = search needs
-
-returns-3 : tie.Need-returns-3 Inv-loop μ-loop
-returns-3 c =
-    let l = c .before .before .before .before .before .before .loop in
-    c .before .before .check-command .ensures
-    ∙ refuses (c .before .before .before .before .before .before .before .before .before .before .before .before .args .list .now) (c .before .before .before .before .before .before .before .before .before .before .before .before .args .pool .now) (l .at) (l .count) (l .inv) (c .before .before .before .before .before .loop-test .taken) (eqb-true _ _ (c .before .before .before .if3 .taken))
-    (sym (c .before .before .check-command .ensures) ∙ c .enum-told2 .given .1)
-
-add-at : tie.Need-add-at Inv-loop μ-loop
-add-at c = let s = c .before .before .before .before .before .before .loop .inv in omega arith
-
-add-count : tie.Need-add-count Inv-loop μ-loop
-add-count c = let s = c .before .before .before .before .before .before .loop .inv in omega arith
-
-loop-less : tie.Need-loop-less Inv-loop μ-loop
-loop-less c = let l = c .before .before .before .before .before .loop-test .taken in omega arith
-
-loop-again : tie.Need-loop-again Inv-loop μ-loop
-loop-again c =
-    let l = c .before .before .before .before .before .before .loop in
-    goes-on (c .before .before .before .before .before .before .before .before .before .before .before .before .args .list .now) (c .before .before .before .before .before .before .before .before .before .before .before .before .args .pool .now) (l .at) (l .count) (l .inv) (c .before .before .before .before .before .loop-test .taken) (eqb-true _ _ (c .before .before .before .if3 .taken))
-    (sym (c .before .before .check-command .ensures) ∙ c .enum-told .given .1)
-
-check-end-requires : tie.Need-check-end-requires Inv-loop μ-loop
-check-end-requires c κs = c .before .loop .inv .fits
-
-returns-4 : tie.Need-returns-4 Inv-loop μ-loop
-returns-4 c =
-    let l = c .before .before .loop in
-    c .check-end .ensures
-    ∙ finish (c .before .before .before .before .before .before .before .before .args .list .now) (c .before .before .before .before .before .before .before .before .args .pool .now) (l .at) (l .count) (l .inv)
-    (λ h e. ⊎-elim (λ w. eqb-false _ _ (w .2 .left) e) (λ w. let o : ⊥ = omega (arith, w .left) in o) (c .before .loop-test .came))
+-- src/lib.rt:187:1
+returns-4 : tie.Need-returns-4
+returns-4 c = c .check-commands .ensures
 
 pub check-table-spec : {M : Type 1} → statement M
 check-table-spec =
     tie.close
     (tie.spec
-    Inv-loop
-    μ-loop
     refused-requires
     returns
     refused-requires-2
     returns-2
-    ascii-of-requires
-    loop-holds
-    shared-slice-read-if3
-    check-command-requires
-    enum-told
-    enum-told-2
-    returns-3
-    add-at
-    add-count
-    loop-less
-    loop-again
     check-end-requires
+    returns-3
+    check-commands-requires
     returns-4)
