@@ -6,10 +6,10 @@ use Prim.Native.Nat.{ℕ, zero, suc, _+_, _-_, _≤_, _<_, zero-le, suc-le-suc}
 use native.Mathlib.Omega.{arith}
 use native.Mathlib.Nat.{le-refl}
 use native.Mathlib.Numerals.{add-one}
-use lib.Dec.{eqb, ltb}
+use lib.Dec.{eqb, leb, ltb}
 use lib.ListN.{length, take, drop, getD, length-drop, drop-of-length-le}
 use lib.Seq.{drop-cons, drop-drop}
-use borrow.Author.Tests.{eqb-true, eqb-false, eq-eqb, ne-eqb, lt-ltb}
+use borrow.Author.Tests.{eqb-true, eqb-false, eq-eqb, ne-eqb, leb-true, lt-ltb}
 use Rattle.text.specs.Bytes.{pick, begins}
 use Rattle.text.specs.Version.{Rule, xml10, xml11, ruleOf}
 use Rattle.text.proofs.Bytes.{pick-by, pick-both, and-left, and-right, or-left, or-right, and-true}
@@ -192,3 +192,16 @@ pub version-rule : (version : ℕ) (newer : Bool) → newer ≡ ltb 1 version �
 version-rule zero newer e = rw e
 version-rule (suc zero) newer e = rw e
 version-rule (suc (suc n)) newer e = rw (e, lt-ltb 1 (suc (suc n)) (omega arith))
+
+-- bytes told apart by one comparison; the bounds are asked by themselves, so that a wrong one is refused as a number
+pub common-plain : {low high : ℕ} (b : ℕ) → leb low b && leb b high ≡ true → 13 < low → high < 0xC2 → (newer : Bool) → stopByte newer b ≡ false
+common-plain {low} {high} b e past-cr before-lead newer =
+    let from = leb-true low b (and-left (leb low b) (leb b high) e) in
+    let to = leb-true b high (and-right (leb low b) (leb b high) e) in
+    let cr : eqb b 13 ≡ false = ne-eqb b 13 (λ q. omega (arith, from, past-cr, q)) in
+    let lead : (c : ℕ) → 0xC1 < c → eqb b c ≡ false = λ c h. ne-eqb b c (λ q. omega (arith, to, before-lead, h, q)) in
+    rw (cr, lead 0xC2 (omega arith), lead 0xE2 (omega arith)) (no newer)
+  where
+    no : (n : Bool) → n && false ≡ false
+    no true = refl
+    no false = refl

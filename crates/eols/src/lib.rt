@@ -1,7 +1,7 @@
 // Line ends of XML 1.0 and 1.1: every one becomes LF. One code path for both versions; `newer` says that it is 1.1.
 ghost use mathlib.Core.Path.{_≡_};
 ghost use Prim.Native.Nat.{ℕ, _+_, _<_, _≤_};
-ghost use mathlib.Core.Bool.{false};
+ghost use mathlib.Core.Bool.{Bool, true, false};
 ghost use mathlib.Core.List.{[], _∷_};
 ghost use lib.ListN.{length, getD, drop};
 ghost use Rattle.text.specs.Bytes.{begins};
@@ -24,13 +24,30 @@ fn is_stop(b: u8, newer: bool) -> bool
     (b == 13) | (newer & ((b == 0xc2) | (b == 0xe2)))
 }
 
-// Is one of the 16 bytes from i on a stop?
-fn any_stop(text: &[u8], i: usize, newer: bool) -> bool
-    requires { ⌜ i + 16 ≤ length (now text) ⌝ }
-    ensures { λ r. ⌜ (r ≡ false → Plain (stopByte newer) (now (text .entry)) i (i + 16)) ⌝ }
+// Letters and most other bytes are stops of neither version: one comparison tells.
+fn is_common(b: u8) -> bool
+    ensures { λ r. ⌜ (r ≡ true → (newer : Bool) → stopByte newer b ≡ false) ⌝ }
+{
+    (14 <= b) & (b <= 0xc1)
+}
+
+// The same as is_stop, told by one comparison for most bytes.
+fn ends_run(b: u8, newer: bool) -> bool
+    ensures { λ r. ⌜ r ≡ stopByte newer b ⌝ }
+{
+    if is_common(b) {
+        return false;
+    }
+    is_stop(b, newer)
+}
+
+// Is one of the `size` bytes from i on a stop?
+fn any_stop(text: &[u8], i: usize, newer: bool, size: usize) -> bool
+    requires { ⌜ i + size ≤ length (now text) ⌝ }
+    ensures { λ r. ⌜ (r ≡ false → Plain (stopByte newer) (now (text .entry)) i (i + size)) ⌝ }
 {
     let mut hit = false;
-    for k in 0..16usize {
+    for k in 0..size {
         hit = hit | is_stop(text[i + k], newer);
     }
     hit
@@ -42,7 +59,7 @@ fn plain_blocks(text: &[u8], from: usize, newer: bool) -> usize
 {
     let mut i = from;
     while 16 <= text.len() - i {
-        if any_stop(text, i, newer) {
+        if any_stop(text, i, newer, 16) {
             return i;
         }
         i += 16;
@@ -179,11 +196,29 @@ fn put_blocks(text: &[u8], newer: bool, out: &mut [u8]) -> usize
 {
     let mut i: usize = 0;
     while 16 <= text.len() - i {
-        if any_stop(text, i, newer) {
+        if any_stop(text, i, newer, 16) {
             return i;
         }
         output::put_block(&text[i..i + 16], &mut out[i..]);
         i += 16;
+    }
+    i
+}
+
+// The same by 32 bytes: where there are no stops for long.
+fn put_wide(text: &[u8], newer: bool, out: &mut [u8]) -> usize
+    requires { ⌜ Room (stopByte newer) (now text) (now out) ⌝ }
+    ensures { λ r. ⌜ Copied (stopByte newer) (now (text .entry)) (now (out .entry)) (now (out .exit)) r ⌝ }
+{
+    let mut i: usize = 0;
+    while 32 <= text.len() - i {
+        if any_stop(text, i, newer, 32) {
+            return i;
+        }
+        let half = i + 16;
+        output::put_block(&text[i..half], &mut out[i..]);
+        output::put_block(&text[half..half + 16], &mut out[half..]);
+        i += 32;
     }
     i
 }
@@ -196,7 +231,7 @@ fn put_bytes(text: &[u8], newer: bool, out: &mut [u8]) -> usize
     let mut i: usize = 0;
     while i < text.len() {
         let b = text[i];
-        if is_stop(b, newer) {
+        if ends_run(b, newer) {
             return i;
         }
         out[i] = b;
@@ -219,8 +254,9 @@ fn write_eols(text: &[u8], newer: bool, out: &mut [u8]) -> usize
     requires { ⌜ length (eols (ruleFor newer) (now text)) ≤ length (now out) ⌝ }
     ensures { λ r. ⌜ (r ≡ length (eols (ruleFor newer) (now (text .entry)))) × (now (out .exit) ≡ laid (eols (ruleFor newer) (now (text .entry))) (now (out .entry))) ⌝ }
 {
-    let mut at: usize = 0;
-    let mut i: usize = 0;
+    let start = put_wide(text, newer, out);
+    let mut at = start;
+    let mut i = start;
     while i < text.len() {
         let count = put_plain(&text[i..], newer, &mut out[at..]);
         let e = i + count;

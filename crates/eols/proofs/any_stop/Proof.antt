@@ -12,10 +12,10 @@ use Rattle.eols.proofs.any_stop.Statement.{statement}
 use Rattle.eols.proofs.any_stop.Tie as tie
 
 abbrev Inv-loop : tie.InvT-loop
-Inv-loop text i newer hit₀ k₀ hit k = (k ≤ 16) × (hit ≡ false → (m : ℕ) → m < k → stopByte newer (getD text (i + m) 0) ≡ false)
+Inv-loop text i newer size hit₀ k₀ hit k = (k ≤ size) × (hit ≡ false → (m : ℕ) → m < k → stopByte newer (getD text (i + m) 0) ≡ false)
 
 abbrev μ-loop : tie.MeasureT-loop
-μ-loop text i newer hit₀ k₀ hit k = 16 - k
+μ-loop text i newer size hit₀ k₀ hit k = size - k
 
 loop-holds : tie.Need-loop-holds Inv-loop μ-loop
 loop-holds c = (search needs, λ e. below-none _)
@@ -39,7 +39,7 @@ loop-again : tie.Need-loop-again Inv-loop μ-loop
 loop-again c = (search needs, λ e. below-more (λ (m : ℕ). stopByte (c .before .before .before .before .before .args .newer) (getD (c .before .before .before .before .before .args .text .now) (c .before .before .before .before .before .args .i + m) 0) ≡ false) _ (c .before .before .before .loop .inv .1 (or-left _ _ e)) (sym (c .is-stop .ensures) ∙ or-right (c .before .before .before .loop .hit) _ e))
 
 returns : tie.Need-returns Inv-loop μ-loop
-returns c = λ e. plain-of _ _ _ 16 (c .before .before .before .pre) (λ m h. c .before .loop .inv .1 e m (omega arith))
+returns c = λ e. plain-of _ _ _ (c .before .before .before .args .size) (c .before .before .before .pre) (λ m h. c .before .loop .inv .1 e m (omega arith))
 
 pub any-stop-spec : {M : Type 1} → statement M
 any-stop-spec =

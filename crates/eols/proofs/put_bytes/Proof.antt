@@ -21,8 +21,8 @@ loop-holds c = (copied-none _ _ _, c .before .before .pre)
 shared-slice-read-b : tie.Need-shared-slice-read-b Inv-loop μ-loop
 shared-slice-read-b c = c .before .loop-test .taken
 
-is-stop-requires : tie.Need-is-stop-requires Inv-loop μ-loop
-is-stop-requires c κs = search needs
+ends-run-requires : tie.Need-ends-run-requires Inv-loop μ-loop
+ends-run-requires c κs = search needs
 
 same-length : tie.Need-same-length Inv-loop μ-loop
 same-length c = copied-length _ _ _ (c .before .before .before .before .loop .inv .0) (c .before .before .before .before .loop .inv .1)
@@ -31,7 +31,7 @@ returns : tie.Need-returns Inv-loop μ-loop
 returns c = c .before .before .before .before .loop .inv .0
 
 slice-write-out : tie.Need-slice-write-out Inv-loop μ-loop
-slice-write-out c = byte-fits _ _ _ (c .before .before .before .before .loop .inv .0) (c .before .before .before .before .loop .inv .1) (c .before .before .before .loop-test .taken) (sym (c .before .is-stop .ensures) ∙ c .if1 .left)
+slice-write-out c = byte-fits _ _ _ (c .before .before .before .before .loop .inv .0) (c .before .before .before .before .loop .inv .1) (c .before .before .before .loop-test .taken) (sym (c .before .ends-run .ensures) ∙ c .if1 .left)
 
 add-i : tie.Need-add-i Inv-loop μ-loop
 add-i c = search needs
@@ -40,7 +40,7 @@ loop-less : tie.Need-loop-less Inv-loop μ-loop
 loop-less c = search needs
 
 loop-again : tie.Need-loop-again Inv-loop μ-loop
-loop-again c = (copied-byte _ _ _ (c .before .before .before .before .loop .inv .0) (c .before .before .before .before .loop .inv .1) (c .before .before .before .loop-test .taken) (sym (c .before .is-stop .ensures) ∙ c .if1 .left), c .before .before .before .before .loop .inv .1)
+loop-again c = (copied-byte _ _ _ (c .before .before .before .before .loop .inv .0) (c .before .before .before .before .loop .inv .1) (c .before .before .before .loop-test .taken) (sym (c .before .ends-run .ensures) ∙ c .if1 .left), c .before .before .before .before .loop .inv .1)
 
 same-length-2 : tie.Need-same-length-2 Inv-loop μ-loop
 same-length-2 c = copied-length _ _ _ (c .before .loop .inv .0) (c .before .loop .inv .1)
@@ -56,7 +56,7 @@ put-bytes-spec =
     μ-loop
     loop-holds
     shared-slice-read-b
-    is-stop-requires
+    ends-run-requires
     same-length
     returns
     slice-write-out

@@ -1,0 +1,10 @@
+use native.Mathlib.Omega.{arith}
+use Rattle.eols.proofs.LineEnds.{common-plain}
+use Rattle.eols.proofs.is_common.Statement.{statement}
+use Rattle.eols.proofs.is_common.Tie as tie
+
+returns : tie.Need-returns
+returns c = λ e. common-plain (c .args .b) e (omega arith) (omega arith)
+
+pub is-common-spec : {M : Type 1} → statement M
+is-common-spec = tie.close (tie.spec returns)
