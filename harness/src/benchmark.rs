@@ -32,24 +32,27 @@ pub fn run(calls: &[&Call]) {
             "escape" => escape(),
             "trim_xml_start" | "trim_xml_end" | "trim_xml_spaces" => trim(call.name),
             "cdata_next" => cdata_next(),
-            "check_table" => entities::check_table(call.run),
-            "unescape" => entities::unescape(call.run),
-            "normalize_attribute_value" => entities::normalize_attribute_value(call.run),
-            "canonical_form" => entities::canonical_form(call.run),
+            "check_table" => entities::check_table(),
+            "unescape" => entities::unescape(),
+            "normalize_attribute_value" => entities::normalize_attribute_value(),
+            "canonical_form" => entities::canonical_form(),
             name => panic!("no rows for {name}"),
         });
     }
+    let looks_up = calls.iter().any(|call| call.name == "unescape");
+    let mut lookup = looks_up.then(entities::Lookup::new);
     // Rows take turns too: a slow while of the machine takes some rounds of each, not all of one.
     for _ in 0..ROUNDS {
         rows.iter_mut().for_each(Row::measure);
+        lookup.iter_mut().for_each(entities::Lookup::measure);
     }
     println!(
-        "| call | input | bytes | ours, ns | Rust, ns | ours / Rust | ours / Rust on `&str` \
-         | ours / Rust into a buffer |"
+        "| call | input | bytes | ours, ns | Rust, ns | ours / Rust | ours / Rust, its result left \
+         where it is | the same on `&str` |"
     );
     println!("|---|---|--:|--:|--:|--:|--:|--:|");
     rows.iter().for_each(Row::print);
-    entities::print_lookup(&rows);
+    lookup.iter().for_each(entities::Lookup::print);
 }
 
 /// A call on one input, ours and the Rust's.
@@ -58,12 +61,12 @@ struct Row {
     input: &'static str,
     bytes: usize,
     ours: Side,
-    /// With the check of UTF-8 that our call makes.
+    /// What our call does: the text is checked for UTF-8, and the result lies in the caller's buffer.
     rust: Side,
-    /// On a text that is known to be UTF-8.
+    /// The text is checked, and the result is left where the Rust makes it: borrowed, or in new memory.
+    left: Option<Side>,
+    /// The same on a text that is known to be UTF-8.
     unchecked: Option<Side>,
-    /// With the check, and the result copied to where the caller wants it, as our calls write it.
-    into_buffer: Option<Side>,
 }
 
 impl Row {
@@ -71,7 +74,7 @@ impl Row {
     fn measure(&mut self) {
         self.ours.measure();
         self.rust.measure();
-        let others = [&mut self.unchecked, &mut self.into_buffer];
+        let others = [&mut self.left, &mut self.unchecked];
         others.into_iter().flatten().for_each(Side::measure);
     }
 
@@ -87,8 +90,8 @@ impl Row {
             self.input,
             self.bytes,
             ours / rust,
-            ratio(&self.unchecked),
-            ratio(&self.into_buffer)
+            ratio(&self.left),
+            ratio(&self.unchecked)
         );
     }
 }
@@ -249,7 +252,8 @@ fn output_row(
 /// A result, and the second answer word.
 type Made = (Cow<'static, str>, u64);
 
-/// Our output is allocated once; the Rust's side makes a `Cow` each time, as it has to.
+/// Our output is allocated once; the Rust's side makes a `Cow` each time, as it has to, and copies it to such an output: a caller in C
+/// has its result there from both.
 fn writing_row(
     call: &str,
     input: &'static str,
@@ -260,16 +264,16 @@ fn writing_row(
     let valid = from_utf8(text).unwrap();
     let checked = move || from_utf8(black_box(text)).unwrap();
     let out = vec![0; make(valid).0.len()].leak();
-    let rust = move |words: &mut [u64; 2]| told(&make(checked()), words);
+    let left = move |words: &mut [u64; 2]| told(&make(checked()), words);
     let unchecked = move |words: &mut [u64; 2]| told(&make(valid), words);
-    let into_buffer = move |words: &mut [u64; 2]| {
+    let rust = move |words: &mut [u64; 2]| {
         let made = make(checked());
         out.copy_from_slice(made.0.as_bytes());
         black_box(&out);
         told(&made, words)
     };
     Row {
-        into_buffer: Some(Side::new(repeated(into_buffer))),
+        left: Some(Side::new(repeated(left))),
         ..row(call, input, text.len(), ours, rust, Some(unchecked))
     }
 }
@@ -501,7 +505,7 @@ fn row(
         ours: Side::new(repeated(ours)),
         rust: Side::new(repeated(rust)),
         unchecked: unchecked.map(|once| Side::new(repeated(once))),
-        into_buffer: None,
+        left: None,
     }
 }
 

@@ -5,7 +5,7 @@ use super::{aligned, letters_with, row, writing_row, Made, Once, Row};
 use crate::inputs::entities::{long_names, long_reference};
 use crate::inputs::table::Draft;
 use crate::inputs::MEBIBYTE;
-use crate::library::{Cursor, Lent, Run};
+use crate::library::{self, Cursor, Lent};
 use crate::oracle::entities::{DEEPEST, MOST_OPENINGS};
 use crate::oracle::source::{escape, XmlVersion};
 use crate::table::{look_up, Definition, Meaning, Table};
@@ -29,9 +29,13 @@ impl Tables {
     }
 }
 
-/// Ours, by way of the form that all calls share.
-fn ours(run: Run, text: &'static [u8], version: u8, table: Table<'static>) -> impl Once {
-    let run = black_box(run);
+/// A call of ours, a type of its own for each: compiled into the loop that repeats it, as a C caller's is, so that nothing but the
+/// arguments is handed over.
+trait Ours: Fn(&Lent) -> u32 + Copy + 'static {}
+
+impl<F: Fn(&Lent) -> u32 + Copy + 'static> Ours for F {}
+
+fn ours(run: impl Ours, text: &'static [u8], version: u8, table: Table<'static>) -> impl Once {
     let room = GROWTH * text.len();
     let (scratch, out) = (vec![0; room].leak(), vec![0; room].leak());
     move |words: &mut [u64; 2]| {
@@ -52,8 +56,7 @@ fn ours(run: Run, text: &'static [u8], version: u8, table: Table<'static>) -> im
             cursor: &mut Cursor::default(),
             answer: words.as_mut_ptr(),
         };
-        // SAFETY: everything lent is of the length stated.
-        unsafe { run(&lent) }
+        run(&lent)
     }
 }
 
@@ -66,7 +69,7 @@ fn table_row(
     text: &[u8],
     version: u8,
     tables: Tables,
-    (run, rule): (Run, TableRule),
+    (run, rule): (impl Ours, TableRule),
 ) -> Row {
     let (text, rule) = (aligned(text), black_box(rule));
     let ours = ours(run, text, version, tables.lent);
@@ -75,7 +78,9 @@ fn table_row(
 }
 
 /// The Rust has no such check; it reads the same UTF-8, and each command.
-pub fn check_table(run: Run) -> Vec<Row> {
+pub fn check_table() -> Vec<Row> {
+    // SAFETY: everything that is lent is of the length stated.
+    let run = |lent: &Lent| unsafe { library::check_table(lent) };
     let small = Draft::of(&[
         ("a", "first"),
         ("e", "½"),
@@ -111,7 +116,9 @@ pub fn check_table(run: Run) -> Vec<Row> {
 type References = (&'static str, &'static [&'static str], usize);
 
 /// A text that names nothing of a table has none.
-pub fn unescape(run: Run) -> Vec<Row> {
+pub fn unescape() -> Vec<Row> {
+    // SAFETY: everything that is lent is of the length stated.
+    let run = |lent: &Lent| unsafe { library::unescape(lent) };
     let none = Tables::new(Draft::of(&[]));
     let some = Tables::new(Draft::of(&[("a", "first"), ("office", "Split")]));
     let inputs: [(References, Tables); 5] = [
@@ -135,7 +142,6 @@ pub fn unescape(run: Run) -> Vec<Row> {
             ));
         }
     }
-    rows.extend(lookups(run));
     rows
 }
 
@@ -150,43 +156,51 @@ fn rust_unescape(text: &'static str, _: u8, definitions: &'static [Definition<'s
 
 const NAMES: usize = 4000;
 const REFERENCES: usize = 100;
-const FIRST: &str = "100 references to the first of 4,000 names";
-const LAST: &str = "100 references to the last of 4,000 names";
 
-/// Names of 255 bytes that differ in their last four. Our side checks the table too, of a megabyte.
-fn lookups(run: Run) -> Vec<Row> {
-    let tables = Tables::new(long_names(NAMES));
-    let inputs = [
-        ("one reference to the last of 4,000 names", NAMES - 1, 1),
-        (FIRST, 0, REFERENCES),
-        (LAST, NAMES - 1, REFERENCES),
-    ];
-    let rows = inputs.into_iter().map(|(input, index, count)| {
-        let text = long_reference(index).repeat(count);
-        table_row("unescape", input, &text, 0, tables, (run, rust_unescape))
-    });
-    rows.collect()
+/// A hundred references to the first and to the last of many names of 255 bytes that differ in their last four. Both texts are as
+/// long, so their difference is what it takes to pass the names between, a hundred times; the check of the table, of a megabyte, is
+/// not in it.
+pub struct Lookup {
+    first: Row,
+    last: Row,
 }
 
-/// One lookup alone: both texts are as long, so their difference is what it takes to pass 3,999
-/// names, a hundred times.
-pub fn print_lookup(rows: &[Row]) {
-    let find = |input: &str| rows.iter().find(|row| row.input == input);
-    let (Some(first), Some(last)) = (find(FIRST), find(LAST)) else {
-        return;
-    };
-    let each = |last: f64, first: f64| (last - first) / REFERENCES as f64;
-    let ours = each(last.ours.best, first.ours.best);
-    let rust = each(last.rust.best, first.rust.best);
-    println!();
-    println!(
-        "One lookup that passes 3,999 names of 255 bytes, from the difference of the last two rows \
-         of unescape: {ours:.0} ns, the Rust's loop {rust:.0} ns, ours / Rust {:.2}.",
-        ours / rust
-    );
+impl Lookup {
+    pub fn new() -> Self {
+        let tables = Tables::new(long_names(NAMES));
+        let references = |input, index| {
+            let text = long_reference(index).repeat(REFERENCES);
+            // SAFETY: everything that is lent is of the length stated.
+            let run = |lent: &Lent| unsafe { library::unescape(lent) };
+            table_row("unescape", input, &text, 0, tables, (run, rust_unescape))
+        };
+        Lookup {
+            first: references("the first name", 0),
+            last: references("the last name", NAMES - 1),
+        }
+    }
+
+    pub fn measure(&mut self) {
+        self.first.measure();
+        self.last.measure();
+    }
+
+    pub fn print(&self) {
+        let each = |last: f64, first: f64| (last - first) / REFERENCES as f64;
+        let ours = each(self.last.ours.best, self.first.ours.best);
+        let rust = each(self.last.rust.best, self.first.rust.best);
+        println!();
+        println!(
+            "One lookup that passes 3,999 names of 255 bytes: {ours:.0} ns, the Rust's loop \
+             {rust:.0} ns, ours / Rust {:.2}.",
+            ours / rust
+        );
+    }
 }
 
-pub fn normalize_attribute_value(run: Run) -> Vec<Row> {
+pub fn normalize_attribute_value() -> Vec<Row> {
+    // SAFETY: everything that is lent is of the length stated.
+    let run = |lent: &Lent| unsafe { library::normalize_attribute_value(lent) };
     let calls = [
         "normalize_attribute_value, 1.0",
         "normalize_attribute_value, 1.1",
@@ -194,12 +208,14 @@ pub fn normalize_attribute_value(run: Run) -> Vec<Row> {
     attribute_rows(calls, (run, rust_normalize))
 }
 
-pub fn canonical_form(run: Run) -> Vec<Row> {
+pub fn canonical_form() -> Vec<Row> {
+    // SAFETY: everything that is lent is of the length stated.
+    let run = |lent: &Lent| unsafe { library::canonical_form(lent) };
     let calls = ["canonical_form, 1.0", "canonical_form, 1.1"];
     attribute_rows(calls, (run, rust_canonical))
 }
 
-fn attribute_rows(calls: [&str; 2], sides: (Run, TableRule)) -> Vec<Row> {
+fn attribute_rows(calls: [&str; 2], sides: (impl Ours, TableRule)) -> Vec<Row> {
     let inputs: [References; 5] = [
         ("plain", &[], 0),
         ("sparse", &["\t", "&lt;", "\r\n", "&a;"], 100),
