@@ -5,6 +5,7 @@ use super::table::{few, random_draft, Draft, LONGEST_NAME, NAMES};
 use super::text::{text, Mix};
 use super::{random_room, spoil_at_random, Sink};
 use crate::calls::Arguments;
+use crate::oracle::entities::MOST_OPENINGS;
 use crate::random::Random;
 use crate::table::{Table, DEFINITION, LONGEST_LIST};
 
@@ -218,6 +219,66 @@ pub fn first_binds(random: &mut Random, sink: &mut Sink) {
                 });
             }
         }
+    }
+}
+
+/// Names that begin alike, with tokens of up to 8 bytes and of 9, their texts, and how many openings each makes.
+const ALIKE: [(&str, &str, u64); 6] = [
+    ("a", "x", 1),
+    ("ab", "&a;&a;", 3),
+    ("abc", "&ab;\t&a;", 5),
+    ("abcdef", "", 1),
+    ("abcdefg", "&abc;", 6),
+    ("abcdeg", "&#65;&lt;", 1),
+];
+
+/// Few references, each many times, more kinds or fewer than a walk keeps, beside others that begin like them, with limits that the
+/// text just meets or just does not.
+pub fn repeated(random: &mut Random, sink: &mut Sink) {
+    const ROUNDS: usize = 60_000;
+    const OTHERS: [&[u8]; 8] = [
+        b"&lt;",
+        b"&amp;",
+        b"&#65;",
+        b"&#66;",
+        b"&#x41;",
+        b"&#x20AC;",
+        b"\t",
+        b"\r\n",
+    ];
+    let draft = Draft::of(&ALIKE.map(|(name, text, _)| (name, text)));
+    for _ in 0..ROUNDS {
+        let mut kinds: Vec<(Vec<u8>, u64)> = vec![];
+        for _ in 0..random.within(1, 7) {
+            let (name, _, openings) = random.pick(&ALIKE);
+            kinds.push(match random.below(2) {
+                0 => (random.pick(&OTHERS).to_vec(), 0),
+                _ => (format!("&{name};").into_bytes(), openings),
+            });
+        }
+        let (mut text, mut openings) = (vec![], 0);
+        for _ in 0..random.below(60) {
+            let (token, more) = &kinds[random.below(kinds.len())];
+            text.extend_from_slice(token);
+            openings += more;
+            text.extend_from_slice(&b"abcdefghijklmnopqrst"[..random.below(12)]);
+        }
+        if random.below(8) == 0 {
+            text.extend_from_slice(random.pick(&[&b"&a"[..], b"&ab;&", b"&;", b"&abcdeh;"]));
+        }
+        sink(Arguments {
+            choice: random.pick(&[0, 2]),
+            depth: random.pick(&[1, 2, 3, 4, 128]),
+            limit: match random.below(4) {
+                0 => openings,
+                1 => openings.saturating_sub(1),
+                2 => random.below(openings as usize + 2) as u64,
+                _ => MOST_OPENINGS,
+            },
+            table: draft.table(),
+            room: random_room(random),
+            ..Arguments::text(&text)
+        });
     }
 }
 
