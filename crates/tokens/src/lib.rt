@@ -175,7 +175,10 @@ fn moved_up(word: u64, shift: u64) -> u64
     word << shift
 }
 
-// Which of the four references that are kept stands at `at`; 4 where none does.
+// What is kept of four references stands side by side in `seen`: four times their bytes as a number, the shift of that number, where
+// the value starts in the output, its length and its openings; after these twenty the place of the next reference.
+
+// Which of them stands at `at`; 4 where none does.
 fn seen_at(text: &[u8], at: usize, seen: &[u64]) -> usize
     requires { ⌜ (at ≤ length (now text)) × (length (now seen) ≡ 21) ⌝ }
     requires { ⌜ ((k : ℕ) → k < 4 → getD (now seen) (k + 4) 0 < 64) ⌝ }
@@ -211,7 +214,8 @@ fn put_again(from: usize, count: usize, at: usize, out: &mut [u8])
     }
 }
 
-// The reference at `at`, where it is kept: its value is `len` bytes after the output's start. Else the number 0.
+// The reference at `at`, where one with the same bytes is kept: its value is written again, after the value of `len` bytes. Else the
+// number 0, and nothing is written.
 pub fn seen_step(
     text: &[u8],
     at: usize,
