@@ -190,6 +190,21 @@ fn skip_blocks(text: &[u8], from: usize, size: usize) -> usize
     i
 }
 
+// Passes 126 bytes, where no `>` ends a `]]>` that stands at one of them. The blocks of 128 bytes after these are then looked at from
+// multiples of 128 on, in a piece that starts where the text does: loads that cross no cache line.
+fn skip_first(text: &[u8], from: usize) -> usize
+    requires { ⌜ from ≤ length (now text) ⌝ }
+    ensures { λ r. ⌜ Passed (now (text .entry)) from r ⌝ }
+{
+    if text.len() - from < 128 {
+        return from;
+    }
+    if any_gt(text, from, 126) {
+        return from;
+    }
+    from + 126
+}
+
 // Is there no `]]>` from i on? Seen where the text's last block, which may start before i, has no `>`.
 fn ends_clear(text: &[u8], i: usize) -> bool
     ensures { λ r. ⌜ (r ≡ true → Clear (now (text .entry)) i (length (now (text .entry)) - 2 - i)) ⌝ }
@@ -209,7 +224,7 @@ fn piece_end(text: &[u8], from: usize) -> usize
     requires { ⌜ from ≤ length (now text) ⌝ }
     ensures { λ r. ⌜ r ≡ from + firstCut (drop from (now (text .entry))) ⌝ }
 {
-    let near = skip_blocks(text, from, 128);
+    let near = skip_blocks(text, skip_first(text, from), 128);
     let mut i = skip_blocks(text, near, 32);
     if ends_clear(text, i) {
         return text.len();
