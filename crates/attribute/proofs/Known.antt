@@ -22,7 +22,7 @@ use Rattle.tokens.proofs.Memory.{advanced-again, advanced-once, advanced-kept}
 use Rattle.attribute.specs.Heads.{attributeHead}
 use Rattle.attribute.specs.Walk.{Settings, walk, reading, readingOf}
 use Rattle.attribute.specs.Steps.{stopByte, stopAnswer, outcomeAt, Blank, CountedStep, walking}
-use Rattle.attribute.proofs.Single.{at-zero, stop-deeper}
+use Rattle.attribute.proofs.Single.{zero-stepped, blank-stepped}
 use Rattle.attribute.proofs.Shifted.{stop-shifts}
 
 -- ---- a stop other than `&`
@@ -33,16 +33,13 @@ module _ (newer : Bool) (depth : ℕ) (t : List ℕ) (at n : ℕ) where
 
   pub blank-zero : depth ≡ 0 → stopByte newer (getD t at 0) ≡ true → {old : List ℕ} {r : Step} → r ≡ Stopped 16 0 0
       → ((s : Settings) → Steps s old old r) × ((limit : ℕ) → n ≤ limit → CountedStep (length t) at n limit r)
-  blank-zero e b q = (λ s. stepped-refused (at-zero s newer t at n depth e b) q, λ limit h. rw q tt)
+  blank-zero e b q = (λ s. zero-stepped s newer depth t at n e b q, λ limit h. rw q tt)
 
   pub blank-byte : depth ≢ 0 → {x : Blanked} → Blank (ruleFor newer) t at x → {old new : List ℕ} {r : Step}
       → Stepped (at + x .width) (done (x .byte ∷ []) n) old new r
       → ((s : Settings) → Steps s old new r) × ((limit : ℕ) → n ≤ limit → CountedStep (length t) at n limit r)
   blank-byte deep b p = (
-    λ s.
-        stepped-as (b .next)
-        (stop-deeper s depth deep (tokenOf (headAt (attributeHead (ruleFor newer)) t at)) n ∙ b .stands-for s (λ u m. walk s (s .inner) (depth - 1) u m) n)
-        p,
+    λ s. blank-stepped s newer depth t at n deep b p,
     λ limit h. rw (p .answers) (omega (arith, b .some), b .inside, omega arith, h, omega (arith, b .some)),
   )
 

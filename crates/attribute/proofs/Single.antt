@@ -238,6 +238,21 @@ counted-walked size at openings limit end a z (Done len made) h g l m k e =
     rw e (omega (arith, h), omega (arith, g), omega (arith, k .0), k .1, omega (arith, k .2, k .0, l, m, h))
 counted-walked size at openings limit end a z (Refused k first second) h g l m x e = rw e tt
 
+-- ---- a stop other than `&`, in any reading
+
+module _ (s : Settings) (newer : Bool) (depth : ℕ) (t : List ℕ) (at n : ℕ) where
+  pub zero-stepped : depth ≡ 0 → stopByte newer (getD t at 0) ≡ true → {old : List ℕ} {r : Step} → r ≡ Stopped 16 0 0
+      → Stepped (nextAt (attributeHead (ruleFor newer)) t at) (outcomeAt s (ruleFor newer) depth t at n) old old r
+  zero-stepped e b q = stepped-refused (at-zero s newer t at n depth e b) q
+
+  pub blank-stepped : depth ≢ 0 → {x : Blanked} → Blank (ruleFor newer) t at x → {old new : List ℕ} {r : Step}
+      → Stepped (at + x .width) (done (x .byte ∷ []) n) old new r
+      → Stepped (nextAt (attributeHead (ruleFor newer)) t at) (outcomeAt s (ruleFor newer) depth t at n) old new r
+  blank-stepped deep b p =
+      stepped-as (b .next)
+      (stop-deeper s depth deep (tokenOf (headAt (attributeHead (ruleFor newer)) t at)) n ∙ b .stands-for s (λ u m. walk s (s .inner) (depth - 1) u m) n)
+      p
+
 -- ---- the returns of the code, in its reading
 
 module _ (newer : Bool) (list pool : List ℕ) (limit depth : ℕ) (t : List ℕ) (at n : ℕ) where
@@ -248,14 +263,11 @@ module _ (newer : Bool) (list pool : List ℕ) (limit depth : ℕ) (t : List ℕ
   Steps old new r = Stepped (nextAt (attributeHead (ruleFor newer)) t at) (outcomeAt setting (ruleFor newer) depth t at n) old new r
 
   pub step-zero : depth ≡ 0 → stopByte newer (getD t at 0) ≡ true → {old : List ℕ} {r : Step} → r ≡ Stopped 16 0 0 → Steps old old r
-  step-zero e b q = stepped-refused (at-zero setting newer t at n depth e b) q
+  step-zero = zero-stepped setting newer depth t at n
 
   module _ (deep : depth ≢ 0) where
     pub step-blank : {x : Blanked} → Blank (ruleFor newer) t at x → {old new : List ℕ} {r : Step} → Stepped (at + x .width) (done (x .byte ∷ []) n) old new r → Steps old new r
-    step-blank b s =
-        stepped-as (b .next)
-        (stop-deeper setting depth deep (tokenOf (headAt (attributeHead (ruleFor newer)) t at)) n ∙ b .stands-for setting (λ u m. walk setting (setting .inner) (depth - 1) u m) n)
-        s
+    step-blank = blank-stepped setting newer depth t at n deep
 
     module _ (end : ℕ) (amp : getD t at 0 ≡ 38) (e : NameEnd false t (at + 1) end) where
       any : setting .legal ≡ anyCharacter

@@ -17,7 +17,7 @@ use Rattle.text.proofs.Bytes.{pick-both, pick-by, or-left, or-right, and-left, 
 use Rattle.eols.specs.LineEnds.{lineEnd}
 use Rattle.eols.specs.Stops.{ruleFor}
 use Rattle.eols.specs.declared.Step.{Step}
-use Rattle.eols.proofs.LineEnds.{none10, none11, lf-alone, line-end-fits}
+use Rattle.eols.proofs.LineEnds.{none10, none11, lf-alone, line-end-fits, common-plain as common-in-lines}
 use Rattle.tokens.specs.Tokens.{Stop, kept, space, number, named, Token, copy, stop, Head, head, tokenOf, Name, ended, endless, nameAt, referenceTo, referenceAt}
 use Rattle.tokens.specs.Outcome.{Outcome, done}
 use Rattle.output.specs.Runs.{Plain}
@@ -32,14 +32,10 @@ use Rattle.attribute.specs.Steps.{stopByte, Blank}
 pub common-plain : {low high : ℕ} (b : ℕ) → leb low b && leb b high ≡ true → 38 < low → high < 0xC2 → (newer : Bool) → stopByte newer b ≡ false
 common-plain {low} {high} b e past-amp before-lead newer =
     let from = leb-true low b (and-left (leb low b) (leb b high) e) in
-    let to = leb-true b high (and-right (leb low b) (leb b high) e) in
     let none : (c : ℕ) → c < 39 → eqb b c ≡ false = λ c h. ne-eqb b c (λ q. omega (arith, from, past-amp, h, q)) in
-    let lead : (c : ℕ) → 0xC1 < c → eqb b c ≡ false = λ c h. ne-eqb b c (λ q. omega (arith, to, before-lead, h, q)) in
-    rw (none 9 (omega arith), none 10 (omega arith), none 13 (omega arith), none 38 (omega arith), lead 0xC2 (omega arith), lead 0xE2 (omega arith)) (no newer)
-  where
-    no : (n : Bool) → n && false ≡ false
-    no true = refl
-    no false = refl
+    let lead = newer && (eqb b 0xC2 || eqb b 0xE2) in
+    let eol : eqb b 13 || lead ≡ false = common-in-lines b e (omega (arith, past-amp)) before-lead newer in
+    rw (none 9 (omega arith), none 10 (omega arith), none 38 (omega arith), or-left (eqb b 13) lead eol) (or-right (eqb b 13) lead eol)
 
 -- no stop before the text's end
 pub plain-whole : {stops : ℕ → Bool} {t : List ℕ} {e : ℕ} → RunEnd stops t 0 e → eqb e (length t) ≡ true → Plain stops t 0 (length t)

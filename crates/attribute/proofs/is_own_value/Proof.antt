@@ -4,33 +4,22 @@ use Rattle.attribute.proofs.Passed.{passed-plain, own-late}
 use borrow.Author.Needs.{needs}
 use Rattle.attribute.proofs.is_own_value.Statement.{statement}
 use Rattle.attribute.proofs.is_own_value.Tie as tie
-use Rattle.attribute.proofs.is_own_value.Reads as reads
-use Rattle.attribute.proofs.is_own_value.Lts as lts
-use Rattle.attribute.proofs.far_stop.Reads as far-stop-reads
-use Rattle.attribute.proofs.is_whole.Reads as is-whole-reads
-use Rattle.attribute.proofs.kept_end.Reads as kept-end-reads
 
--- src/lib.rt:636:8
 is-whole-requires : tie.Need-is-whole-requires
 is-whole-requires c κs = search needs
 
--- src/lib.rt:637:9
 returns : tie.Need-returns
 returns c = λ e. passed-plain (c .before .before .before .args .newer) (c .before .before .before .args .depth) (c .before .before .before .args .text .now) (c .before .is-whole .ensures (c .if1 .taken))
 
--- src/lib.rt:640:9
 returns-2 : tie.Need-returns-2
 returns-2 c = λ e. absurd (true≢false (sym e))
 
--- src/lib.rt:642:20
 far-stop-requires : tie.Need-far-stop-requires
 far-stop-requires c κs = search needs
 
--- src/lib.rt:642:5
 kept-end-requires : tie.Need-kept-end-requires
 kept-end-requires c κs = search needs
 
--- src/lib.rt:632:1
 returns-3 : tie.Need-returns-3
 returns-3 c = λ e. own-late (c .before .before .before .before .before .before .args .newer) (c .before .before .before .before .before .before .args .depth) (c .before .before .before .before .before .before .args .text .now) (c .before .before .if2 .left) (c .before .far-stop .ensures) (c .kept-end .ensures .0) e
 

@@ -8,11 +8,6 @@ use Prim.Native.Nat.{_-_}
 use Rattle.entity.proofs.Commands.{Standing, start, finish, refuses, goes-on}
 use Rattle.entity.proofs.check_commands.Statement.{statement}
 use Rattle.entity.proofs.check_commands.Tie as tie
-use Rattle.entity.proofs.check_commands.Reads as reads
-use Rattle.entity.proofs.check_commands.Lts as lts
-use Rattle.entity.proofs.ascii_of.Reads as ascii-of-reads
-use Rattle.entity.proofs.check_command.Reads as check-command-reads
-use Rattle.entity.proofs.check_end.Reads as check-end-reads
 
 abbrev Inv-loop : tie.InvT-loop
 Inv-loop list pool ascii at₀ count₀ at count = Standing list pool at count
@@ -20,30 +15,24 @@ Inv-loop list pool ascii at₀ count₀ at count = Standing list pool at count
 abbrev μ-loop : tie.MeasureT-loop
 μ-loop list pool ascii at₀ count₀ at count = length list - at
 
--- src/lib.rt:168:9
 ascii-of-requires : tie.Need-ascii-of-requires Inv-loop μ-loop
 ascii-of-requires c κs = c .before .before .pre .0
 
--- src/lib.rt:171:5
 loop-holds : tie.Need-loop-holds Inv-loop μ-loop
 loop-holds c = start (c .before .before .before .args .list .now) (c .before .before .before .args .pool .now) (c .before .before .before .pre .0) (c .before .before .before .pre .1)
 
--- src/lib.rt:171:30
 shared-slice-read-if1 : tie.Need-shared-slice-read-if1 Inv-loop μ-loop
 shared-slice-read-if1 c = c .before .loop-test .taken
 
--- src/lib.rt:172:13
 check-command-requires : tie.Need-check-command-requires Inv-loop μ-loop
 check-command-requires c κs = (c .before .before .loop-test .taken, c .before .before .before .before .ascii-of .ensures)
 
 enum-told : tie.Need-enum-told Inv-loop μ-loop
 enum-told c = search needs
 
--- src/lib.rt:178:13
 enum-told-2 : tie.Need-enum-told-2 Inv-loop μ-loop
 enum-told-2 c = search needs
 
--- src/lib.rt:178:13
 returns : tie.Need-returns Inv-loop μ-loop
 returns c =
     let l = c .before .before .before .before .before .before .loop in
@@ -51,30 +40,24 @@ returns c =
     ∙ refuses (c .before .before .before .before .before .before .before .before .before .before .args .list .now) (c .before .before .before .before .before .before .before .before .before .before .args .pool .now) (l .at) (l .count) (l .inv) (c .before .before .before .before .before .loop-test .taken) (eqb-true _ _ (c .before .before .before .if1 .taken))
     (sym (c .before .before .check-command .ensures) ∙ c .enum-told2 .given .1)
 
--- src/lib.rt:180:9
 add-at : tie.Need-add-at Inv-loop μ-loop
 add-at c = let s = c .before .before .before .before .before .before .loop .inv in omega arith
 
--- src/lib.rt:181:9
 add-count : tie.Need-add-count Inv-loop μ-loop
 add-count c = let s = c .before .before .before .before .before .before .loop .inv in omega arith
 
--- src/lib.rt:171:5
 loop-less : tie.Need-loop-less Inv-loop μ-loop
 loop-less c = let l = c .before .before .before .before .before .loop-test .taken in omega arith
 
--- src/lib.rt:171:5
 loop-again : tie.Need-loop-again Inv-loop μ-loop
 loop-again c =
     let l = c .before .before .before .before .before .before .loop in
     goes-on (c .before .before .before .before .before .before .before .before .before .before .args .list .now) (c .before .before .before .before .before .before .before .before .before .before .args .pool .now) (l .at) (l .count) (l .inv) (c .before .before .before .before .before .loop-test .taken) (eqb-true _ _ (c .before .before .before .if1 .taken))
     (sym (c .before .before .check-command .ensures) ∙ c .enum-told .given .1)
 
--- src/lib.rt:183:5
 check-end-requires : tie.Need-check-end-requires Inv-loop μ-loop
 check-end-requires c κs = c .before .loop .inv .fits
 
--- src/lib.rt:164:1
 returns-2 : tie.Need-returns-2 Inv-loop μ-loop
 returns-2 c =
     let l = c .before .before .loop in

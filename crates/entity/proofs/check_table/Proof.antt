@@ -4,41 +4,28 @@ use Rattle.entity.proofs.Commands.{long-list, long-pool, short-list}
 use borrow.Author.Needs.{needs}
 use Rattle.entity.proofs.check_table.Statement.{statement}
 use Rattle.entity.proofs.check_table.Tie as tie
-use Rattle.entity.proofs.check_table.Reads as reads
-use Rattle.entity.proofs.check_table.Lts as lts
-use Rattle.entity.proofs.check_commands.Reads as check-commands-reads
-use Rattle.entity.proofs.check_end.Reads as check-end-reads
-use Rattle.entity.proofs.refused.Reads as refused-reads
 
--- src/lib.rt:191:9
 refused-requires : tie.Need-refused-requires
 refused-requires c κs = search needs
 
--- src/lib.rt:191:9
 returns : tie.Need-returns
 returns c = c .refused .ensures ∙ long-list (c .before .before .before .before .args .list .now) (c .before .before .before .before .args .pool .now) (omega arith)
 
--- src/lib.rt:194:9
 refused-requires-2 : tie.Need-refused-requires-2
 refused-requires-2 c κs = search needs
 
--- src/lib.rt:194:9
 returns-2 : tie.Need-returns-2
 returns-2 c = c .refused2 .ensures ∙ long-pool (c .before .before .before .before .before .args .list .now) (c .before .before .before .before .before .args .pool .now) (omega arith) (omega arith)
 
--- src/lib.rt:197:9
 check-end-requires : tie.Need-check-end-requires
 check-end-requires c κs = omega arith
 
--- src/lib.rt:197:9
 returns-3 : tie.Need-returns-3
 returns-3 c = c .check-end .ensures ∙ short-list (c .before .before .before .before .before .before .args .list .now) (c .before .before .before .before .before .before .args .pool .now) (omega arith) (omega arith)
 
--- src/lib.rt:199:5
 check-commands-requires : tie.Need-check-commands-requires
 check-commands-requires c κs = (omega arith, omega arith)
 
--- src/lib.rt:187:1
 returns-4 : tie.Need-returns-4
 returns-4 c = c .check-commands .ensures
 

@@ -9,8 +9,6 @@ use lib.ListN.{length, take, drop, length-set, getD}
 use Rattle.output.specs.Over.{over}
 use Rattle.tokens.proofs.put_again.Statement.{statement}
 use Rattle.tokens.proofs.put_again.Tie as tie
-use Rattle.tokens.proofs.put_again.Reads as reads
-use Rattle.tokens.proofs.put_again.Lts as lts
 
 abbrev Inv-loop : tie.InvT-loop
 Inv-loop from count at out₀ k₀ out k = (k ≤ count) × (length out ≡ length out₀) × ((value whole : List ℕ) → out₀ ≡ over value whole → length value ≡ at → out ≡ over (value ++ take k (drop from value)) whole)
@@ -18,53 +16,41 @@ Inv-loop from count at out₀ k₀ out k = (k ≤ count) × (length out ≡ leng
 abbrev μ-loop : tie.MeasureT-loop
 μ-loop from count at out₀ k₀ out k = count - k
 
--- src/lib.rt:204:19
 slice-read-out : tie.Need-slice-read-out Inv-loop μ-loop
 slice-read-out c = omega (arith, c .before .before .pre, c .before .if1 .taken)
 
--- src/lib.rt:204:9
 slice-write-out : tie.Need-slice-write-out Inv-loop μ-loop
 slice-write-out c = omega (arith, c .before .before .pre, c .before .if1 .taken)
 
--- src/lib.rt:205:9
 same-length : tie.Need-same-length Inv-loop μ-loop
 same-length c = length-set (c .before .before .args .out .now) (c .before .before .args .at) (getD (c .before .before .args .out .now) (c .before .before .args .from) 0)
 
--- src/lib.rt:205:9
 returns : tie.Need-returns Inv-loop μ-loop
 returns c =
     let a = c .before .before .args in
     (length-set (a .out .now) (a .at) (getD (a .out .now) (a .from) 0), λ value whole e n. again-one value whole (a .from) (a .at) (a .count) (c .before .if1 .taken) n (omega (arith, c .before .before .pre, c .before .if1 .taken)) (omega (arith, c .before .before .pre, ap length e, length-over value whole)) e)
 
--- src/lib.rt:208:5
 loop-holds : tie.Need-loop-holds Inv-loop μ-loop
 loop-holds c = (zero-le, refl, λ value whole e n. e ∙ ap (λ (l : List ℕ). over l whole) (sym (append-nil value)))
 
--- src/lib.rt:209:27
 add-out : tie.Need-add-out Inv-loop μ-loop
 add-out c = search needs
 
--- src/lib.rt:209:23
 slice-read-out-2 : tie.Need-slice-read-out-2 Inv-loop μ-loop
 slice-read-out-2 c = omega arith
 
--- src/lib.rt:209:13
 add-out-2 : tie.Need-add-out-2 Inv-loop μ-loop
 add-out-2 c = search needs
 
--- src/lib.rt:209:9
 slice-write-out-2 : tie.Need-slice-write-out-2 Inv-loop μ-loop
 slice-write-out-2 c = omega arith
 
--- src/lib.rt:210:9
 add-k : tie.Need-add-k Inv-loop μ-loop
 add-k c = search needs
 
--- src/lib.rt:208:5
 loop-less : tie.Need-loop-less Inv-loop μ-loop
 loop-less c = search needs
 
--- src/lib.rt:208:5
 loop-again : tie.Need-loop-again Inv-loop μ-loop
 loop-again c =
     let l = c .before .before .loop in
@@ -74,11 +60,9 @@ loop-again c =
       λ value whole e n. again-byte value whole (a .from) (a .at) (l .k) n (omega arith) (omega (arith, ap length e, length-over value whole)) (l .inv .2 value whole e n),
     )
 
--- src/lib.rt:199:1
 same-length-2 : tie.Need-same-length-2 Inv-loop μ-loop
 same-length-2 c = c .before .loop .inv .1
 
--- src/lib.rt:199:1
 returns-2 : tie.Need-returns-2 Inv-loop μ-loop
 returns-2 c =
     let l = c .before .loop in

@@ -4,29 +4,19 @@ use Rattle.tokens.proofs.Search.{end-after}
 use borrow.Author.Needs.{needs}
 use Rattle.unescape.proofs.far_amp.Statement.{statement}
 use Rattle.unescape.proofs.far_amp.Tie as tie
-use Rattle.unescape.proofs.far_amp.Reads as reads
-use Rattle.unescape.proofs.far_amp.Lts as lts
-use Rattle.unescape.proofs.amp_blocks.Reads as amp-blocks-reads
-use Rattle.unescape.proofs.bytes_amp.Reads as bytes-amp-reads
-use Rattle.unescape.proofs.nears_amp.Reads as nears-amp-reads
 
--- src/lib.rt:98:34
 amp-blocks-requires : tie.Need-amp-blocks-requires
 amp-blocks-requires c κs = search needs
 
--- src/lib.rt:98:9
 amp-blocks-requires-2 : tie.Need-amp-blocks-requires-2
 amp-blocks-requires-2 c κs = search needs
 
--- src/lib.rt:99:21
 nears-amp-requires : tie.Need-nears-amp-requires
 nears-amp-requires c κs = search needs
 
--- src/lib.rt:99:5
 bytes-amp-requires : tie.Need-bytes-amp-requires
 bytes-amp-requires c κs = search needs
 
--- src/lib.rt:94:1
 returns : tie.Need-returns
 returns c =
     let t = c .before .before .before .before .before .args .text .now in

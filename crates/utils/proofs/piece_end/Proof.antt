@@ -8,12 +8,6 @@ use Rattle.utils.proofs.Cuts.{passed-on, passed-block, end-cut, end-las
 use borrow.Author.Needs.{needs}
 use Rattle.utils.proofs.piece_end.Statement.{statement}
 use Rattle.utils.proofs.piece_end.Tie as tie
-use Rattle.utils.proofs.piece_end.Reads as reads
-use Rattle.utils.proofs.piece_end.Lts as lts
-use Rattle.utils.proofs.closes_at.Reads as closes-at-reads
-use Rattle.utils.proofs.ends_clear.Reads as ends-clear-reads
-use Rattle.utils.proofs.skip_blocks.Reads as skip-blocks-reads
-use Rattle.utils.proofs.skip_first.Reads as skip-first-reads
 
 abbrev Inv-loop : tie.InvT-loop
 Inv-loop text from near i₀ i = Passed text from i
@@ -21,59 +15,45 @@ Inv-loop text from near i₀ i = Passed text from i
 abbrev μ-loop : tie.MeasureT-loop
 μ-loop text from near i₀ i = length text - i
 
--- src/lib.rt:227:34
 skip-first-requires : tie.Need-skip-first-requires Inv-loop μ-loop
 skip-first-requires c κs = search needs
 
--- src/lib.rt:227:9
 skip-blocks-requires : tie.Need-skip-blocks-requires Inv-loop μ-loop
 skip-blocks-requires c κs = search needs
 
--- src/lib.rt:228:9
 skip-blocks-requires-2 : tie.Need-skip-blocks-requires-2 Inv-loop μ-loop
 skip-blocks-requires-2 c κs = search needs
 
--- src/lib.rt:229:8
 ends-clear-requires : tie.Need-ends-clear-requires Inv-loop μ-loop
 ends-clear-requires c κs = search needs
 
--- src/lib.rt:230:9
 returns : tie.Need-returns Inv-loop μ-loop
 returns c = end-clear (c .before .before .before .before .before .before .args .text .now) (c .before .before .before .before .before .before .args .from) (c .before .before .skip-blocks2 .result) (passed-on _ _ _ _ (passed-on _ _ _ _ (c .before .before .before .before .skip-first .ensures) (c .before .before .before .skip-blocks .ensures)) (c .before .before .skip-blocks2 .ensures)) (c .before .ends-clear .ensures (c .if1 .taken))
 
--- src/lib.rt:232:5
 loop-holds : tie.Need-loop-holds Inv-loop μ-loop
 loop-holds c = passed-on _ _ _ _ (passed-on _ _ _ _ (c .before .before .before .before .skip-first .ensures) (c .before .before .before .skip-blocks .ensures)) (c .before .before .skip-blocks2 .ensures)
 
--- src/lib.rt:232:16
 sub-loop : tie.Need-sub-loop Inv-loop μ-loop
 sub-loop c = search needs
 
--- src/lib.rt:233:12
 closes-at-requires : tie.Need-closes-at-requires Inv-loop μ-loop
 closes-at-requires c κs = search needs
 
--- src/lib.rt:234:20
 add-result : tie.Need-add-result Inv-loop μ-loop
 add-result c = search needs
 
--- src/lib.rt:234:13
 returns-2 : tie.Need-returns-2 Inv-loop μ-loop
 returns-2 c = end-cut _ _ _ (c .before .before .before .loop .inv) (omega (arith, c .before .before .before .loop .inv .fits)) (sym (c .before .closes-at .ensures) ∙ c .if2 .taken)
 
--- src/lib.rt:236:9
 add-i : tie.Need-add-i Inv-loop μ-loop
 add-i c = search needs
 
--- src/lib.rt:232:5
 loop-less : tie.Need-loop-less Inv-loop μ-loop
 loop-less c = search needs
 
--- src/lib.rt:232:5
 loop-again : tie.Need-loop-again Inv-loop μ-loop
 loop-again c = passed-block (c .before .before .before .before .before .before .before .before .before .before .args .text .now) (c .before .before .before .before .before .before .before .before .before .before .args .from) (c .before .before .before .loop .i) 1 (c .before .before .before .loop .inv) (omega (arith, c .before .before .before .loop .inv .fits)) (clear-one (c .before .before .before .before .before .before .before .before .before .before .args .text .now) (c .before .before .before .loop .i) (sym (c .before .closes-at .ensures) ∙ c .if2 .left))
 
--- src/lib.rt:223:1
 returns-3 : tie.Need-returns-3 Inv-loop μ-loop
 returns-3 c = end-last _ _ _ (c .before .loop .inv) (omega (arith, c .before .loop .inv .fits))
 

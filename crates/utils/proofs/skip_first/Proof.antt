@@ -4,31 +4,22 @@ use Rattle.utils.proofs.Cuts.{passed-block}
 use borrow.Author.Needs.{needs}
 use Rattle.utils.proofs.skip_first.Statement.{statement}
 use Rattle.utils.proofs.skip_first.Tie as tie
-use Rattle.utils.proofs.skip_first.Reads as reads
-use Rattle.utils.proofs.skip_first.Lts as lts
-use Rattle.utils.proofs.any_gt.Reads as any-gt-reads
 
--- src/lib.rt:199:8
 sub-if1 : tie.Need-sub-if1
 sub-if1 c = search needs
 
--- src/lib.rt:200:9
 returns : tie.Need-returns
 returns c = search needs
 
--- src/lib.rt:202:8
 any-gt-requires : tie.Need-any-gt-requires
 any-gt-requires c κs = search needs
 
--- src/lib.rt:203:9
 returns-2 : tie.Need-returns-2
 returns-2 c = search needs
 
--- src/lib.rt:205:5
 add-result : tie.Need-add-result
 add-result c = search needs
 
--- src/lib.rt:195:1
 returns-3 : tie.Need-returns-3
 returns-3 c = passed-block (c .before .before .before .before .args .text .now) (c .before .before .before .before .args .from) (c .before .before .before .before .args .from) 126 (record { fits = omega (arith, c .before .before .before .before .pre); on = refl }) (omega (arith, c .before .before .if1 .left)) (c .before .any-gt .ensures (c .if2 .left))
 
