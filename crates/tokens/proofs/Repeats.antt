@@ -2,17 +2,13 @@
 use mathlib.Core.Path.{_≡_, refl, sym, ap, _∙_}
 use mathlib.Core.List.{List, [], _∷_, _++_, append-nil, append-assoc}
 use Prim.Native.Nat.{ℕ, zero, suc, _+_, _≤_, _<_}
-use mathlib.Core.Bool.{Bool, true, false, _&&_, _||_}
 use native.Mathlib.Omega.{arith}
 use native.Mathlib.Nat.{not-suc-le-zero, le-of-suc-le-suc}
 use native.Mathlib.Numerals.{add-one}
 use lib.ListN.{length, getD, set, take, drop, length-append, length-drop}
 use lib.Seq.{length-take-le, take-suc, getD-drop}
-use lib.Dec.{leb}
-use borrow.Author.Tests.{leb-true}
 use Rattle.output.specs.Over.{over}
 use Rattle.output.proofs.Clip.{over-nothing, over-byte, length-over}
-use Rattle.text.proofs.Bytes.{and-left, and-right}
 use Rattle.tokens.specs.Seen.{Again}
 use Rattle.tokens.specs.declared.Step.{Step}
 use Rattle.tokens.specs.declared.Step.the-variants.{Next, Stopped}
@@ -47,13 +43,6 @@ again-byte value whole from at k e h g now =
     ∙ ap (λ (x : ℕ). set (over (value ++ part) whole) x b) n
     ∙ over-byte (value ++ part) whole b
     ∙ ap (λ (l : List ℕ). over l whole) (append-assoc value part (b ∷ []) ∙ ap (λ (l : List ℕ). value ++ l) more)
-
--- what the test says: the openings stay within the limit, and there is room for the part or for none of it
-pub room-or-none : (made limit end room len : ℕ) → leb made limit && (leb end room || leb room len) ≡ true
-    → (made ≤ limit) × (leb end room ≡ false → room ≤ len)
-room-or-none made limit end room len e =
-    let either = and-right (leb made limit) (leb end room || leb room len) e in
-    (leb-true made limit (and-left (leb made limit) (leb end room || leb room len) e), λ no. leb-true room len (ap (λ (t : Bool). t || leb room len) (sym no) ∙ either))
 
 -- where there is no room for any of the part, nothing is written
 pub again-none : (value more whole : List ℕ) (len : ℕ) {out : List ℕ} → out ≡ over value whole → length value ≡ len → length out ≤ len → out ≡ over (value ++ more) whole

@@ -214,6 +214,17 @@ fn put_again(from: usize, count: usize, at: usize, out: &mut [u8])
     }
 }
 
+// The answer where no reference with the same bytes is kept.
+fn unseen() -> Step
+    ensures { λ r. ⌜ r ≡ Step.Stopped 0 0 0 ⌝ }
+{
+    Step::Stopped {
+        number: 0,
+        first: 0,
+        second: 0,
+    }
+}
+
 // The reference at `at`, where one with the same bytes is kept: its value is written again, after the value of `len` bytes. Else the
 // number 0, and nothing is written.
 pub fn seen_step(
@@ -234,9 +245,11 @@ pub fn seen_step(
     if k < 4 {
         let count = seen[k + 12] as usize;
         let made = openings + seen[k + 16];
-        let fits = len + count <= out.len();
-        if (made <= limit) & (fits | (out.len() <= len)) {
-            if fits {
+        if made <= limit {
+            if len < out.len() {
+                if out.len() - len < count {
+                    return unseen();
+                }
                 put_again(seen[k + 8] as usize, count, len, out);
             }
             return Step::Next {
@@ -246,11 +259,7 @@ pub fn seen_step(
             };
         }
     }
-    Step::Stopped {
-        number: 0,
-        first: 0,
-        second: 0,
-    }
+    unseen()
 }
 
 // Keeps the reference of `width` bytes at `place` in the place of the one kept longest, where eight bytes hold it.

@@ -1,12 +1,11 @@
 use Prim.Native.Nat.{_+_}
 use lib.ListN.{length, getD, take, drop}
-use Rattle.tokens.proofs.Repeats.{room-or-none, again-none}
+use Rattle.tokens.proofs.Repeats.{again-none}
 use mathlib.Core.Path.{_≡_, refl, ap, _∙_}
 use mathlib.Core.List.{_++_}
 use mathlib.Core.Logic.{⊎-elim}
 use native.Mathlib.Omega.{arith}
 use Rattle.output.specs.Over.{over}
-use borrow.Author.Tests.{leb-true}
 use borrow.Author.Needs.{needs}
 use Rattle.tokens.proofs.seen_step.Statement.{statement}
 use Rattle.tokens.proofs.seen_step.Tie as tie
@@ -35,8 +34,14 @@ shared-slice-read-made c = search needs
 add-made-2 : tie.Need-add-made-2
 add-made-2 c = omega (arith, c .before .before .before .before .before .before .before .pre .1 .0 .few (c .before .before .before .seen-at .result) (c .before .before .if1 .taken), c .before .before .before .before .before .before .before .pre .1 .1)
 
-add-fits : tie.Need-add-fits
-add-fits c = omega (arith, c .before .before .before .before .before .before .before .pre .1 .0 .inside (c .before .before .before .seen-at .result) (c .before .before .if1 .taken), c .before .before .before .before .before .before .before .pre .0)
+sub-if4 : tie.Need-sub-if4
+sub-if4 c = search needs
+
+unseen-requires : tie.Need-unseen-requires
+unseen-requires c κs = search needs
+
+returns : tie.Need-returns
+returns c = rw (c .unseen .ensures) refl
 
 add-put-again : tie.Need-add-put-again
 add-put-again c = search needs
@@ -48,36 +53,34 @@ shared-slice-read-put-again : tie.Need-shared-slice-read-put-again
 shared-slice-read-put-again c = search needs
 
 put-again-requires : tie.Need-put-again-requires
-put-again-requires c κs = (c .before .before .before .before .before .before .before .before .before .before .before .pre .1 .0 .inside (c .before .before .before .before .before .before .before .seen-at .result) (c .before .before .before .before .before .before .if1 .taken), leb-true _ _ (c .before .before .if3 .taken))
+put-again-requires c κs = (c .before .before .before .before .before .before .before .before .before .before .before .before .pre .1 .0 .inside (c .before .before .before .before .before .before .before .before .seen-at .result) (c .before .before .before .before .before .before .before .if1 .taken), omega (arith, c .before .before .if4 .left, c .before .before .before .if3 .taken))
 
-add-t31 : tie.Need-add-t31
-add-t31 c = search needs
+add-t18 : tie.Need-add-t18
+add-t18 c = search needs
 
-mul-t32 : tie.Need-mul-t32
-mul-t32 c = search needs
+mul-t29 : tie.Need-mul-t29
+mul-t29 c = search needs
 
-shared-slice-read-t34 : tie.Need-shared-slice-read-t34
-shared-slice-read-t34 c = search needs
+shared-slice-read-t31 : tie.Need-shared-slice-read-t31
+shared-slice-read-t31 c = search needs
 
-sub-t37 : tie.Need-sub-t37
-sub-t37 c = omega (arith, c .before .before .before .before .before .before .before .before .before .before .pre .1 .0 .shifts (c .before .before .before .before .before .before .seen-at .result) (c .before .before .before .before .before .if1 .taken))
+sub-t34 : tie.Need-sub-t34
+sub-t34 c = omega (arith, c .before .before .before .before .before .before .before .before .before .before .pre .1 .0 .shifts (c .before .before .before .before .before .before .seen-at .result) (c .before .before .before .before .before .if1 .taken))
 
-add-t38 : tie.Need-add-t38
-add-t38 c = search needs
+add-t35 : tie.Need-add-t35
+add-t35 c = search needs
 
 same-length : tie.Need-same-length
-same-length c = ⊎-elim (λ w. ap length (w .6) ∙ w .3 .ensures .0) (λ w. ap length (w .1)) (c .before .if3 .came)
+same-length c = ⊎-elim (λ w. ap length (w .7) ∙ w .4 .ensures .0) (λ w. ap length (w .1)) (c .before .if3 .came)
 
-returns : tie.Need-returns
-returns c =
+returns-2 : tie.Need-returns-2
+returns-2 c =
     let a = c .before .before .before .before .before .before .before .before .before .before .args in
     let k = c .before .before .before .before .before .before .seen-at .result in
     let known = c .before .before .before .before .before .if1 .taken in
     let out = c .before .if3 .out in
     let start = getD (a .seen .now) (k + 8) 0 in
     let count = getD (a .seen .now) (k + 12) 0 in
-    let made = a .openings + getD (a .seen .now) (k + 16) 0 in
-    let t = room-or-none made (a .limit) (a .len + count) (length (a .out .now)) (a .len) (c .before .before .if2 .taken) in
     record {
       slot = k;
       known = known;
@@ -85,21 +88,21 @@ returns c =
       to = refl;
       size = refl;
       opens = refl;
-      within = t .0;
-      same-length = ⊎-elim {C = length out ≡ length (a .out .now)} (λ w. ap length (w .6) ∙ w .3 .ensures .0) (λ w. ap length (w .1)) (c .before .if3 .came);
+      within = c .before .before .if2 .taken;
+      same-length = ⊎-elim {C = length out ≡ length (a .out .now)} (λ w. ap length (w .7) ∙ w .4 .ensures .0) (λ w. ap length (w .1)) (c .before .if3 .came);
       writes = λ value whole e n.
           ⊎-elim
           {C = out ≡ over (value ++ take count (drop start value)) whole}
-          (λ w. w .6 ∙ w .3 .ensures .1 value whole e n)
-          (λ w. w .1 ∙ again-none value (take count (drop start value)) whole (a .len) e n (t .1 (w .0 .left)))
+          (λ w. w .7 ∙ w .4 .ensures .1 value whole e n)
+          (λ w. w .1 ∙ again-none value (take count (drop start value)) whole (a .len) e n (w .0 .left))
           (c .before .if3 .came);
     }
 
-returns-2 : tie.Need-returns-2
-returns-2 c = search needs
+unseen-requires-2 : tie.Need-unseen-requires-2
+unseen-requires-2 c κs = search needs
 
 returns-3 : tie.Need-returns-3
-returns-3 c = search needs
+returns-3 c = rw (c .unseen2 .ensures) refl
 
 pub seen-step-spec : {M : Type 1} → statement M
 seen-step-spec =
@@ -113,17 +116,19 @@ seen-step-spec =
     mul-made
     shared-slice-read-made
     add-made-2
-    add-fits
+    sub-if4
+    unseen-requires
+    returns
     add-put-again
     mul-put-again
     shared-slice-read-put-again
     put-again-requires
-    add-t31
-    mul-t32
-    shared-slice-read-t34
-    sub-t37
-    add-t38
+    add-t18
+    mul-t29
+    shared-slice-read-t31
+    sub-t34
+    add-t35
     same-length
-    returns
     returns-2
+    unseen-requires-2
     returns-3)
