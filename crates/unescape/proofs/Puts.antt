@@ -1,16 +1,16 @@
 -- A run that is copied while it is searched: what lies in the output so far. Assumes nothing.
-use mathlib.Core.Path.{_≡_, refl, sym, ap, _∙_}
-use mathlib.Core.Bool.{Bool, true, false, _&&_, _||_}
+use mathlib.Core.Path.{_≡_, sym, ap, _∙_}
+use mathlib.Core.Bool.{Bool, true, false, _&&_}
 use mathlib.Core.List.{List, [], _∷_, _++_}
 use Prim.Native.Nat.{ℕ, suc, _+_, _-_, _≤_, _<_, min}
 use native.Mathlib.Omega.{arith}
 use lib.Dec.{leb, ltb}
 use lib.ListN.{length, take, drop, getD, set, length-drop}
 use lib.Seq.{length-take-le, take-suc, getD-drop}
-use borrow.Author.Tests.{leb-true, ltb-false}
-use borrow.Rule.Slice.PartMut.{midOf, putMid}
+use borrow.Author.Tests.{leb-true}
+use borrow.Rule.Slice.PartMut.{midOf, putMid, same-len-mid}
 use Rattle.text.specs.Call.{laid}
-use Rattle.text.proofs.Bytes.{and-left, and-right, or-left, or-right}
+use Rattle.text.proofs.Bytes.{and-right}
 use Rattle.output.specs.Over.{over}
 use Rattle.output.specs.Runs.{Plain}
 use Rattle.output.proofs.Clip.{over-byte, over-fits, over-more, length-over}
@@ -18,7 +18,7 @@ use Rattle.output.proofs.Laid.{rest-part}
 use Rattle.output.proofs.Runs.{plain-none, plain-join}
 use Rattle.tokens.specs.Walking.{RunEnd, Within}
 use Rattle.tokens.proofs.Runs.{piece-join}
-use Rattle.tokens.proofs.Search.{plain-next, within-here, within-none, end-after, end-far}
+use Rattle.tokens.proofs.Search.{plain-next, within-here, within-none, end-after}
 use Rattle.unescape.specs.Steps.{Put}
 
 piece-length : (text : List ℕ) (i e : ℕ) → e ≤ length text → length (take (e - i) (drop i text)) ≡ e - i
@@ -61,14 +61,6 @@ module _ (text : List ℕ) (i : ℕ) (old : List ℕ) where
             over-more (take (e - i) (drop i text)) (take (f - e) (drop e text)) old p (sym (piece-length text i e (omega arith))) least q
             ∙ ap (λ (m : List ℕ). over m old) (piece-join text i e f h g)
 
-        -- a piece for which there is room
-        pub put-laid : w ≡ e - i → w + (f - e) ≤ length out → part ≡ laid (take (f - e) (drop e text)) (midOf w (length out - w) out)
-            → Put text i f old (putMid w (length out - w) out part)
-        put-laid q room c =
-            let n = piece-length text e f l in
-            put-more (omega arith)
-            (c ∙ sym (over-fits (take (f - e) (drop e text)) (midOf w (length out - w) out) (rw (n, rest-part w out, length-drop w out) (omega arith))))
-
 -- ---- the near bytes
 
 -- what the loop over the near bytes keeps
@@ -104,88 +96,103 @@ module _ (stops : ℕ → Bool) (text : List ℕ) (i n : ℕ) (fits : i + n ≤ 
         let q : k ≡ n = omega (arith, b .count) in
         (within-none stops text i n (rw q at (b .run)), rw q at (b .holds))
 
--- there are so many bytes to look at, and room for them
-pub each-fits : (n a b : ℕ) → ltb a n || ltb b n ≡ false → (n ≤ a) × (n ≤ b)
-each-fits n a b e = (ltb-false a n (or-left (ltb a n) (ltb b n) e), ltb-false b n (or-right (ltb a n) (ltb b n) e))
-
--- and the rest of the run, by a call that is lent the rest of the output
-pub nearby-far : (stops : ℕ → Bool) (text : List ℕ) (i n : ℕ) (old : List ℕ) {out : List ℕ} {e f : ℕ} {part : List ℕ}
-    → Within stops text i n e × Put text i e old out → i + n ≤ e → n ≤ length old
-    → RunEnd stops text e f × Put text e f (midOf n (length out - n) out) part
-    → RunEnd stops text i f × Put text i f old (putMid n (length out - n) out part)
-nearby-far stops text i n old {out} {e} {f} {part} w h room r = (
-  end-far stops text i (w .0) (r .0),
-  put-more text i old e (w .1) (w .0 .run .from) (r .0 .run .from) (r .0 .run .to) (omega (arith, w .0 .to, put-length text i old e (w .1))) (r .1),
-)
-
 -- ---- blocks of 16 bytes
 
--- what the loop over blocks keeps: `k` bytes are copied
+-- `k` bytes are copied, up to `e`
 pub record Blocks (stops : ℕ → Bool) (text : List ℕ) (i : ℕ) (old out : List ℕ) (e k : ℕ) : Type 0 where
   pub run : Plain stops text i e
   pub count : k ≡ e - i
   pub room : k ≤ length out
   pub holds : Put text i e old out
 
-pub both-fit : (n a b : ℕ) → leb n a && leb n b ≡ true → (n ≤ a) × (n ≤ b)
-both-fit n a b e = (leb-true n a (and-left (leb n a) (leb n b) e), leb-true n b (and-right (leb n a) (leb n b) e))
+-- after a short run the near bytes are looked at, where there are so many
+pub near-fits : (last n a : ℕ) → ltb last 16 && leb n a ≡ true → n ≤ a
+near-fits last n a e = leb-true n a (and-right (ltb last 16) (leb n a) e)
 
-pub block-fits : (text : List ℕ) (i : ℕ) (out : List ℕ) (k : ℕ) → 16 ≤ length text - i → 16 ≤ length out - k
+-- a piece of `n` bytes without a stop, byte by byte or at once
+pub within-all : (stops : ℕ → Bool) (text : List ℕ) (e n : ℕ) {f : ℕ} → Within stops text e n f → e + n ≤ f → Plain stops text e (e + n)
+within-all stops text e n {f} w h =
+    let q : f ≡ e + n = omega (arith, w .to) in
+    rw q at (w .run)
+
+pub piece-near : (stops : ℕ → Bool) (text : List ℕ) (e n : ℕ) (old : List ℕ) {out : List ℕ} {f : ℕ} → Within stops text e n f × Put text e f old out → e + n ≤ f
+    → Plain stops text e (e + n) × Put text e (e + n) old out
+piece-near stops text e n old {out} {f} w h =
+    let q : f ≡ e + n = omega (arith, w .0 .to) in
+    (within-all stops text e n (w .0) h, rw q at (w .1))
+
+pub piece-laid : (text : List ℕ) (e n : ℕ) (old : List ℕ) {out : List ℕ} → e + n ≤ length text → n ≤ length old
+    → out ≡ laid (take (e + n - e) (drop e text)) old → Put text e (e + n) old out
+piece-laid text e n old h g c =
+    c ∙ sym (over-fits (take (e + n - e) (drop e text)) old (rw (piece-length text e (e + n) h) (omega arith)))
+
+pub block-fits : (text : List ℕ) (i : ℕ) (out : List ℕ) (k : ℕ) → i + 16 ≤ length text → 16 ≤ length out - k
     → (length (take (i + 16 - i) (drop i text)) ≡ 16) × (16 ≤ length (midOf k (length out - k) out))
 block-fits text i out k h g =
     let q : i + 16 - i ≡ 16 = omega arith in
-    (piece-length text i (i + 16) (omega arith) ∙ q, rw (rest-part k out, length-drop k out) g)
+    (piece-length text i (i + 16) h ∙ q, rw (rest-part k out, length-drop k out) g)
 
 module _ (stops : ℕ → Bool) (text : List ℕ) (i : ℕ) (old : List ℕ) where
-  pub blocks-none : i ≤ length text → Blocks stops text i old old i 0
-  blocks-none h = record { run = plain-none stops text i h; count = omega arith; room = omega arith; holds = put-none text i old }
+  -- nothing yet, or the near bytes
+  pub blocks-none : i ≤ length text → {out : List ℕ} {k : ℕ} → out ≡ old → k ≡ 0 → Blocks stops text i old out (i + k) k
+  blocks-none h {out} {k} o q =
+      let z : i + k ≡ i = omega arith in
+      record { run = rw z (plain-none stops text i h); count = omega arith; room = omega arith; holds = rw z (o ∙ put-none text i old) }
 
-  pub blocks-more : {out : List ℕ} {e k : ℕ} {part : List ℕ} → Blocks stops text i old out e k → 16 ≤ length out - k → Plain stops text e (e + 16)
-      → part ≡ laid (take (e + 16 - e) (drop e text)) (midOf k (length out - k) out)
-      → Blocks stops text i old (putMid k (length out - k) out part) (e + 16) (k + 16)
-  blocks-more {out} {e} {k} {part} b room p q =
-      let put = put-laid text i old e (b .holds) (b .run .from) {f = e + 16} (p .from) (p .to) (b .count) (omega (arith, b .room)) q in
+  pub blocks-near : (n : ℕ) → n ≤ length old → {o out : List ℕ} {e k : ℕ} → out ≡ o → k ≡ n → Within stops text i n e × Put text i e old o → i + n ≤ e
+      → Blocks stops text i old out (i + k) k
+  blocks-near n room {o} {out} {e} {k} c q w h =
+      let z : i + k ≡ e = omega (arith, w .0 .to) in
       record {
-        run = plain-join stops text i e (e + 16) (b .run) p;
-        count = omega (arith, b .count, b .run .from);
-        room = omega (arith, b .room, put-length text i old (e + 16) put, put-length text i old e (b .holds));
-        holds = put;
+        run = rw z (w .0 .run);
+        count = omega arith;
+        room = omega (arith, ap length c, put-length text i old e (w .1));
+        holds = rw z (c ∙ w .1);
       }
 
-  module _ {out : List ℕ} {e k : ℕ} (b : Blocks stops text i old out e k) where
-    pub blocks-done : (Plain stops text i e × Put text i e old out) × (e - i ≤ length old)
-    blocks-done = ((b .run, b .holds), omega (arith, b .count, b .room, put-length text i old e (b .holds)))
+  module _ {out : List ℕ} {e k : ℕ} (b : Blocks stops text i old out e k) {f : ℕ} {part : List ℕ} where
+    -- a piece more, by a call that is lent the rest of the output
+    pub blocks-piece : Plain stops text e f → Put text e f (midOf k (length out - k) out) part → f - e ≤ length out - k → {n : ℕ} → n ≡ f - i
+        → Blocks stops text i old (putMid k (length out - k) out part) f n
+    blocks-piece p q room c =
+        let put = put-more text i old e (b .holds) (b .run .from) {f = f} (p .from) (p .to) (omega (arith, b .count, b .room)) q in
+        record {
+          run = plain-join stops text i e f (b .run) p;
+          count = c;
+          room = omega (arith, b .count, b .room, room, b .run .from, p .from, put-length text i old f put, put-length text i old e (b .holds));
+          holds = put;
+        }
 
-    module _ {f : ℕ} {part : List ℕ} where
-      -- a piece more, by a call that is lent the rest of the output
-      blocks-piece : Plain stops text e f → Put text e f (midOf k (length out - k) out) part → f - e ≤ length out - k
-          → Blocks stops text i old (putMid k (length out - k) out part) f (f - i)
-      blocks-piece p q room =
-          let put = put-more text i old e (b .holds) (b .run .from) {f = f} (p .from) (p .to) (omega (arith, b .count, b .room)) q in
-          record {
-            run = plain-join stops text i e f (b .run) p;
-            count = refl;
-            room = omega (arith, b .count, b .room, room, b .run .from, p .from, put-length text i old f put, put-length text i old e (b .holds));
-            holds = put;
-          }
+    -- and the rest of the run
+    pub blocks-rest : RunEnd stops text e f × Put text e f (midOf k (length out - k) out) part
+        → RunEnd stops text i f × Put text i f old (putMid k (length out - k) out part)
+    blocks-rest r = (
+      end-after stops text i (b .run) (r .0),
+      put-more text i old e (b .holds) (b .run .from) (r .0 .run .from) (r .0 .run .to) (omega (arith, b .count, b .room)) (r .1),
+    )
 
-      pub blocks-near : {n : ℕ} → n ≤ length out - k → Within stops text e n f × Put text e f (midOf k (length out - k) out) part
-          → Blocks stops text i old (putMid k (length out - k) out part) f (f - i)
-      blocks-near room w = blocks-piece (w .0 .run) (w .1) (omega (arith, room, w .0 .to))
+-- what the loop over blocks keeps: there is room for `room` bytes, of which `k` are copied, `k₀` before the loop
+pub record Blockwise (stops : ℕ → Bool) (text : List ℕ) (i room : ℕ) (begun : List ℕ) (k₀ : ℕ) (out : List ℕ) (k : ℕ) : Type 0 where
+  pub count : k ≤ room
+  pub within : room ≤ length out
+  pub inside : i + room ≤ length text
+  pub goes : (old : List ℕ) → Blocks stops text i old begun (i + k₀) k₀ → Blocks stops text i old out (i + k) k
 
-      pub blocks-nears : (Plain stops text e f × Put text e f (midOf k (length out - k) out) part) × (f - e ≤ length (midOf k (length out - k) out))
-          → Blocks stops text i old (putMid k (length out - k) out part) f (f - i)
-      blocks-nears w = blocks-piece (w .0 .0) (w .0 .1) (rw (rest-part k out, length-drop k out) at (w .1))
+module _ (stops : ℕ → Bool) (text : List ℕ) (i room : ℕ) (begun : List ℕ) (k₀ : ℕ) where
+  pub blockwise-start : k₀ ≤ room → room ≤ length begun → i + room ≤ length text → Blockwise stops text i room begun k₀ begun k₀
+  blockwise-start h w g = record { count = h; within = w; inside = g; goes = λ old s. s }
 
-      -- and the rest of the run
-      pub blocks-rest : RunEnd stops text e f × Put text e f (midOf k (length out - k) out) part
-          → RunEnd stops text i f × Put text i f old (putMid k (length out - k) out part)
-      blocks-rest r = (
-        end-after stops text i (b .run) (r .0),
-        put-more text i old e (b .holds) (b .run .from) (r .0 .run .from) (r .0 .run .to) (omega (arith, b .count, b .room)) (r .1),
-      )
-
-  -- what a call over blocks leaves behind
-  pub blocks-of : {out : List ℕ} {e : ℕ} → (Plain stops text i e × Put text i e old out) × (e - i ≤ length old) → Blocks stops text i old out e (e - i)
-  blocks-of {out} {e} r =
-      record { run = r .0 .0; count = refl; room = omega (arith, r .1, put-length text i old e (r .0 .1)); holds = r .0 .1 }
+  pub blockwise-more : {out : List ℕ} {k : ℕ} {part : List ℕ} → Blockwise stops text i room begun k₀ out k → 16 ≤ room - k
+      → Plain stops text (i + k) (i + k + 16) × Put text (i + k) (i + k + 16) (midOf k (length out - k) out) part
+      → {new : List ℕ} → new ≡ putMid k (length out - k) out part → Blockwise stops text i room begun k₀ new (k + 16)
+  blockwise-more {out} {k} {part} b h p {new} q =
+      let same : length new ≡ length out = ap length q ∙ same-len-mid k (length out - k) out part (put-length text (i + k) (midOf k (length out - k) out) (i + k + 16) (p .1)) in
+      let z : i + k + 16 ≡ i + (k + 16) = omega arith in
+      record {
+        count = omega (arith, b .count);
+        within = rw same (b .within);
+        inside = b .inside;
+        goes = λ old s.
+            rw (q, sym z)
+            (blocks-piece stops text i old (b .goes old s) (p .0) (p .1) (omega (arith, b .within, b .count)) (omega arith));
+      }

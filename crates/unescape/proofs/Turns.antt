@@ -103,6 +103,6 @@ module _ (bind : List ℕ → Bound) (text : List ℕ) where
   -- ---- a text without references
 
   -- is its own value
-  pub own-value : {e : ℕ} → RunEnd isAmp text 0 e → e ≡ length text → unescape bind text ≡ done text 0
+  pub own-value : Plain isAmp text 0 (length text) → unescape bind text ≡ done text 0
   unfolding unescape
-  own-value r q = run-whole textHead (replaced bind) text isAmp others-copied 0 (subst (Plain isAmp text 0) q (r .run))
+  own-value p = run-whole textHead (replaced bind) text isAmp others-copied 0 p

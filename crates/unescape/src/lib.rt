@@ -1,6 +1,6 @@
 // Unescaping: references become the characters and the texts that they stand for.
 ghost use mathlib.Core.Path.{_≡_};
-ghost use mathlib.Core.Bool.{false};
+ghost use mathlib.Core.Bool.{true, false};
 ghost use mathlib.Core.List.{List, [], _∷_};
 ghost use Prim.Native.Nat.{ℕ, _+_, _-_, _≤_, _<_};
 ghost use lib.ListN.{length, getD};
@@ -74,63 +74,46 @@ fn bytes_amp(text: &[u8], from: usize) -> usize
     i
 }
 
-// Passes eight bytes at a time, up to a `&` or to where fewer are left.
-fn nears_amp(text: &[u8], from: usize) -> usize
-    requires { ⌜ from ≤ length (now text) ⌝ }
-    ensures { λ r. ⌜ Plain isAmp (now (text .entry)) from r ⌝ }
+// Has the text no `&`? The bytes after its last whole block are tested in one that ends with the text.
+fn is_whole(text: &[u8]) -> bool
+    ensures { λ r. ⌜ (r ≡ true → Plain isAmp (now (text .entry)) 0 (length (now (text .entry)))) ⌝ }
 {
-    let mut i = from;
-    while 8 <= text.len() - i {
-        let near = near_amp(text, i, 8);
-        if near < i + 8 {
-            return near;
-        }
-        i = near;
+    let block = amp_blocks(text, amp_blocks(text, 0, 64), 16);
+    if 16 <= text.len() - block {
+        return false;
     }
-    i
+    if text.len() < 16 {
+        return bytes_amp(text, block) == text.len();
+    }
+    if any_amp(text, text.len() - 16, 16) {
+        return false;
+    }
+    true
 }
 
-// The next `&` from `from` on, or the text's end, by blocks.
-fn far_amp(text: &[u8], from: usize) -> usize
+// The next `&` from `from` on, or the text's end, by blocks. After a short run, of `last` bytes, it is often near, and is looked for
+// byte by byte first.
+fn amp_end(text: &[u8], from: usize, last: usize) -> usize
     requires { ⌜ from ≤ length (now text) ⌝ }
     ensures { λ r. ⌜ RunEnd isAmp (now (text .entry)) from r ⌝ }
 {
-    let block = amp_blocks(text, amp_blocks(text, from, 64), 16);
-    bytes_amp(text, nears_amp(text, block))
-}
-
-// The same. A `&` is often near, and a test of a block tells only that there is one.
-fn amp_end(text: &[u8], from: usize) -> usize
-    requires { ⌜ from ≤ length (now text) ⌝ }
-    ensures { λ r. ⌜ RunEnd isAmp (now (text .entry)) from r ⌝ }
-{
-    if text.len() - from < 12 {
-        return far_amp(text, from);
-    }
-    let near = near_amp(text, from, 12);
-    if near < from + 12 {
-        return near;
-    }
-    far_amp(text, near)
-}
-
-// Copies blocks of 16 bytes that have no `&`, while there is room.
-fn put_blocks(text: &[u8], from: usize, out: &mut [u8]) -> usize
-    requires { ⌜ from ≤ length (now text) ⌝ }
-    ensures { λ r. ⌜ Plain isAmp (now (text .entry)) from r × Put (now (text .entry)) from r (now (out .entry)) (now (out .exit)) ⌝ }
-    ensures { λ r. ⌜ r - from ≤ length (now (out .entry)) ⌝ }
-{
     let mut i = from;
-    let mut k: usize = 0;
-    while (16 <= text.len() - i) & (16 <= out.len() - k) {
-        if any_amp(text, i, 16) {
+    if (last < 16) & (12 <= text.len() - from) {
+        i = near_amp(text, from, 12);
+        if i < from + 12 {
             return i;
         }
-        output::put_block(&text[i..i + 16], &mut out[k..]);
-        i += 16;
-        k += 16;
     }
-    i
+    while 16 <= text.len() - i {
+        if any_amp(text, i, 16) {
+            let near = near_amp(text, i, 16);
+            if near < i + 16 {
+                return near;
+            }
+        }
+        i += 16;
+    }
+    bytes_amp(text, i)
 }
 
 // The next `&` among `size` bytes, else the place after them; the bytes before it are copied.
@@ -147,23 +130,6 @@ fn put_near(text: &[u8], from: usize, size: usize, out: &mut [u8]) -> usize
         out[k] = b;
     }
     from + size
-}
-
-// Copies eight bytes at a time, up to a `&` or to where fewer are left, of the text or of the output.
-fn put_nears(text: &[u8], from: usize, out: &mut [u8]) -> usize
-    requires { ⌜ from ≤ length (now text) ⌝ }
-    ensures { λ r. ⌜ Plain isAmp (now (text .entry)) from r × Put (now (text .entry)) from r (now (out .entry)) (now (out .exit)) ⌝ }
-    ensures { λ r. ⌜ r - from ≤ length (now (out .entry)) ⌝ }
-{
-    let mut i = from;
-    while (8 <= text.len() - i) & (8 <= out.len() - (i - from)) {
-        let near = put_near(text, i, 8, &mut out[i - from..]);
-        if near < i + 8 {
-            return near;
-        }
-        i = near;
-    }
-    i
 }
 
 // The next `&` from `from` on, or the text's end; the bytes before it are copied while it is searched, one by one.
@@ -183,29 +149,33 @@ fn put_bytes(text: &[u8], from: usize, out: &mut [u8]) -> usize
     i
 }
 
-// The same, by blocks.
-fn put_far(text: &[u8], from: usize, out: &mut [u8]) -> usize
+// The same, by blocks, and byte by byte first after a short run.
+fn put_to_amp(text: &[u8], from: usize, last: usize, out: &mut [u8]) -> usize
     requires { ⌜ from ≤ length (now text) ⌝ }
     ensures { λ r. ⌜ RunEnd isAmp (now (text .entry)) from r × Put (now (text .entry)) from r (now (out .entry)) (now (out .exit)) ⌝ }
 {
-    let block = put_blocks(text, from, out);
-    let near = put_nears(text, block, &mut out[block - from..]);
-    put_bytes(text, near, &mut out[near - from..])
-}
-
-// The same. A `&` is often near, or the text short.
-fn put_to_amp(text: &[u8], from: usize, out: &mut [u8]) -> usize
-    requires { ⌜ from ≤ length (now text) ⌝ }
-    ensures { λ r. ⌜ RunEnd isAmp (now (text .entry)) from r × Put (now (text .entry)) from r (now (out .entry)) (now (out .exit)) ⌝ }
-{
-    if (text.len() - from < 12) | (out.len() < 12) {
-        return put_bytes(text, from, out);
+    let room = output::least(text.len() - from, out.len());
+    let mut k: usize = 0;
+    if (last < 16) & (12 <= room) {
+        let near = put_near(text, from, 12, out);
+        if near < from + 12 {
+            return near;
+        }
+        k = 12;
     }
-    let near = put_near(text, from, 12, out);
-    if near < from + 12 {
-        return near;
+    while 16 <= room - k {
+        let i = from + k;
+        if any_amp(text, i, 16) {
+            let near = put_near(text, i, 16, &mut out[k..]);
+            if near < i + 16 {
+                return near;
+            }
+        } else {
+            output::put_block(&text[i..i + 16], &mut out[k..]);
+        }
+        k += 16;
     }
-    put_far(text, near, &mut out[12..])
+    put_bytes(text, from + k, &mut out[k..])
 }
 
 // What a bound name of `size` bytes stands for, its `&` at i: a text of the table is copied as a part of the pool.
@@ -301,14 +271,14 @@ fn unescape_step(text: &[u8], i: usize, list: &[u8], pool: &[u8], out: &mut [u8]
 }
 
 // The same. A walk that counts has no output, and only searches.
-fn run_to_amp(text: &[u8], from: usize, out: &mut [u8]) -> usize
+fn run_to_amp(text: &[u8], from: usize, last: usize, out: &mut [u8]) -> usize
     requires { ⌜ from ≤ length (now text) ⌝ }
     ensures { λ r. ⌜ RunEnd isAmp (now (text .entry)) from r × Put (now (text .entry)) from r (now (out .entry)) (now (out .exit)) ⌝ }
 {
     if out.len() == 0 {
-        return amp_end(text, from);
+        return amp_end(text, from, last);
     }
-    put_to_amp(text, from, out)
+    put_to_amp(text, from, last, out)
 }
 
 // The reference whose `&` is at i, after a value of `len` bytes: one that was met before, or a new one, which is then kept.
@@ -359,10 +329,12 @@ fn unescape_runs(text: &[u8], list: &[u8], pool: &[u8], out: &mut [u8]) -> Answe
     let mut seen = [0u64; 21];
     let mut i: usize = 0;
     let mut len: usize = 0;
+    let mut last: usize = 0;
     loop {
         let at = output::least(len, out.len());
-        let e = run_to_amp(text, i, &mut out[at..]);
-        len += e - i;
+        let e = run_to_amp(text, i, last, &mut out[at..]);
+        last = e - i;
+        len += last;
         if e == text.len() {
             return Answer::Done {
                 first: len as u64,
@@ -423,7 +395,7 @@ pub fn unescape_with(text: &[u8], list: &[u8], pool: &[u8], out: &mut [u8]) -> A
     requires { ⌜ ValidTable (now list) (now pool) ⌝ }
     ensures { λ r. ⌜ callOf r (now (out .exit) ∷ []) ≡ finished (unescape (binding (now (list .entry)) (now (pool .entry))) (now (text .entry))) (now (out .entry)) ⌝ }
 {
-    if far_amp(text, 0) == text.len() {
+    if is_whole(text) {
         return tokens::copied_whole(text, 19, out);
     }
     if 128 < text.len() {

@@ -1,42 +1,97 @@
+use mathlib.Core.Path.{sym, subst}
+use Rattle.unescape.proofs.Puts.{near-fits, within-all}
+use mathlib.Core.Logic.{⊎-elim}
+use native.Mathlib.Omega.{arith}
+use Prim.Native.Nat.{_+_, _-_, ℕ}
+use lib.ListN.{length}
+use Rattle.output.specs.Runs.{Plain}
+use Rattle.output.proofs.Runs.{plain-none, plain-join}
 use Rattle.unescape.specs.Steps.{isAmp}
-use Rattle.tokens.proofs.Search.{end-near, end-far}
+use Rattle.tokens.proofs.Search.{end-near, end-after}
 use borrow.Author.Needs.{needs}
 use Rattle.unescape.proofs.amp_end.Statement.{statement}
 use Rattle.unescape.proofs.amp_end.Tie as tie
 
-sub-if1 : tie.Need-sub-if1
+abbrev Inv-loop : tie.InvT-loop
+Inv-loop text from last i₀ i = Plain isAmp text from i
+
+abbrev μ-loop : tie.MeasureT-loop
+μ-loop text from last i₀ i = length text - i
+
+sub-if1 : tie.Need-sub-if1 Inv-loop μ-loop
 sub-if1 c = search needs
 
-far-amp-requires : tie.Need-far-amp-requires
-far-amp-requires c κs = search needs
+near-amp-requires : tie.Need-near-amp-requires Inv-loop μ-loop
+near-amp-requires c κs = omega (arith, near-fits (c .before .before .args .last) 12 (length (c .before .before .args .text .now) - c .before .before .args .from) (c .if1 .taken))
 
-returns : tie.Need-returns
-returns c = search needs
+add-if2 : tie.Need-add-if2 Inv-loop μ-loop
+add-if2 c = omega (arith, near-fits (c .before .before .before .args .last) 12 (length (c .before .before .before .args .text .now) - c .before .before .before .args .from) (c .before .if1 .taken))
 
-near-amp-requires : tie.Need-near-amp-requires
-near-amp-requires c κs = search needs
+returns : tie.Need-returns Inv-loop μ-loop
+returns c = end-near isAmp (c .before .before .before .before .args .text .now) (c .before .before .before .before .args .from) (c .before .near-amp .ensures) (c .if2 .taken)
 
-add-if2 : tie.Need-add-if2
-add-if2 c = search needs
+loop-holds : tie.Need-loop-holds Inv-loop μ-loop
+loop-holds c =
+    let text = c .before .before .args .text .now in
+    let from = c .before .before .args .from in
+    ⊎-elim
+    {C = Plain isAmp text from (c .if1 .i)}
+    (λ w. subst (λ (e : ℕ). Plain isAmp text from e) (sym (w .3)) (w .1 .ensures .run))
+    (λ w. subst (λ (e : ℕ). Plain isAmp text from e) (sym (w .1)) (plain-none isAmp text from (c .before .before .pre)))
+    (c .if1 .came)
 
-returns-2 : tie.Need-returns-2
-returns-2 c = end-near isAmp (c .before .before .before .before .args .text .now) (c .before .before .before .before .args .from) (c .before .near-amp .ensures) (c .if2 .taken)
+sub-loop : tie.Need-sub-loop Inv-loop μ-loop
+sub-loop c = c .loop .inv .to
 
-far-amp-requires-2 : tie.Need-far-amp-requires-2
-far-amp-requires-2 c κs = search needs
+any-amp-requires : tie.Need-any-amp-requires Inv-loop μ-loop
+any-amp-requires c κs = omega (arith, c .before .loop .inv .to, c .loop-test .taken)
 
-returns-3 : tie.Need-returns-3
-returns-3 c = end-far isAmp (c .before .before .before .before .before .args .text .now) (c .before .before .before .before .before .args .from) (c .before .before .near-amp .ensures) (c .far-amp2 .ensures)
+near-amp-requires-2 : tie.Need-near-amp-requires-2 Inv-loop μ-loop
+near-amp-requires-2 c κs = omega (arith, c .before .before .before .loop .inv .to, c .before .before .loop-test .taken)
+
+add-if4 : tie.Need-add-if4 Inv-loop μ-loop
+add-if4 c = omega (arith, c .before .before .before .before .before .loop .inv .to, c .before .before .before .before .loop-test .taken)
+
+returns-2 : tie.Need-returns-2 Inv-loop μ-loop
+returns-2 c = end-after isAmp (c .before .before .before .before .before .before .before .before .before .args .text .now) (c .before .before .before .before .before .before .before .before .before .args .from) (c .before .before .before .before .before .before .loop .inv) (end-near isAmp (c .before .before .before .before .before .before .before .before .before .args .text .now) (c .before .before .before .before .before .before .loop .i) (c .before .before .near-amp2 .ensures) (c .if4 .taken))
+
+add-i : tie.Need-add-i Inv-loop μ-loop
+add-i c = omega (arith, c .before .before .before .before .loop .inv .to, c .before .before .before .loop-test .taken)
+
+loop-less : tie.Need-loop-less Inv-loop μ-loop
+loop-less c = omega (arith, c .before .before .before .before .loop .inv .to, c .before .before .before .loop-test .taken)
+
+loop-again : tie.Need-loop-again Inv-loop μ-loop
+loop-again c =
+    let text = c .before .before .before .before .before .before .before .args .text .now in
+    let i = c .before .before .before .before .loop .i in
+    plain-join isAmp text (c .before .before .before .before .before .before .before .args .from) i (i + 16) (c .before .before .before .before .loop .inv)
+    (⊎-elim {C = Plain isAmp text i (i + 16)} (λ w. within-all isAmp text i 16 (w .1 .ensures) (w .3 .left)) (λ w. c .before .before .any-amp .ensures (w .left)) (c .before .if3 .came))
+
+bytes-amp-requires : tie.Need-bytes-amp-requires Inv-loop μ-loop
+bytes-amp-requires c κs = c .before .loop .inv .to
+
+returns-3 : tie.Need-returns-3 Inv-loop μ-loop
+returns-3 c = end-after isAmp (c .before .before .before .before .before .args .text .now) (c .before .before .before .before .before .args .from) (c .before .before .loop .inv) (c .bytes-amp .ensures)
 
 pub amp-end-spec : {M : Type 1} → statement M
 amp-end-spec =
     tie.close
     (tie.spec
+    Inv-loop
+    μ-loop
     sub-if1
-    far-amp-requires
-    returns
     near-amp-requires
     add-if2
+    returns
+    loop-holds
+    sub-loop
+    any-amp-requires
+    near-amp-requires-2
+    add-if4
     returns-2
-    far-amp-requires-2
+    add-i
+    loop-less
+    loop-again
+    bytes-amp-requires
     returns-3)

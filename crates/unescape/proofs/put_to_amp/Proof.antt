@@ -1,72 +1,220 @@
-use Prim.Native.Nat.{_-_}
 use native.Mathlib.Omega.{arith}
+use mathlib.Core.Path.{_≡_, ap, _∙_}
+use mathlib.Core.Logic.{⊎-elim}
+use Prim.Native.Nat.{_+_, _-_, _≤_}
 use lib.ListN.{length}
-use Rattle.unescape.specs.Steps.{isAmp}
-use Rattle.tokens.proofs.Search.{end-near}
-use Rattle.unescape.proofs.Puts.{each-fits, nearby-far, put-length}
 use borrow.Author.Needs.{needs}
+use borrow.Rule.Slice.PartMut.{midOf}
+use Rattle.tokens.proofs.Search.{end-near}
+use Rattle.unescape.specs.Steps.{isAmp}
+use Rattle.unescape.proofs.Puts.{Blocks, Blockwise, blocks-none, blocks-near, blocks-rest, blockwise-start, blockwise-more, piece-near, piece-laid, block-fits, near-fits, put-length}
 use Rattle.unescape.proofs.put_to_amp.Statement.{statement}
 use Rattle.unescape.proofs.put_to_amp.Tie as tie
 
-sub-if1 : tie.Need-sub-if1
-sub-if1 c = search needs
+abbrev Inv-loop : tie.InvT-loop
+Inv-loop text from last out₀ room k₀ out k = Blockwise isAmp text from room out₀ k₀ out k
 
-put-bytes-requires : tie.Need-put-bytes-requires
-put-bytes-requires c κs = search needs
+abbrev μ-loop : tie.MeasureT-loop
+μ-loop text from last out₀ room k₀ out k = room - k
 
-same-length : tie.Need-same-length
+begun : (c : tie.Joined1 Inv-loop μ-loop) → Blocks isAmp (c .before .before .before .before .args .text .now) (c .before .before .before .before .args .from) (c .before .before .before .before .args .out .now) (c .if1 .out) (c .before .before .before .before .args .from + c .if1 .k) (c .if1 .k)
+begun c =
+    let text = c .before .before .before .before .args .text .now in
+    let from = c .before .before .before .before .args .from in
+    let old = c .before .before .before .before .args .out .now in
+    ⊎-elim
+    {C = Blocks isAmp text from old (c .if1 .out) (from + c .if1 .k) (c .if1 .k)}
+    (λ w. blocks-near isAmp text from old 12 (omega (arith, near-fits (c .before .before .before .before .args .last) 12 (c .before .least .result) (w .0 .taken), c .before .least .ensures)) (w .6) (w .7) (w .2 .ensures) (w .5 .left))
+    (λ w. blocks-none isAmp text from old (c .before .before .before .before .pre) (w .1) (w .2))
+    (c .if1 .came)
+
+sub-least : tie.Need-sub-least Inv-loop μ-loop
+sub-least c = search needs
+
+least-requires : tie.Need-least-requires Inv-loop μ-loop
+least-requires c κs = tt
+
+put-near-requires : tie.Need-put-near-requires Inv-loop μ-loop
+put-near-requires c κs =
+    let n = near-fits (c .before .before .before .before .before .args .last) 12 (c .before .before .least .result) (c .before .if1 .taken) in
+    (omega (arith, n, c .before .before .least .ensures), omega (arith, n, c .before .before .least .ensures))
+
+add-if2 : tie.Need-add-if2 Inv-loop μ-loop
+add-if2 c = omega (arith, near-fits (c .before .before .before .before .before .before .before .before .args .last) 12 (c .before .before .before .before .before .least .result) (c .before .before .before .before .if1 .taken), c .before .before .before .before .before .least .ensures)
+
+same-length : tie.Need-same-length Inv-loop μ-loop
 same-length c = search needs
 
-returns : tie.Need-returns
-returns c = search needs
+returns : tie.Need-returns Inv-loop μ-loop
+returns c = (end-near isAmp (c .before .before .before .before .before .before .before .before .before .args .text .now) (c .before .before .before .before .before .before .before .before .before .args .from) (c .before .before .before .put-near .ensures .0) (c .if2 .taken), c .before .before .before .put-near .ensures .1)
 
-put-near-requires : tie.Need-put-near-requires
-put-near-requires c κs =
-    let b = each-fits 12 (length (c .before .before .before .before .args .text .now) - c .before .before .before .before .args .from) (length (c .before .before .before .before .args .out .now)) (c .before .if1 .left) in
-    (omega (arith, b .0), b .1)
+loop-holds : tie.Need-loop-holds Inv-loop μ-loop
+loop-holds c =
+    let text = c .before .before .before .before .args .text .now in
+    let from = c .before .before .before .before .args .from in
+    let old = c .before .before .before .before .args .out .now in
+    let room = c .before .least .result in
+    let held : (c .if1 .k ≤ room) × (length (c .if1 .out) ≡ length old) =
+    ⊎-elim
+    {C = (c .if1 .k ≤ room) × (length (c .if1 .out) ≡ length old)}
+    (λ w. (omega (arith, w .7, near-fits (c .before .before .before .before .args .last) 12 room (w .0 .taken)), ap length (w .6) ∙ put-length text from old (w .2 .result) (w .2 .ensures .1)))
+    (λ w. (omega (arith, w .2), ap length (w .1)))
+    (c .if1 .came) in
+    blockwise-start isAmp text from room (c .if1 .out) (c .if1 .k) (held .0) (omega (arith, held .1, c .before .least .ensures)) (omega (arith, c .before .least .ensures, c .before .before .before .before .pre))
 
-add-if2 : tie.Need-add-if2
-add-if2 c = search needs
+sub-loop : tie.Need-sub-loop Inv-loop μ-loop
+sub-loop c = c .loop .inv .count
 
-same-length-2 : tie.Need-same-length-2
-same-length-2 c = search needs
+add-i : tie.Need-add-i Inv-loop μ-loop
+add-i c = omega (arith, c .before .before .loop .inv .count, c .before .before .loop .inv .inside)
 
-returns-2 : tie.Need-returns-2
-returns-2 c = (end-near isAmp (c .before .before .before .before .before .before .before .before .args .text .now) (c .before .before .before .before .before .before .before .before .args .from) (c .before .before .before .put-near .ensures .0) (c .if2 .taken), c .before .before .before .put-near .ensures .1)
+any-amp-requires : tie.Need-any-amp-requires Inv-loop μ-loop
+any-amp-requires c κs = omega (arith, c .before .before .loop .inv .count, c .before .before .loop .inv .inside, c .before .loop-test .taken)
 
-sub-put-far : tie.Need-sub-put-far
-sub-put-far c = omega (arith, put-length (c .before .before .before .before .before .before .before .before .args .text .now) (c .before .before .before .before .before .before .before .before .args .from) (c .before .before .before .before .before .before .before .before .args .out .now) (c .before .before .before .put-near .result) (c .before .before .before .put-near .ensures .1), each-fits 12 (length (c .before .before .before .before .before .before .before .before .args .text .now) - c .before .before .before .before .before .before .before .before .args .from) (length (c .before .before .before .before .before .before .before .before .args .out .now)) (c .before .before .before .before .before .if1 .left) .1)
+sub-put-near : tie.Need-sub-put-near Inv-loop μ-loop
+sub-put-near c = omega (arith, c .before .before .before .before .loop .inv .count, c .before .before .before .before .loop .inv .within)
 
-part-put-far-start : tie.Need-part-put-far-start
-part-put-far-start c = omega (arith, put-length (c .before .before .before .before .before .before .before .before .args .text .now) (c .before .before .before .before .before .before .before .before .args .from) (c .before .before .before .before .before .before .before .before .args .out .now) (c .before .before .before .put-near .result) (c .before .before .before .put-near .ensures .1), each-fits 12 (length (c .before .before .before .before .before .before .before .before .args .text .now) - c .before .before .before .before .before .before .before .before .args .from) (length (c .before .before .before .before .before .before .before .before .args .out .now)) (c .before .before .before .before .before .if1 .left) .1)
+part-put-near-start : tie.Need-part-put-near-start Inv-loop μ-loop
+part-put-near-start c = omega (arith, c .before .before .before .before .loop .inv .count, c .before .before .before .before .loop .inv .within)
 
-part-put-far-end : tie.Need-part-put-far-end
-part-put-far-end c = search needs
+part-put-near-end : tie.Need-part-put-near-end Inv-loop μ-loop
+part-put-near-end c = search needs
 
-put-far-requires : tie.Need-put-far-requires
-put-far-requires c κs = search needs
+put-near-requires-2 : tie.Need-put-near-requires-2 Inv-loop μ-loop
+put-near-requires-2 c κs =
+    let i = c .before .before .before .before .before .before .before .before .before .before .args .from + c .before .before .before .before .before .loop .k in
+    let more : i + 16 ≤ length (c .before .before .before .before .before .before .before .before .before .before .args .text .now) = omega (arith, c .before .before .before .before .before .loop .inv .count, c .before .before .before .before .before .loop .inv .inside, c .before .before .before .before .loop-test .taken) in
+    (more, block-fits (c .before .before .before .before .before .before .before .before .before .before .args .text .now) i (c .before .before .before .before .before .loop .out) (c .before .before .before .before .before .loop .k) more (omega (arith, c .before .before .before .before .before .loop .inv .count, c .before .before .before .before .before .loop .inv .within, c .before .before .before .before .loop-test .taken)) .1)
 
-same-length-3 : tie.Need-same-length-3
-same-length-3 c = search needs
+add-if4 : tie.Need-add-if4 Inv-loop μ-loop
+add-if4 c = omega (arith, c .before .before .before .before .before .before .before .before .loop .inv .count, c .before .before .before .before .before .before .before .before .loop .inv .inside, c .before .before .before .before .before .before .before .loop-test .taken)
 
-returns-3 : tie.Need-returns-3
-returns-3 c = nearby-far isAmp (c .before .before .before .before .before .before .before .before .before .before .before .before .args .text .now) (c .before .before .before .before .before .before .before .before .before .before .before .before .args .from) 12 (c .before .before .before .before .before .before .before .before .before .before .before .before .args .out .now) (c .before .before .before .before .before .before .before .put-near .ensures) (c .before .before .before .before .if2 .left) (each-fits 12 (length (c .before .before .before .before .before .before .before .before .before .before .before .before .args .text .now) - c .before .before .before .before .before .before .before .before .before .before .before .before .args .from) (length (c .before .before .before .before .before .before .before .before .before .before .before .before .args .out .now)) (c .before .before .before .before .before .before .before .before .before .if1 .left) .1) (c .before .before .put-far .ensures)
+same-length-2 : tie.Need-same-length-2 Inv-loop μ-loop
+same-length-2 c =
+    let text = c .before .before .before .before .before .before .before .before .before .before .before .before .before .before .args .text .now in
+    let from = c .before .before .before .before .before .before .before .before .before .before .before .before .before .before .args .from in
+    let old = c .before .before .before .before .before .before .before .before .before .before .before .before .before .before .args .out .now in
+    put-length text from old (c .before .before .before .put-near2 .result) (blocks-rest isAmp text from old (c .before .before .before .before .before .before .before .before .before .loop .inv .goes old (begun (c .before .before .before .before .before .before .before .before .before .before))) (end-near isAmp text (from + c .before .before .before .before .before .before .before .before .before .loop .k) (c .before .before .before .put-near2 .ensures .0) (c .if4 .taken), c .before .before .before .put-near2 .ensures .1) .1)
+
+returns-2 : tie.Need-returns-2 Inv-loop μ-loop
+returns-2 c =
+    let text = c .before .before .before .before .before .before .before .before .before .before .before .before .before .before .args .text .now in
+    let from = c .before .before .before .before .before .before .before .before .before .before .before .before .before .before .args .from in
+    let old = c .before .before .before .before .before .before .before .before .before .before .before .before .before .before .args .out .now in
+    blocks-rest isAmp text from old (c .before .before .before .before .before .before .before .before .before .loop .inv .goes old (begun (c .before .before .before .before .before .before .before .before .before .before))) (end-near isAmp text (from + c .before .before .before .before .before .before .before .before .before .loop .k) (c .before .before .before .put-near2 .ensures .0) (c .if4 .taken), c .before .before .before .put-near2 .ensures .1)
+
+add-put-block : tie.Need-add-put-block Inv-loop μ-loop
+add-put-block c = omega (arith, c .before .before .before .before .loop .inv .count, c .before .before .before .before .loop .inv .inside, c .before .before .before .loop-test .taken)
+
+sub-put-block : tie.Need-sub-put-block Inv-loop μ-loop
+sub-put-block c = search needs
+
+part-put-block-start : tie.Need-part-put-block-start Inv-loop μ-loop
+part-put-block-start c = search needs
+
+part-put-block-end : tie.Need-part-put-block-end Inv-loop μ-loop
+part-put-block-end c = omega (arith, c .before .before .before .before .loop .inv .count, c .before .before .before .before .loop .inv .inside, c .before .before .before .loop-test .taken)
+
+sub-put-block-2 : tie.Need-sub-put-block-2 Inv-loop μ-loop
+sub-put-block-2 c = omega (arith, c .before .before .before .before .before .loop .inv .count, c .before .before .before .before .before .loop .inv .within)
+
+part-put-block-start-2 : tie.Need-part-put-block-start-2 Inv-loop μ-loop
+part-put-block-start-2 c = omega (arith, c .before .before .before .before .before .loop .inv .count, c .before .before .before .before .before .loop .inv .within)
+
+part-put-block-end-2 : tie.Need-part-put-block-end-2 Inv-loop μ-loop
+part-put-block-end-2 c = search needs
+
+put-block-requires : tie.Need-put-block-requires Inv-loop μ-loop
+put-block-requires c κs = block-fits (c .before .before .before .before .before .before .before .before .before .before .before .args .text .now) (c .before .before .before .before .before .before .before .before .before .before .before .args .from + c .before .before .before .before .before .before .loop .k) (c .before .before .before .before .before .before .loop .out) (c .before .before .before .before .before .before .loop .k) (omega (arith, c .before .before .before .before .before .before .loop .inv .count, c .before .before .before .before .before .before .loop .inv .inside, c .before .before .before .before .before .loop-test .taken)) (omega (arith, c .before .before .before .before .before .before .loop .inv .count, c .before .before .before .before .before .before .loop .inv .within, c .before .before .before .before .before .loop-test .taken))
+
+add-k : tie.Need-add-k Inv-loop μ-loop
+add-k c = omega (arith, c .before .before .before .before .loop .inv .count, c .before .before .before .before .loop .inv .inside, c .before .before .before .loop-test .taken)
+
+loop-less : tie.Need-loop-less Inv-loop μ-loop
+loop-less c = omega (arith, c .before .before .before .before .loop .inv .count, c .before .before .before .loop-test .taken)
+
+loop-again : tie.Need-loop-again Inv-loop μ-loop
+loop-again c =
+    let text = c .before .before .before .before .before .before .before .before .before .args .text .now in
+    let from = c .before .before .before .before .before .before .before .before .before .args .from in
+    let out = c .before .before .before .before .loop .out in
+    let k = c .before .before .before .before .loop .k in
+    let more : from + k + 16 ≤ length text = omega (arith, c .before .before .before .before .loop .inv .count, c .before .before .before .before .loop .inv .inside, c .before .before .before .loop-test .taken) in
+    let mid = midOf k (length out - k) out in
+    let space = block-fits text (from + k) out k more (omega (arith, c .before .before .before .before .loop .inv .count, c .before .before .before .before .loop .inv .within, c .before .before .before .loop-test .taken)) .1 in
+    ⊎-elim
+    {C = Blockwise isAmp text from (c .before .before .before .before .before .before .least .result) (c .before .before .before .before .before .if1 .out) (c .before .before .before .before .before .if1 .k) (c .if3 .out) (k + 16)}
+    (λ w. blockwise-more isAmp text from (c .before .before .before .before .before .before .least .result) (c .before .before .before .before .before .if1 .out) (c .before .before .before .before .before .if1 .k) (c .before .before .before .before .loop .inv) (c .before .before .before .loop-test .taken) (piece-near isAmp text (from + k) 16 mid (w .2 .ensures) (w .5 .left)) (w .6))
+    (λ w. blockwise-more isAmp text from (c .before .before .before .before .before .before .least .result) (c .before .before .before .before .before .if1 .out) (c .before .before .before .before .before .if1 .k) (c .before .before .before .before .loop .inv) (c .before .before .before .loop-test .taken) (c .before .any-amp .ensures (w .0 .left), piece-laid text (from + k) 16 mid more space (w .3 .ensures)) (w .6))
+    (c .if3 .came)
+
+add-put-bytes : tie.Need-add-put-bytes Inv-loop μ-loop
+add-put-bytes c = omega (arith, c .before .before .loop .inv .count, c .before .before .loop .inv .inside)
+
+sub-put-bytes : tie.Need-sub-put-bytes Inv-loop μ-loop
+sub-put-bytes c = omega (arith, c .before .before .loop .inv .count, c .before .before .loop .inv .within)
+
+part-put-bytes-start : tie.Need-part-put-bytes-start Inv-loop μ-loop
+part-put-bytes-start c = omega (arith, c .before .before .loop .inv .count, c .before .before .loop .inv .within)
+
+part-put-bytes-end : tie.Need-part-put-bytes-end Inv-loop μ-loop
+part-put-bytes-end c = search needs
+
+put-bytes-requires : tie.Need-put-bytes-requires Inv-loop μ-loop
+put-bytes-requires c κs = omega (arith, c .before .before .before .loop .inv .count, c .before .before .before .loop .inv .inside)
+
+same-length-3 : tie.Need-same-length-3 Inv-loop μ-loop
+same-length-3 c =
+    let text = c .before .before .before .before .before .before .before .before .before .before .before .args .text .now in
+    let from = c .before .before .before .before .before .before .before .before .before .before .before .args .from in
+    let old = c .before .before .before .before .before .before .before .before .before .before .before .args .out .now in
+    put-length text from old (c .before .before .put-bytes .result) (blocks-rest isAmp text from old (c .before .before .before .before .before .before .loop .inv .goes old (begun (c .before .before .before .before .before .before .before))) (c .before .before .put-bytes .ensures) .1)
+
+returns-3 : tie.Need-returns-3 Inv-loop μ-loop
+returns-3 c =
+    let text = c .before .before .before .before .before .before .before .before .before .before .before .args .text .now in
+    let from = c .before .before .before .before .before .before .before .before .before .before .before .args .from in
+    let old = c .before .before .before .before .before .before .before .before .before .before .before .args .out .now in
+    blocks-rest isAmp text from old (c .before .before .before .before .before .before .loop .inv .goes old (begun (c .before .before .before .before .before .before .before))) (c .before .before .put-bytes .ensures)
 
 pub put-to-amp-spec : {M : Type 1} → statement M
 put-to-amp-spec =
     tie.close
     (tie.spec
-    sub-if1
-    put-bytes-requires
-    same-length
-    returns
+    Inv-loop
+    μ-loop
+    sub-least
+    least-requires
     put-near-requires
     add-if2
+    same-length
+    returns
+    loop-holds
+    sub-loop
+    add-i
+    any-amp-requires
+    sub-put-near
+    part-put-near-start
+    part-put-near-end
+    put-near-requires-2
+    add-if4
     same-length-2
     returns-2
-    sub-put-far
-    part-put-far-start
-    part-put-far-end
-    put-far-requires
+    add-put-block
+    sub-put-block
+    part-put-block-start
+    part-put-block-end
+    sub-put-block-2
+    part-put-block-start-2
+    part-put-block-end-2
+    put-block-requires
+    add-k
+    loop-less
+    loop-again
+    add-put-bytes
+    sub-put-bytes
+    part-put-bytes-start
+    part-put-bytes-end
+    put-bytes-requires
     same-length-3
     returns-3)

@@ -9,10 +9,10 @@ use Rattle.unescape.proofs.unescape_runs.Statement.{statement}
 use Rattle.unescape.proofs.unescape_runs.Tie as tie
 
 abbrev Inv-loop : tie.InvT-loop
-Inv-loop text list pool out₀ seen₀ i₀ len₀ out seen i len = Ran (binding list pool) text out₀ out seen i len
+Inv-loop text list pool out₀ seen₀ i₀ len₀ last₀ out seen i len last = Ran (binding list pool) text out₀ out seen i len
 
 abbrev μ-loop : tie.MeasureT-loop
-μ-loop text list pool out₀ seen₀ i₀ len₀ out seen i len = length text - i
+μ-loop text list pool out₀ seen₀ i₀ len₀ last₀ out seen i len last = length text - i
 
 loop-holds : tie.Need-loop-holds Inv-loop μ-loop
 loop-holds c = ran-start (binding (c .before .before .before .before .args .list .now) (c .before .before .before .before .args .pool .now)) (c .before .before .before .before .args .text .now) (c .before .before .before .before .args .out .now) (λ k. omega (arith, c .before .before .before .shared-slice-known .given k))
@@ -32,8 +32,8 @@ part-run-to-amp-end c = search needs
 run-to-amp-requires : tie.Need-run-to-amp-requires Inv-loop μ-loop
 run-to-amp-requires c κs = ran-inside (binding (c .before .before .before .before .before .before .before .args .list .now) (c .before .before .before .before .before .before .before .args .pool .now)) (c .before .before .before .before .before .before .before .args .text .now) (c .before .before .before .before .before .before .before .args .out .now) (c .before .before .loop .inv)
 
-sub-len : tie.Need-sub-len Inv-loop μ-loop
-sub-len c = c .before .before .run-to-amp .ensures .0 .run .from
+sub-last : tie.Need-sub-last Inv-loop μ-loop
+sub-last c = c .before .before .run-to-amp .ensures .0 .run .from
 
 add-len : tie.Need-add-len Inv-loop μ-loop
 add-len c =
@@ -109,7 +109,7 @@ unescape-runs-spec =
     part-run-to-amp-start
     part-run-to-amp-end
     run-to-amp-requires
-    sub-len
+    sub-last
     add-len
     same-length
     returns

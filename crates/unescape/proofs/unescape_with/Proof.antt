@@ -13,8 +13,8 @@ use borrow.Author.Needs.{needs}
 use Rattle.unescape.proofs.unescape_with.Statement.{statement}
 use Rattle.unescape.proofs.unescape_with.Tie as tie
 
-far-amp-requires : tie.Need-far-amp-requires
-far-amp-requires c κs = search needs
+is-whole-requires : tie.Need-is-whole-requires
+is-whole-requires c κs = search needs
 
 copied-whole-requires : tie.Need-copied-whole-requires
 copied-whole-requires c κs = search needs
@@ -23,7 +23,7 @@ same-length : tie.Need-same-length
 same-length c = search needs
 
 returns : tie.Need-returns
-returns c = ended-call (done (c .before .before .before .before .before .before .before .before .before .before .args .text .now) 0) (c .before .before .before .before .before .before .before .before .before .before .args .out .now) (c .before .before .copied-whole .ensures) ∙ ap (λ (o : Outcome). finished o (c .before .before .before .before .before .before .before .before .before .before .args .out .now)) (sym (own-value (binding (c .before .before .before .before .before .before .before .before .before .before .args .list .now) (c .before .before .before .before .before .before .before .before .before .before .args .pool .now)) (c .before .before .before .before .before .before .before .before .before .before .args .text .now) (c .before .before .before .before .before .far-amp .ensures) (c .before .before .before .before .if1 .taken)))
+returns c = ended-call (done (c .before .before .before .before .before .before .before .before .before .before .args .text .now) 0) (c .before .before .before .before .before .before .before .before .before .before .args .out .now) (c .before .before .copied-whole .ensures) ∙ ap (λ (o : Outcome). finished o (c .before .before .before .before .before .before .before .before .before .before .args .out .now)) (sym (own-value (binding (c .before .before .before .before .before .before .before .before .before .before .args .list .now) (c .before .before .before .before .before .before .before .before .before .before .args .pool .now)) (c .before .before .before .before .before .before .before .before .before .before .args .text .now) (c .before .before .before .before .before .is-whole .ensures (c .before .before .before .before .if1 .taken))))
 
 unescape-long-requires : tie.Need-unescape-long-requires
 unescape-long-requires c κs = search needs
@@ -89,7 +89,7 @@ pub unescape-with-spec : {M : Type 1} → statement M
 unescape-with-spec =
     tie.close
     (tie.spec
-    far-amp-requires
+    is-whole-requires
     copied-whole-requires
     same-length
     returns

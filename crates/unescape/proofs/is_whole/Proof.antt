@@ -1,0 +1,66 @@
+use native.Mathlib.Omega.{arith}
+use mathlib.Core.Path.{sym, subst}
+use mathlib.Core.Bool.{true≢false}
+use Prim.Native.Nat.{ℕ, _-_}
+use lib.ListN.{length}
+use borrow.Author.Tests.{eqb-true}
+use Rattle.output.specs.Runs.{Plain}
+use Rattle.output.proofs.Runs.{plain-join}
+use Rattle.unescape.specs.Steps.{isAmp}
+use borrow.Author.Needs.{needs}
+use Rattle.unescape.proofs.is_whole.Statement.{statement}
+use Rattle.unescape.proofs.is_whole.Tie as tie
+
+amp-blocks-requires : tie.Need-amp-blocks-requires
+amp-blocks-requires c κs = search needs
+
+amp-blocks-requires-2 : tie.Need-amp-blocks-requires-2
+amp-blocks-requires-2 c κs = search needs
+
+sub-if1 : tie.Need-sub-if1
+sub-if1 c = search needs
+
+returns : tie.Need-returns
+returns c = λ e. absurd (true≢false (sym e))
+
+bytes-amp-requires : tie.Need-bytes-amp-requires
+bytes-amp-requires c κs = search needs
+
+returns-2 : tie.Need-returns-2
+returns-2 c = λ q.
+    let text = c .before .before .before .before .before .before .args .text .now in
+    let block = c .before .before .before .amp-blocks2 .result in
+    let before = plain-join isAmp text 0 (c .before .before .before .before .amp-blocks .result) block (c .before .before .before .before .amp-blocks .ensures) (c .before .before .before .amp-blocks2 .ensures) in
+    subst (λ (e : ℕ). Plain isAmp text 0 e) (eqb-true (c .bytes-amp .result) (length text) q) (plain-join isAmp text 0 block (c .bytes-amp .result) before (c .bytes-amp .ensures .run))
+
+sub-any-amp : tie.Need-sub-any-amp
+sub-any-amp c = search needs
+
+any-amp-requires : tie.Need-any-amp-requires
+any-amp-requires c κs = search needs
+
+returns-3 : tie.Need-returns-3
+returns-3 c = λ e. absurd (true≢false (sym e))
+
+returns-4 : tie.Need-returns-4
+returns-4 c = λ e.
+    let text = c .before .before .before .before .before .before .before .args .text .now in
+    let block = c .before .before .before .before .amp-blocks2 .result in
+    let before = plain-join isAmp text 0 (c .before .before .before .before .before .amp-blocks .result) block (c .before .before .before .before .before .amp-blocks .ensures) (c .before .before .before .before .amp-blocks2 .ensures) in
+    let last = c .before .any-amp .ensures (c .if3 .left) in
+    plain-join isAmp text 0 block (length text) before (record { from = before .to; to = omega arith; none = λ k g l. last .none k (omega (arith, c .before .before .before .if1 .left)) (omega (arith, c .before .before .if2 .left)) })
+
+pub is-whole-spec : {M : Type 1} → statement M
+is-whole-spec =
+    tie.close
+    (tie.spec
+    amp-blocks-requires
+    amp-blocks-requires-2
+    sub-if1
+    returns
+    bytes-amp-requires
+    returns-2
+    sub-any-amp
+    any-amp-requires
+    returns-3
+    returns-4)
