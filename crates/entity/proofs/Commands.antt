@@ -1,19 +1,20 @@
 -- The check of a table and its declarations, one command after the other. Assumes nothing.
 use mathlib.Core.Path.{_≡_, refl, ap, sym, _∙_}
-use mathlib.Core.Bool.{Bool, true, false}
+use mathlib.Core.Bool.{Bool, true, false, _&&_}
 use mathlib.Core.List.{List, [], _∷_}
 use Prim.Native.Nat.{ℕ, zero, suc, _+_, _-_, _≤_, _<_}
 use native.Mathlib.Omega.{arith}
 use native.Mathlib.Nat.{add-zero, zero-add}
 use native.Mathlib.Numerals.{add-one}
-use lib.Dec.{eqb, ltb}
+use lib.Dec.{eqb, leb, ltb}
 use lib.ListN.{length, getD, drop, length-drop, drop-of-length-le}
 use lib.Seq.{drop-cons, drop-drop}
-use borrow.Author.Tests.{lt-ltb, le-ltb, eq-eqb, ne-eqb, ltb-true, ltb-false, eqb-true, eqb-false}
+use borrow.Author.Tests.{lt-ltb, le-ltb, eq-eqb, ne-eqb, ltb-true, ltb-false, leb-true, eqb-true, eqb-false}
 use Rattle.text.specs.Bytes.{pick}
 use Rattle.text.specs.Call.{andThen, passed}
 use Rattle.text.specs.declared.Answer.{Answer}
 use Rattle.text.specs.declared.Answer.the-variants.{Done, Refused}
+use Rattle.text.proofs.Bytes.{and-left, and-right}
 use Rattle.entity.specs.Table.{Declaration, declaration, declarationsFrom, runsPast, illFormed, declarationCheck, endCheck, commandsCheck, declarations, sizeCheck, tableCheck, operands}
 use Rattle.entity.specs.Steps.{declarationAt, commandCheck, lastCheck}
 
@@ -216,20 +217,25 @@ module _ (list pool : List ℕ) where
           let l = s .few in
           record { fits = f; few = omega arith; short = s .short; is = unfold answerFrom in sym (rw e at turn) ∙ s .is }
 
--- a list of one byte, or of none, has no command: its end answers, also where it is the first byte of one
-short-one : (list pool : List ℕ) → length list < 2 → getD list 0 0 ≡ 1 → (lastCheck list 0 0 ≡ commandCheck list pool 0) × (0 < length list)
+-- a list of one byte has no command: its end answers, also where it is the first byte of one
+short-one : (list pool : List ℕ) → length list ≡ 1 → getD list 0 0 ≡ 1 → lastCheck list 0 0 ≡ commandCheck list pool 0
 unfolding lastCheck commandCheck
 short-one [] pool h e = absurd (omega arith)
-short-one (b ∷ bs) pool h e = (rw (ne-eqb b 0 (λ z. omega arith), lt-ltb (length (b ∷ bs)) 12 (omega (arith, h))), omega arith)
+short-one (b ∷ bs) pool h e = rw (ne-eqb b 0 (λ z. omega arith), lt-ltb (length (b ∷ bs)) 12 (omega (arith, h)))
 
-pub short-list : (list pool : List ℕ) → length list < 2 → length pool ≤ 1048576 → lastCheck list 0 0 ≡ tableCheck list pool
+pub short-list : (list pool : List ℕ) → eqb (length list) 1 && leb (length pool) 1048576 ≡ true → lastCheck list 0 0 ≡ tableCheck list pool
 unfolding commandCheck
-short-list list pool h k = go (eqb (getD list 0 0) 1) refl
+short-list list pool t = go (eqb (getD list 0 0) 1) refl
   where
-    go : (t : Bool) → eqb (getD list 0 0) 1 ≡ t → lastCheck list 0 0 ≡ tableCheck list pool
-    go false e = finish list pool 0 0 (start list pool (omega (arith, h)) k) (λ l q. eqb-false (getD list 0 0) 1 e q)
+    one : length list ≡ 1
+    one = eqb-true (length list) 1 (and-left (eqb (length list) 1) (leb (length pool) 1048576) t)
+
+    before : Standing list pool 0 0
+    before = start list pool (omega (arith, one)) (leb-true (length pool) 1048576 (and-right (eqb (length list) 1) (leb (length pool) 1048576) t))
+
+    go : (u : Bool) → eqb (getD list 0 0) 1 ≡ u → lastCheck list 0 0 ≡ tableCheck list pool
+    go false e = finish list pool 0 0 before (λ l q. eqb-false (getD list 0 0) 1 e q)
     go true e =
         let q = eqb-true (getD list 0 0) 1 e in
-        let s = short-one list pool h q in
-        let r : commandCheck list pool 0 ≡ Refused 7 0 0 = rw (lt-ltb (length list) 12 (omega (arith, h))) in
-        s .0 ∙ refuses list pool 0 0 (start list pool (omega (arith, h)) k) (s .1) q r
+        let r : commandCheck list pool 0 ≡ Refused 7 0 0 = rw (lt-ltb (length list) 12 (omega (arith, one))) in
+        short-one list pool one q ∙ refuses list pool 0 0 before (omega (arith, one)) q r

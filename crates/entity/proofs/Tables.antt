@@ -22,7 +22,7 @@ use Rattle.entity.proofs.Reading.{u16-small}
 
 -- ---- a table that was checked
 
--- a check that let the table pass: `r` is what `check_table` returned
+-- a check that let the table pass: `r` is what it returned
 pub checked-table : (list pool : List ℕ) {r : Answer} {first second : ℕ} → r ≡ tableCheck list pool → r ≡ Done first second → ValidTable list pool
 unfolding tableCheck
 checked-table list pool e q = go (sizeCheck list pool) (commandsCheck pool 0 0 list) (sym e ∙ q)

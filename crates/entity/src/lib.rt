@@ -183,7 +183,7 @@ fn check_commands(list: &[u8], pool: &[u8]) -> Answer
     check_end(list, at, count)
 }
 
-// Refusals 6 to 9, else the number of declarations. A list without commands is often lent, and told at once.
+// Refusals 6 to 9, else the number of declarations.
 pub fn check_table(list: &[u8], pool: &[u8]) -> Answer
     ensures { λ r. ⌜ r ≡ tableCheck (now (list .entry)) (now (pool .entry)) ⌝ }
 {
@@ -193,10 +193,18 @@ pub fn check_table(list: &[u8], pool: &[u8]) -> Answer
     if 1048576 < pool.len() {
         return refused(6, 0);
     }
-    if list.len() < 2 {
+    check_commands(list, pool)
+}
+
+// `check_table` for the calls that walk. Most texts are lent no table: a list without commands is answered here, in a few
+// instructions that become part of the call.
+pub fn check_lent(list: &[u8], pool: &[u8]) -> Answer
+    ensures { λ r. ⌜ r ≡ tableCheck (now (list .entry)) (now (pool .entry)) ⌝ }
+{
+    if (list.len() == 1) & (pool.len() <= 1048576) {
         return check_end(list, 0, 0);
     }
-    check_commands(list, pool)
+    check_table(list, pool)
 }
 
 pub fn is_three(name: &[u8], a: u8, b: u8, c: u8) -> bool

@@ -164,7 +164,7 @@ fn check_with_table(checked: Answer, list: &[u8], pool: &[u8]) -> Answer
     else {
         return checked;
     };
-    entity::check_table(list, pool)
+    entity::check_lent(list, pool)
 }
 
 // References become what they stand for; a replacement text is copied and not opened. Success: the length written.

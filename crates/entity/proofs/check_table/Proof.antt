@@ -1,6 +1,6 @@
 use mathlib.Core.Path.{_∙_}
 use native.Mathlib.Omega.{arith}
-use Rattle.entity.proofs.Commands.{long-list, long-pool, short-list}
+use Rattle.entity.proofs.Commands.{long-list, long-pool}
 use borrow.Author.Needs.{needs}
 use Rattle.entity.proofs.check_table.Statement.{statement}
 use Rattle.entity.proofs.check_table.Tie as tie
@@ -17,17 +17,11 @@ refused-requires-2 c κs = search needs
 returns-2 : tie.Need-returns-2
 returns-2 c = c .refused2 .ensures ∙ long-pool (c .before .before .before .before .before .args .list .now) (c .before .before .before .before .before .args .pool .now) (omega arith) (omega arith)
 
-check-end-requires : tie.Need-check-end-requires
-check-end-requires c κs = omega arith
-
-returns-3 : tie.Need-returns-3
-returns-3 c = c .check-end .ensures ∙ short-list (c .before .before .before .before .before .before .args .list .now) (c .before .before .before .before .before .before .args .pool .now) (omega arith) (omega arith)
-
 check-commands-requires : tie.Need-check-commands-requires
 check-commands-requires c κs = (omega arith, omega arith)
 
-returns-4 : tie.Need-returns-4
-returns-4 c = c .check-commands .ensures
+returns-3 : tie.Need-returns-3
+returns-3 c = c .check-commands .ensures
 
 pub check-table-spec : {M : Type 1} → statement M
 check-table-spec =
@@ -37,7 +31,5 @@ check-table-spec =
     returns
     refused-requires-2
     returns-2
-    check-end-requires
-    returns-3
     check-commands-requires
-    returns-4)
+    returns-3)

@@ -13,12 +13,12 @@ enum-told-2 c = search needs
 returns : tie.Need-returns
 returns c = search needs
 
-check-table-requires : tie.Need-check-table-requires
-check-table-requires c κs = search needs
+check-lent-requires : tie.Need-check-lent-requires
+check-lent-requires c κs = search needs
 
 returns-2 : tie.Need-returns-2
-returns-2 c = c .check-table .ensures ∙ goes-on _ refl (c .before .enum-told .given .1)
+returns-2 c = c .check-lent .ensures ∙ goes-on _ refl (c .before .enum-told .given .1)
 
 pub check-with-table-spec : {M : Type 1} → statement M
 check-with-table-spec =
-    tie.close (tie.spec enum-told enum-told-2 returns check-table-requires returns-2)
+    tie.close (tie.spec enum-told enum-told-2 returns check-lent-requires returns-2)

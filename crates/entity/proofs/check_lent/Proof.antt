@@ -1,0 +1,21 @@
+use mathlib.Core.Path.{_∙_}
+use native.Mathlib.Omega.{arith}
+use Rattle.entity.proofs.Commands.{short-list}
+use borrow.Author.Needs.{needs}
+use Rattle.entity.proofs.check_lent.Statement.{statement}
+use Rattle.entity.proofs.check_lent.Tie as tie
+
+check-end-requires : tie.Need-check-end-requires
+check-end-requires c κs = omega arith
+
+returns : tie.Need-returns
+returns c = c .check-end .ensures ∙ short-list (c .before .before .before .before .args .list .now) (c .before .before .before .before .args .pool .now) (c .before .if1 .taken)
+
+check-table-requires : tie.Need-check-table-requires
+check-table-requires c κs = search needs
+
+returns-2 : tie.Need-returns-2
+returns-2 c = c .check-table .ensures
+
+pub check-lent-spec : {M : Type 1} → statement M
+check-lent-spec = tie.close (tie.spec check-end-requires returns check-table-requires returns-2)
