@@ -41,16 +41,18 @@ fn ends_run(b: u8, newer: bool) -> bool
     is_stop(b, newer)
 }
 
-// Is one of the `size` bytes from i on a stop?
+// Is one of the `size` bytes from i on a stop? Most blocks of XML 1.0 need the first test alone.
 fn any_stop(text: &[u8], i: usize, newer: bool, size: usize) -> bool
     requires { ⌜ i + size ≤ length (now text) ⌝ }
     ensures { λ r. ⌜ (r ≡ false → Plain (stopByte newer) (now (text .entry)) i (i + size)) ⌝ }
 {
-    let mut hit = false;
-    for k in 0..size {
-        hit = hit | is_stop(text[i + k], newer);
+    if output::any_of(text, i, size, 13, 13) {
+        return true;
     }
-    hit
+    if newer {
+        return output::any_of(text, i, size, 0xc2, 0xe2);
+    }
+    false
 }
 
 fn plain_blocks(text: &[u8], from: usize, newer: bool) -> usize

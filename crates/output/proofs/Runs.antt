@@ -34,6 +34,11 @@ plain-join stop t i j k a b =
 pub plain-byte : (stop : ℕ → Bool) (t : List ℕ) (i : ℕ) → i < length t → stop (getD t i 0) ≡ false → Plain stop t i (i + 1)
 plain-byte stop t i h e = plain-of stop t i 1 (omega arith) (λ m l. let q : i + m ≡ i = omega arith in rw q e)
 
+-- a run of two tests, for a test that finds no stop where neither does
+pub plain-both : (stop : ℕ → Bool) {one two : ℕ → Bool} {t : List ℕ} {i e : ℕ} → ((b : ℕ) → one b ≡ false → two b ≡ false → stop b ≡ false)
+    → Plain one t i e → Plain two t i e → Plain stop t i e
+plain-both stop {t = t} f p q = record { from = p .from; to = p .to; none = λ k g l. f (getD t k 0) (p .none k g l) (q .none k g l) }
+
 -- a run at the start of a text's rest
 pub plain-shift : (stop : ℕ → Bool) (t : List ℕ) (i n : ℕ) → i ≤ length t → Plain stop (drop i t) 0 n → Plain stop t i (i + n)
 plain-shift stop t i n h p =

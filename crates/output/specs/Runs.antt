@@ -1,8 +1,9 @@
 -- Runs of bytes that are copied as they stand, over any test for the bytes at which a run stops: the terms in which writers are proved. Assumes nothing.
 use Prim.Native.Nat.{ℕ, _≤_, _<_}
 use mathlib.Core.Path.{_≡_}
-use mathlib.Core.Bool.{Bool, true, false}
+use mathlib.Core.Bool.{Bool, true, false, _||_}
 use mathlib.Core.List.{List}
+use lib.Dec.{eqb}
 use lib.ListN.{length, take, getD}
 use Rattle.text.specs.Call.{laid}
 
@@ -11,6 +12,10 @@ pub record Plain (stop : ℕ → Bool) (text : List ℕ) (i e : ℕ) : Type 0 wh
   pub from : i ≤ e
   pub to : e ≤ length text
   pub none : (k : ℕ) → i ≤ k → k < e → stop (getD text k 0) ≡ false
+
+-- a run may stop at either of two bytes
+abbrev pub eitherByte : ℕ → ℕ → ℕ → Bool
+eitherByte a b c = eqb c a || eqb c b
 
 -- the first `e` bytes of the text are a run, and lie at the start of the output
 pub record Copied (stop : ℕ → Bool) (text old out : List ℕ) (e : ℕ) : Type 0 where

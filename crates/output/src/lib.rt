@@ -1,10 +1,12 @@
 // What every writer shares: a run of bytes, written at the start of the output that is lent. A writer that clips writes as much as
 // there is room for, so that a walk over an output of no bytes counts.
 ghost use mathlib.Core.Path.{_≡_};
-ghost use Prim.Native.Nat.{_≤_, min};
+ghost use Prim.Native.Nat.{_+_, _≤_, min};
+ghost use mathlib.Core.Bool.{false};
 ghost use lib.ListN.{length, set};
 ghost use Rattle.text.specs.Call.{laid};
 ghost use Rattle.output.specs.Over.{over};
+ghost use Rattle.output.specs.Runs.{Plain, eitherByte};
 
 // Copies the run to the start of `out`, and keeps the rest.
 pub fn put_run(src: &[u8], out: &mut [u8])
@@ -51,4 +53,16 @@ pub fn put_block(src: &[u8], out: &mut [u8])
     let mut block = [0u8; 16];
     put_run(src, &mut block);
     put_run(&block, out);
+}
+
+// Is one of the `size` bytes from i on a or b?
+pub fn any_of(text: &[u8], i: usize, size: usize, a: u8, b: u8) -> bool
+    requires { ⌜ i + size ≤ length (now text) ⌝ }
+    ensures { λ r. ⌜ (r ≡ false → Plain (eitherByte a b) (now (text .entry)) i (i + size)) ⌝ }
+{
+    let mut hit = false;
+    for k in 0..size {
+        hit = hit | ((text[i + k] == a) | (text[i + k] == b));
+    }
+    hit
 }

@@ -1,57 +1,37 @@
-use mathlib.Core.Path.{_≡_, sym, _∙_}
-use Prim.Native.Nat.{ℕ, _+_, _-_, _≤_, _<_}
-use native.Mathlib.Omega.{arith}
-use lib.ListN.{getD}
-use mathlib.Core.Bool.{false}
-use borrow.Author.Count.{below-none, below-more}
-use Rattle.text.proofs.Bytes.{or-left, or-right}
+use mathlib.Core.Path.{_≡_, refl}
+use mathlib.Core.Bool.{Bool, true, false, true≢false}
+use Prim.Native.Nat.{ℕ}
+use lib.Dec.{eqb}
+use Rattle.text.proofs.Bytes.{or-left}
+use Rattle.output.specs.Runs.{eitherByte}
+use Rattle.output.proofs.Runs.{plain-both}
 use Rattle.eols.specs.Stops.{stopByte}
-use Rattle.output.proofs.Runs.{plain-of}
 use borrow.Author.Needs.{needs}
 use Rattle.eols.proofs.any_stop.Statement.{statement}
 use Rattle.eols.proofs.any_stop.Tie as tie
 
-abbrev Inv-loop : tie.InvT-loop
-Inv-loop text i newer size hit₀ k₀ hit k = (k ≤ size) × (hit ≡ false → (m : ℕ) → m < k → stopByte newer (getD text (i + m) 0) ≡ false)
+-- a byte that no test finds is no stop
+none-older : {newer : Bool} → newer ≡ false → (b : ℕ) → eitherByte 13 13 b ≡ false → stopByte newer b ≡ false
+none-older e b p = rw (e, or-left (eqb b 13) (eqb b 13) p)
 
-abbrev μ-loop : tie.MeasureT-loop
-μ-loop text i newer size hit₀ k₀ hit k = size - k
+none-newer : (newer : Bool) (b : ℕ) → eitherByte 13 13 b ≡ false → eitherByte 0xC2 0xE2 b ≡ false → stopByte newer b ≡ false
+none-newer true b p q = rw (or-left (eqb b 13) (eqb b 13) p) q
+none-newer false b p q = none-older refl b p
 
-loop-holds : tie.Need-loop-holds Inv-loop μ-loop
-loop-holds c = (search needs, λ e. below-none _)
+any-of-requires : tie.Need-any-of-requires
+any-of-requires c κs = search needs
 
-add-is-stop : tie.Need-add-is-stop Inv-loop μ-loop
-add-is-stop c = search needs
+returns : tie.Need-returns
+returns c = λ e. absurd (true≢false e)
 
-shared-slice-read-is-stop : tie.Need-shared-slice-read-is-stop Inv-loop μ-loop
-shared-slice-read-is-stop c = search needs
+any-of-requires-2 : tie.Need-any-of-requires-2
+any-of-requires-2 c κs = search needs
 
-is-stop-requires : tie.Need-is-stop-requires Inv-loop μ-loop
-is-stop-requires c κs = search needs
+returns-2 : tie.Need-returns-2
+returns-2 c = λ e. plain-both _ (none-newer (c .before .before .before .before .before .args .newer)) (c .before .before .before .any-of .ensures (c .before .before .if1 .left)) (c .any-of2 .ensures e)
 
-add-k : tie.Need-add-k Inv-loop μ-loop
-add-k c = search needs
-
-loop-less : tie.Need-loop-less Inv-loop μ-loop
-loop-less c = search needs
-
-loop-again : tie.Need-loop-again Inv-loop μ-loop
-loop-again c = (search needs, λ e. below-more (λ (m : ℕ). stopByte (c .before .before .before .before .before .args .newer) (getD (c .before .before .before .before .before .args .text .now) (c .before .before .before .before .before .args .i + m) 0) ≡ false) _ (c .before .before .before .loop .inv .1 (or-left _ _ e)) (sym (c .is-stop .ensures) ∙ or-right (c .before .before .before .loop .hit) _ e))
-
-returns : tie.Need-returns Inv-loop μ-loop
-returns c = λ e. plain-of _ _ _ (c .before .before .before .args .size) (c .before .before .before .pre) (λ m h. c .before .loop .inv .1 e m (omega arith))
+returns-3 : tie.Need-returns-3
+returns-3 c = λ e. let p = c .before .before .any-of .ensures (c .before .if1 .left) in plain-both _ (λ b h _. none-older (c .if2 .left) b h) p p
 
 pub any-stop-spec : {M : Type 1} → statement M
-any-stop-spec =
-    tie.close
-    (tie.spec
-    Inv-loop
-    μ-loop
-    loop-holds
-    add-is-stop
-    shared-slice-read-is-stop
-    is-stop-requires
-    add-k
-    loop-less
-    loop-again
-    returns)
+any-stop-spec = tie.close (tie.spec any-of-requires returns any-of-requires-2 returns-2 returns-3)
