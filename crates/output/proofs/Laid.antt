@@ -5,8 +5,8 @@ use Prim.Native.Nat.{ℕ, suc, _+_, _-_, _≤_, _<_}
 use native.Mathlib.Omega.{arith}
 use native.Mathlib.Nat.{le-refl}
 use native.Mathlib.Numerals.{add-one}
-use lib.ListN.{length, take, drop, getD, set, length-append, length-drop, drop-of-length-le}
-use lib.Seq.{length-take-le, take-suc, take-add, take-all, take-append-seam, drop-append-seam, drop-drop, drop-cons, set-append-seam}
+use lib.ListN.{length, take, drop, getD, set, length-append, length-drop, drop-of-length-le, take-append-drop}
+use lib.Seq.{length-take-le, take-suc, take-add, take-all, take-length, take-take, take-append-le, take-append-seam, drop-append-add, drop-append-seam, drop-drop, drop-cons, set-append-seam}
 use borrow.Rule.Slice.PartMut.{midOf, putMid}
 use Rattle.text.specs.Call.{laid}
 
@@ -61,3 +61,35 @@ laid-part run old i e h g b p =
     let q : e ≡ i + (e - i) = omega arith in
     laid-more (take i run) (midOf i (e - i) run) old b (sym (length-take-le i run (omega arith))) p
     ∙ ap (λ (l : List ℕ). laid l old) (sym (ap (λ (n : ℕ). take n run) q ∙ take-add i (e - i) run))
+
+-- a value over a shorter one
+laid-twice : (some all old : List ℕ) → length some ≤ length all → laid all (laid some old) ≡ laid all old
+laid-twice some all old h =
+    let rest = length all - length some in
+    let q : length all ≡ length some + rest = omega arith in
+    ap (λ (l : List ℕ). all ++ l)
+    (ap (λ (n : ℕ). drop n (laid some old)) q
+    ∙ drop-append-add some (drop (length some) old) rest
+    ∙ drop-drop rest (length some) old
+    ∙ ap (λ (n : ℕ). drop n old) (sym q))
+
+-- the start of a run over more of it
+laid-start : (run old : List ℕ) (i e : ℕ) → i ≤ e → e ≤ length run → laid (take e run) old ≡ laid (take i run) (laid (take e run) old)
+laid-start run old i e h g =
+    let new = laid (take e run) old in
+    let inside : i ≤ length (take e run) = rw (length-take-le e run g) h in
+    let front = take-append-le i (take e run) (drop (length (take e run)) old) inside ∙ take-take i e run h in
+    sym (take-append-drop i new)
+    ∙ ap (λ (l : List ℕ). l ++ drop i new) front
+    ∙ ap (λ (n : ℕ). take i run ++ drop n new) (sym (length-take-le i run (omega arith)))
+
+-- after two parts of a run that may overlap: the first m bytes, and then those from a place among them on
+pub laid-ends : (run old : List ℕ) (m at : ℕ) {buffer part : List ℕ} → at ≤ m → m ≤ length run
+    → buffer ≡ laid (take m run) old → part ≡ laid (midOf at (length run - at) run) (midOf at (length buffer - at) buffer)
+    → putMid at (length buffer - at) buffer part ≡ laid run old
+laid-ends run old m at {buffer} h g b p =
+    laid-part run buffer at (length run) (omega arith) (le-refl _)
+    (b ∙ laid-start run old at m h g ∙ ap (λ (l : List ℕ). laid (take at run) l) (sym b)) p
+    ∙ ap (λ (l : List ℕ). laid l buffer) (take-length run)
+    ∙ ap (λ (l : List ℕ). laid run l) b
+    ∙ laid-twice (take m run) run old (rw (length-take-le m run g) g)

@@ -21,6 +21,97 @@ pub fn put_run(src: &[u8], out: &mut [u8])
     }
 }
 
+// Copies a run of 16 bytes: by way of a local array, which can overlap with neither, so that it takes one load and one store.
+pub fn put_block(src: &[u8], out: &mut [u8])
+    requires { ⌜ length (now src) ≡ 16 ⌝ }
+    requires { ⌜ 16 ≤ length (now out) ⌝ }
+    ensures { λ _. ⌜ now (out .exit) ≡ laid (now (src .entry)) (now (out .entry)) ⌝ }
+{
+    let mut block = [0u8; 16];
+    put_run(src, &mut block);
+    put_run(&block, out);
+}
+
+// The same for 8 bytes, and for 4.
+fn put_eight(src: &[u8], out: &mut [u8])
+    requires { ⌜ length (now src) ≡ 8 ⌝ }
+    requires { ⌜ 8 ≤ length (now out) ⌝ }
+    ensures { λ _. ⌜ now (out .exit) ≡ laid (now (src .entry)) (now (out .entry)) ⌝ }
+{
+    let mut block = [0u8; 8];
+    put_run(src, &mut block);
+    put_run(&block, out);
+}
+
+fn put_four(src: &[u8], out: &mut [u8])
+    requires { ⌜ length (now src) ≡ 4 ⌝ }
+    requires { ⌜ 4 ≤ length (now out) ⌝ }
+    ensures { λ _. ⌜ now (out .exit) ≡ laid (now (src .entry)) (now (out .entry)) ⌝ }
+{
+    let mut block = [0u8; 4];
+    put_run(src, &mut block);
+    put_run(&block, out);
+}
+
+// A run of 8 to 16 bytes: its first and its last 8, which may overlap, so that there is no loop.
+fn put_eights(src: &[u8], out: &mut [u8])
+    requires { ⌜ 8 ≤ length (now src) ⌝ }
+    requires { ⌜ length (now src) ≤ 16 ⌝ }
+    requires { ⌜ length (now src) ≤ length (now out) ⌝ }
+    ensures { λ _. ⌜ now (out .exit) ≡ laid (now (src .entry)) (now (out .entry)) ⌝ }
+{
+    put_eight(&src[..8], out);
+    let at = src.len() - 8;
+    put_eight(&src[at..], &mut out[at..]);
+}
+
+// A run of 4 to 8 bytes in the same way.
+fn put_fours(src: &[u8], out: &mut [u8])
+    requires { ⌜ 4 ≤ length (now src) ⌝ }
+    requires { ⌜ length (now src) ≤ 8 ⌝ }
+    requires { ⌜ length (now src) ≤ length (now out) ⌝ }
+    ensures { λ _. ⌜ now (out .exit) ≡ laid (now (src .entry)) (now (out .entry)) ⌝ }
+{
+    put_four(&src[..4], out);
+    let at = src.len() - 4;
+    put_four(&src[at..], &mut out[at..]);
+}
+
+// A run of up to 3 bytes: the count is fixed, so that the loop is unrolled.
+fn put_few(src: &[u8], out: &mut [u8])
+    requires { ⌜ length (now src) ≤ 3 ⌝ }
+    requires { ⌜ length (now src) ≤ length (now out) ⌝ }
+    ensures { λ _. ⌜ now (out .exit) ≡ laid (now (src .entry)) (now (out .entry)) ⌝ }
+{
+    let n = src.len();
+    for k in 0..3usize {
+        if k < n {
+            out[k] = src[k];
+        }
+    }
+}
+
+// The same as put_run, but a short run takes at most two stores or three tests.
+fn put_part(src: &[u8], out: &mut [u8])
+    requires { ⌜ length (now src) ≤ length (now out) ⌝ }
+    ensures { λ _. ⌜ now (out .exit) ≡ laid (now (src .entry)) (now (out .entry)) ⌝ }
+{
+    let n = src.len();
+    if 16 < n {
+        put_run(src, out);
+        return;
+    }
+    if 8 <= n {
+        put_eights(src, out);
+        return;
+    }
+    if 4 <= n {
+        put_fours(src, out);
+        return;
+    }
+    put_few(src, out);
+}
+
 pub fn least(a: usize, b: usize) -> usize
     ensures { λ r. ⌜ r ≡ min a b ⌝ }
 {
@@ -32,7 +123,7 @@ pub fn put_over(src: &[u8], out: &mut [u8])
     ensures { λ _. ⌜ now (out .exit) ≡ over (now (src .entry)) (now (out .entry)) ⌝ }
 {
     let n = least(src.len(), out.len());
-    put_run(&src[..n], out);
+    put_part(&src[..n], out);
 }
 
 // One byte at a place, where the output reaches it.
@@ -42,17 +133,6 @@ pub fn put_byte(b: u8, at: usize, out: &mut [u8])
     if at < out.len() {
         out[at] = b;
     }
-}
-
-// Copies a run of 16 bytes: by way of a local array, which can overlap with neither, so that it takes one load and one store.
-pub fn put_block(src: &[u8], out: &mut [u8])
-    requires { ⌜ length (now src) ≡ 16 ⌝ }
-    requires { ⌜ 16 ≤ length (now out) ⌝ }
-    ensures { λ _. ⌜ now (out .exit) ≡ laid (now (src .entry)) (now (out .entry)) ⌝ }
-{
-    let mut block = [0u8; 16];
-    put_run(src, &mut block);
-    put_run(&block, out);
 }
 
 // Is one of the `size` bytes from i on a or b?

@@ -10,19 +10,19 @@ use Rattle.output.proofs.put_over.Tie as tie
 least-requires : tie.Need-least-requires
 least-requires c κs = search needs
 
-slice-aggregate-put-run : tie.Need-slice-aggregate-put-run
-slice-aggregate-put-run c = sym (length-take-le (c .before .least .result) (c .before .before .before .before .args .src .now) (omega (arith, c .before .least .ensures)))
+slice-aggregate-put-part : tie.Need-slice-aggregate-put-part
+slice-aggregate-put-part c = sym (length-take-le (c .before .least .result) (c .before .before .before .before .args .src .now) (omega (arith, c .before .least .ensures)))
 
-put-run-requires : tie.Need-put-run-requires
-put-run-requires c κs = simp length-take (omega (arith, c .before .before .least .ensures))
+put-part-requires : tie.Need-put-part-requires
+put-part-requires c κs = simp length-take (omega (arith, c .before .before .least .ensures))
 
 same-length : tie.Need-same-length
 same-length c = search needs
 
 returns : tie.Need-returns
-returns c = c .before .before .put-run .ensures ∙ over-clipped (c .before .before .before .before .before .before .before .before .args .src .now) (c .before .before .before .before .before .before .before .before .args .out .now) (c .before .before .before .before .before .least .ensures)
+returns c = c .before .before .put-part .ensures ∙ over-clipped (c .before .before .before .before .before .before .before .before .args .src .now) (c .before .before .before .before .before .before .before .before .args .out .now) (c .before .before .before .before .before .least .ensures)
 
 pub put-over-spec : {M : Type 1} → statement M
 put-over-spec =
     tie.close
-    (tie.spec least-requires slice-aggregate-put-run put-run-requires same-length returns)
+    (tie.spec least-requires slice-aggregate-put-part put-part-requires same-length returns)
