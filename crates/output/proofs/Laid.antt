@@ -1,5 +1,5 @@
 -- Writing after what is already written: the laws of `laid`, a value in the first bytes of a buffer whose rest keeps its bytes. Assumes nothing.
-use mathlib.Core.Path.{_≡_, refl, sym, ap, _∙_}
+use mathlib.Core.Path.{_≡_, sym, ap, _∙_}
 use mathlib.Core.List.{List, [], _∷_, _++_, append-assoc, append-nil}
 use Prim.Native.Nat.{ℕ, suc, _+_, _-_, _≤_, _<_}
 use native.Mathlib.Omega.{arith}
@@ -10,10 +10,6 @@ use lib.Seq.{length-take-le, take-suc, take-add, take-all, take-length, take-tak
 use borrow.Rule.Slice.PartMut.{midOf, putMid}
 use Rattle.text.specs.Call.{laid}
 
--- a value that leaves nothing of the buffer
-pub laid-over : (value old : List ℕ) → length old ≤ length value → laid value old ≡ value
-laid-over value old h = rw (drop-of-length-le old h) (append-nil value)
-
 -- the buffer keeps its length
 pub laid-length : (value old : List ℕ) → length value ≤ length old → length (laid value old) ≡ length old
 laid-length value old h = rw (length-append, length-drop) (omega arith)
@@ -21,6 +17,10 @@ laid-length value old h = rw (length-append, length-drop) (omega arith)
 -- what lies behind the value is what lay there
 pub laid-rest : (value old : List ℕ) → drop (length value) (laid value old) ≡ drop (length value) old
 laid-rest value old = drop-append-seam value (drop (length value) old)
+
+-- and the value is what lies before it
+pub laid-front : (value old : List ℕ) {new : List ℕ} → new ≡ laid value old → take (length value) new ≡ value
+laid-front value old e = ap (take (length value)) e ∙ take-append-seam value (drop (length value) old)
 
 pub laid-append : (value more old : List ℕ) → value ++ laid more (drop (length value) old) ≡ laid (value ++ more) old
 laid-append value more old = rw (drop-drop, length-append, append-assoc)

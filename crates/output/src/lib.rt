@@ -21,60 +21,36 @@ pub fn put_run(src: &[u8], out: &mut [u8])
     }
 }
 
-// Copies a run of 16 bytes: by way of a local array, which can overlap with neither, so that it takes one load and one store.
+// Copies a run of at most 16 bytes: by way of a local array, which can overlap with neither. Where the run's length is known when
+// this is compiled, it takes one load and one store.
+fn put_piece(src: &[u8], out: &mut [u8])
+    requires { ⌜ (length (now src) ≤ 16) × (length (now src) ≤ length (now out)) ⌝ }
+    ensures { λ _. ⌜ now (out .exit) ≡ laid (now (src .entry)) (now (out .entry)) ⌝ }
+{
+    let n = src.len();
+    let mut block = [0u8; 16];
+    put_run(src, &mut block);
+    put_run(&block[..n], out);
+}
+
+// Copies a run of 16 bytes.
 pub fn put_block(src: &[u8], out: &mut [u8])
     requires { ⌜ length (now src) ≡ 16 ⌝ }
     requires { ⌜ 16 ≤ length (now out) ⌝ }
     ensures { λ _. ⌜ now (out .exit) ≡ laid (now (src .entry)) (now (out .entry)) ⌝ }
 {
-    let mut block = [0u8; 16];
-    put_run(src, &mut block);
-    put_run(&block, out);
+    put_piece(src, out);
 }
 
-// The same for 8 bytes, and for 4.
-fn put_eight(src: &[u8], out: &mut [u8])
-    requires { ⌜ length (now src) ≡ 8 ⌝ }
-    requires { ⌜ 8 ≤ length (now out) ⌝ }
-    ensures { λ _. ⌜ now (out .exit) ≡ laid (now (src .entry)) (now (out .entry)) ⌝ }
-{
-    let mut block = [0u8; 8];
-    put_run(src, &mut block);
-    put_run(&block, out);
-}
-
-fn put_four(src: &[u8], out: &mut [u8])
-    requires { ⌜ length (now src) ≡ 4 ⌝ }
-    requires { ⌜ 4 ≤ length (now out) ⌝ }
-    ensures { λ _. ⌜ now (out .exit) ≡ laid (now (src .entry)) (now (out .entry)) ⌝ }
-{
-    let mut block = [0u8; 4];
-    put_run(src, &mut block);
-    put_run(&block, out);
-}
-
-// A run of 8 to 16 bytes: its first and its last 8, which may overlap, so that there is no loop.
-fn put_eights(src: &[u8], out: &mut [u8])
-    requires { ⌜ 8 ≤ length (now src) ⌝ }
-    requires { ⌜ length (now src) ≤ 16 ⌝ }
+// A run of `size` bytes up to twice as many: its first and its last `size`, which may overlap, so that there is no loop.
+fn put_ends(src: &[u8], size: usize, out: &mut [u8])
+    requires { ⌜ (size ≤ 16) × (size ≤ length (now src)) × (length (now src) ≤ size + size) ⌝ }
     requires { ⌜ length (now src) ≤ length (now out) ⌝ }
     ensures { λ _. ⌜ now (out .exit) ≡ laid (now (src .entry)) (now (out .entry)) ⌝ }
 {
-    put_eight(&src[..8], out);
-    let at = src.len() - 8;
-    put_eight(&src[at..], &mut out[at..]);
-}
-
-// A run of 4 to 8 bytes in the same way.
-fn put_fours(src: &[u8], out: &mut [u8])
-    requires { ⌜ 4 ≤ length (now src) ⌝ }
-    requires { ⌜ length (now src) ≤ 8 ⌝ }
-    requires { ⌜ length (now src) ≤ length (now out) ⌝ }
-    ensures { λ _. ⌜ now (out .exit) ≡ laid (now (src .entry)) (now (out .entry)) ⌝ }
-{
-    put_four(&src[..4], out);
-    let at = src.len() - 4;
-    put_four(&src[at..], &mut out[at..]);
+    put_piece(&src[..size], out);
+    let at = src.len() - size;
+    put_piece(&src[at..], &mut out[at..]);
 }
 
 // A run of up to 3 bytes: the count is fixed, so that the loop is unrolled.
@@ -91,25 +67,25 @@ fn put_few(src: &[u8], out: &mut [u8])
     }
 }
 
-// The same as put_run, but a short run takes at most two stores or three tests.
+// The same as put_run, but a run of at most 16 bytes takes no loop. The shortest are the most frequent.
 fn put_part(src: &[u8], out: &mut [u8])
     requires { ⌜ length (now src) ≤ length (now out) ⌝ }
     ensures { λ _. ⌜ now (out .exit) ≡ laid (now (src .entry)) (now (out .entry)) ⌝ }
 {
     let n = src.len();
-    if 16 < n {
-        put_run(src, out);
+    if n < 4 {
+        put_few(src, out);
         return;
     }
-    if 8 <= n {
-        put_eights(src, out);
+    if n < 8 {
+        put_ends(src, 4, out);
         return;
     }
-    if 4 <= n {
-        put_fours(src, out);
+    if n <= 16 {
+        put_ends(src, 8, out);
         return;
     }
-    put_few(src, out);
+    put_run(src, out);
 }
 
 pub fn least(a: usize, b: usize) -> usize
