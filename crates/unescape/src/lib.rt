@@ -24,11 +24,7 @@ fn any_amp(text: &[u8], i: usize, size: usize) -> bool
     requires { ⌜ i + size ≤ length (now text) ⌝ }
     ensures { λ r. ⌜ (r ≡ false → Plain isAmp (now (text .entry)) i (i + size)) ⌝ }
 {
-    let mut hit = false;
-    for k in 0..size {
-        hit = hit | (text[i + k] == b'&');
-    }
-    hit
+    output::any_of(text, i, size, b'&', b'&')
 }
 
 // Passes blocks of `size` bytes that have no `&`.
