@@ -41,10 +41,12 @@ pub fn run(calls: &[&Call]) {
     }
     let looks_up = calls.iter().any(|call| call.name == "unescape");
     let mut lookup = looks_up.then(entities::Lookup::new);
+    let mut copy = copy_alone();
     // Rows take turns too: a slow while of the machine takes some rounds of each, not all of one.
     for _ in 0..ROUNDS {
         rows.iter_mut().for_each(Row::measure);
         lookup.iter_mut().for_each(entities::Lookup::measure);
+        copy.measure();
     }
     println!(
         "| call | input | bytes | ours, ns | Rust, ns | ours / Rust | ours / Rust, its result left \
@@ -53,6 +55,19 @@ pub fn run(calls: &[&Call]) {
     println!("|---|---|--:|--:|--:|--:|--:|--:|");
     rows.iter().for_each(Row::print);
     lookup.iter().for_each(entities::Lookup::print);
+    println!();
+    println!("A copy of {MEBIBYTE} bytes alone: {:.1} ns.", copy.best);
+}
+
+/// What every call that hands over a result of this length has to do, and a borrowed one saves.
+fn copy_alone() -> Side {
+    let text = aligned(&letters_with(&[], 0, MEBIBYTE));
+    let out = vec![0; MEBIBYTE].leak();
+    Side::new(repeated(move |words: &mut [u64; 2]| {
+        out.copy_from_slice(black_box(text));
+        *words = [black_box(&out).len() as u64, 0];
+        0
+    }))
 }
 
 /// A call on one input, ours and the Rust's.
