@@ -88,7 +88,7 @@ returns-2 c =
       to = refl;
       size = refl;
       opens = refl;
-      within = c .before .before .if2 .taken;
+      within = omega (arith, c .before .before .if2 .taken);
       same-length = ⊎-elim {C = length out ≡ length (a .out .now)} (λ w. ap length (w .7) ∙ w .4 .ensures .0) (λ w. ap length (w .1)) (c .before .if3 .came);
       writes = λ value whole e n.
           ⊎-elim
