@@ -1,16 +1,13 @@
 -- A run that is copied while it is searched: what lies in the output so far. Assumes nothing.
-use mathlib.Core.Path.{_≡_, sym, ap, _∙_}
-use mathlib.Core.Bool.{Bool, true, false, _&&_}
+use mathlib.Core.Path.{_≡_, refl, sym, ap, _∙_}
+use mathlib.Core.Bool.{Bool, true, false}
 use mathlib.Core.List.{List, [], _∷_, _++_}
 use Prim.Native.Nat.{ℕ, suc, _+_, _-_, _≤_, _<_, min}
 use native.Mathlib.Omega.{arith}
-use lib.Dec.{leb, ltb}
 use lib.ListN.{length, take, drop, getD, set, length-drop}
 use lib.Seq.{length-take-le, take-suc, getD-drop}
-use borrow.Author.Tests.{leb-true}
 use borrow.Rule.Slice.PartMut.{midOf, putMid, same-len-mid}
 use Rattle.text.specs.Call.{laid}
-use Rattle.text.proofs.Bytes.{and-right}
 use Rattle.output.specs.Over.{over}
 use Rattle.output.specs.Runs.{Plain}
 use Rattle.output.proofs.Clip.{over-byte, over-fits, over-more, length-over}
@@ -105,9 +102,9 @@ pub record Blocks (stops : ℕ → Bool) (text : List ℕ) (i : ℕ) (old out : 
   pub room : k ≤ length out
   pub holds : Put text i e old out
 
--- after a short run the near bytes are looked at, where there are so many
-pub near-fits : (last n a : ℕ) → ltb last 16 && leb n a ≡ true → n ≤ a
-near-fits last n a e = leb-true n a (and-right (ltb last 16) (leb n a) e)
+-- a part of a run
+pub plain-part : (stops : ℕ → Bool) (text : List ℕ) {i f : ℕ} (m n : ℕ) → Plain stops text i f → i ≤ m → m ≤ n → n ≤ f → Plain stops text m n
+plain-part stops text m n p h g l = record { from = g; to = omega (arith, p .to); none = λ k a b. p .none k (omega arith) (omega arith) }
 
 -- a piece of `n` bytes without a stop, byte by byte or at once
 pub within-all : (stops : ℕ → Bool) (text : List ℕ) (e n : ℕ) {f : ℕ} → Within stops text e n f → e + n ≤ f → Plain stops text e (e + n)
@@ -149,6 +146,17 @@ module _ (stops : ℕ → Bool) (text : List ℕ) (i : ℕ) (old : List ℕ) whe
         room = omega (arith, ap length c, put-length text i old e (w .1));
         holds = rw z (c ∙ w .1);
       }
+
+  -- or what a call over blocks has copied
+  pub blocks-of : {o out : List ℕ} {n k room : ℕ} → room ≤ length old → out ≡ o → k ≡ n → (n ≤ room) × Plain stops text i (i + n) × Put text i (i + n) old o
+      → Blocks stops text i old out (i + k) k
+  blocks-of {o} {out} {n} {k} room c q w =
+      rw q (record {
+        run = w .1;
+        count = omega arith;
+        room = omega (arith, ap length c, put-length text i old (i + n) (w .2), w .0);
+        holds = c ∙ w .2;
+      })
 
   module _ {out : List ℕ} {e k : ℕ} (b : Blocks stops text i old out e k) {f : ℕ} {part : List ℕ} where
     -- a piece more, by a call that is lent the rest of the output
@@ -196,3 +204,10 @@ module _ (stops : ℕ → Bool) (text : List ℕ) (i room : ℕ) (begun : List �
             rw (q, sym z)
             (blocks-piece stops text i old (b .goes old s) (p .0) (p .1) (omega (arith, b .within, b .count)) (omega arith));
       }
+
+-- what a call over blocks leaves behind
+pub blockwise-done : (stops : ℕ → Bool) (text : List ℕ) (i room : ℕ) (old : List ℕ) {out : List ℕ} {k : ℕ} → Blockwise stops text i room old 0 out k
+    → (k ≤ room) × Plain stops text i (i + k) × Put text i (i + k) old out
+blockwise-done stops text i room old b =
+    let w = b .goes old (blocks-none stops text i old (omega (arith, b .inside)) refl refl) in
+    (b .count, w .run, w .holds)

@@ -88,13 +88,15 @@ fn is_whole(text: &[u8]) -> bool
 }
 
 // The next `&` from `from` on, or the text's end, by blocks. After a short run, of `last` bytes, it is often near, and is looked for
-// byte by byte first.
+// byte by byte first; after a long one it is often far, and is looked for by wider blocks.
 fn amp_end(text: &[u8], from: usize, last: usize) -> usize
     requires { ⌜ from ≤ length (now text) ⌝ }
     ensures { λ r. ⌜ RunEnd isAmp (now (text .entry)) from r ⌝ }
 {
     let mut i = from;
-    if (last < 16) & (12 <= text.len() - from) {
+    if 16 <= last {
+        i = amp_blocks(text, from, 32);
+    } else if 12 <= text.len() - from {
         i = near_amp(text, from, 12);
         if i < from + 12 {
             return i;
@@ -145,14 +147,36 @@ fn put_bytes(text: &[u8], from: usize, out: &mut [u8]) -> usize
     i
 }
 
-// The same, by blocks, and byte by byte first after a short run.
+// Copies blocks of 32 bytes that have no `&`, among the `room` bytes from `from` on. How many bytes these are.
+fn put_wide(text: &[u8], from: usize, room: usize, out: &mut [u8]) -> usize
+    requires { ⌜ (from + room ≤ length (now text)) × (room ≤ length (now out)) ⌝ }
+    ensures { λ r. ⌜ (r ≤ room) × Plain isAmp (now (text .entry)) from (from + r) × Put (now (text .entry)) from (from + r) (now (out .entry)) (now (out .exit)) ⌝ }
+{
+    let mut k: usize = 0;
+    while 32 <= room - k {
+        let i = from + k;
+        if any_amp(text, i, 32) {
+            return k;
+        }
+        output::put_block(&text[i..i + 16], &mut out[k..]);
+        let half = k + 16;
+        let j = from + half;
+        output::put_block(&text[j..j + 16], &mut out[half..]);
+        k += 32;
+    }
+    k
+}
+
+// The next `&` from `from` on, or the text's end, with the bytes before it copied: by blocks, as amp_end looks for it.
 fn put_to_amp(text: &[u8], from: usize, last: usize, out: &mut [u8]) -> usize
     requires { ⌜ from ≤ length (now text) ⌝ }
     ensures { λ r. ⌜ RunEnd isAmp (now (text .entry)) from r × Put (now (text .entry)) from r (now (out .entry)) (now (out .exit)) ⌝ }
 {
     let room = output::least(text.len() - from, out.len());
     let mut k: usize = 0;
-    if (last < 16) & (12 <= room) {
+    if 16 <= last {
+        k = put_wide(text, from, room, out);
+    } else if 12 <= room {
         let near = put_near(text, from, 12, out);
         if near < from + 12 {
             return near;

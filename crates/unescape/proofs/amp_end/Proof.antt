@@ -1,12 +1,12 @@
-use mathlib.Core.Path.{sym, subst}
-use Rattle.unescape.proofs.Puts.{near-fits, within-all}
 use mathlib.Core.Logic.{⊎-elim}
+use mathlib.Core.Path.{sym, subst}
 use native.Mathlib.Omega.{arith}
-use Prim.Native.Nat.{_+_, _-_, ℕ}
+use Prim.Native.Nat.{ℕ, _+_, _-_}
 use lib.ListN.{length}
 use Rattle.output.specs.Runs.{Plain}
 use Rattle.output.proofs.Runs.{plain-none, plain-join}
 use Rattle.unescape.specs.Steps.{isAmp}
+use Rattle.unescape.proofs.Puts.{within-all}
 use Rattle.tokens.proofs.Search.{end-near, end-after}
 use borrow.Author.Needs.{needs}
 use Rattle.unescape.proofs.amp_end.Statement.{statement}
@@ -18,17 +18,20 @@ Inv-loop text from last i₀ i = Plain isAmp text from i
 abbrev μ-loop : tie.MeasureT-loop
 μ-loop text from last i₀ i = length text - i
 
-sub-if1 : tie.Need-sub-if1 Inv-loop μ-loop
-sub-if1 c = search needs
+amp-blocks-requires : tie.Need-amp-blocks-requires Inv-loop μ-loop
+amp-blocks-requires c κs = (c .before .before .pre, omega arith)
+
+sub-if2 : tie.Need-sub-if2 Inv-loop μ-loop
+sub-if2 c = search needs
 
 near-amp-requires : tie.Need-near-amp-requires Inv-loop μ-loop
-near-amp-requires c κs = omega (arith, near-fits (c .before .before .args .last) 12 (length (c .before .before .args .text .now) - c .before .before .args .from) (c .if1 .taken))
+near-amp-requires c κs = omega (arith, c .if2 .taken)
 
-add-if2 : tie.Need-add-if2 Inv-loop μ-loop
-add-if2 c = omega (arith, near-fits (c .before .before .before .args .last) 12 (length (c .before .before .before .args .text .now) - c .before .before .before .args .from) (c .before .if1 .taken))
+add-if3 : tie.Need-add-if3 Inv-loop μ-loop
+add-if3 c = omega (arith, c .before .if2 .taken)
 
 returns : tie.Need-returns Inv-loop μ-loop
-returns c = end-near isAmp (c .before .before .before .before .args .text .now) (c .before .before .before .before .args .from) (c .before .near-amp .ensures) (c .if2 .taken)
+returns c = end-near isAmp (c .before .before .before .before .before .args .text .now) (c .before .before .before .before .before .args .from) (c .before .near-amp .ensures) (c .if3 .taken)
 
 loop-holds : tie.Need-loop-holds Inv-loop μ-loop
 loop-holds c =
@@ -36,8 +39,12 @@ loop-holds c =
     let from = c .before .before .args .from in
     ⊎-elim
     {C = Plain isAmp text from (c .if1 .i)}
-    (λ w. subst (λ (e : ℕ). Plain isAmp text from e) (sym (w .3)) (w .1 .ensures .run))
-    (λ w. subst (λ (e : ℕ). Plain isAmp text from e) (sym (w .1)) (plain-none isAmp text from (c .before .before .pre)))
+    (λ w. subst (λ (e : ℕ). Plain isAmp text from e) (sym (w .2)) (w .1 .ensures))
+    (λ z. ⊎-elim
+    {C = Plain isAmp text from (c .if1 .i)}
+    (λ w. subst (λ (e : ℕ). Plain isAmp text from e) (sym (w .4)) (w .2 .ensures .run))
+    (λ w. subst (λ (e : ℕ). Plain isAmp text from e) (sym (w .2)) (plain-none isAmp text from (c .before .before .pre)))
+    z)
     (c .if1 .came)
 
 sub-loop : tie.Need-sub-loop Inv-loop μ-loop
@@ -49,11 +56,11 @@ any-amp-requires c κs = omega (arith, c .before .loop .inv .to, c .loop-test .t
 near-amp-requires-2 : tie.Need-near-amp-requires-2 Inv-loop μ-loop
 near-amp-requires-2 c κs = omega (arith, c .before .before .before .loop .inv .to, c .before .before .loop-test .taken)
 
-add-if4 : tie.Need-add-if4 Inv-loop μ-loop
-add-if4 c = omega (arith, c .before .before .before .before .before .loop .inv .to, c .before .before .before .before .loop-test .taken)
+add-if5 : tie.Need-add-if5 Inv-loop μ-loop
+add-if5 c = omega (arith, c .before .before .before .before .before .loop .inv .to, c .before .before .before .before .loop-test .taken)
 
 returns-2 : tie.Need-returns-2 Inv-loop μ-loop
-returns-2 c = end-after isAmp (c .before .before .before .before .before .before .before .before .before .args .text .now) (c .before .before .before .before .before .before .before .before .before .args .from) (c .before .before .before .before .before .before .loop .inv) (end-near isAmp (c .before .before .before .before .before .before .before .before .before .args .text .now) (c .before .before .before .before .before .before .loop .i) (c .before .before .near-amp2 .ensures) (c .if4 .taken))
+returns-2 c = end-after isAmp (c .before .before .before .before .before .before .before .before .before .args .text .now) (c .before .before .before .before .before .before .before .before .before .args .from) (c .before .before .before .before .before .before .loop .inv) (end-near isAmp (c .before .before .before .before .before .before .before .before .before .args .text .now) (c .before .before .before .before .before .before .loop .i) (c .before .before .near-amp2 .ensures) (c .if5 .taken))
 
 add-i : tie.Need-add-i Inv-loop μ-loop
 add-i c = omega (arith, c .before .before .before .before .loop .inv .to, c .before .before .before .loop-test .taken)
@@ -66,7 +73,7 @@ loop-again c =
     let text = c .before .before .before .before .before .before .before .args .text .now in
     let i = c .before .before .before .before .loop .i in
     plain-join isAmp text (c .before .before .before .before .before .before .before .args .from) i (i + 16) (c .before .before .before .before .loop .inv)
-    (⊎-elim {C = Plain isAmp text i (i + 16)} (λ w. within-all isAmp text i 16 (w .1 .ensures) (w .3 .left)) (λ w. c .before .before .any-amp .ensures (w .left)) (c .before .if3 .came))
+    (⊎-elim {C = Plain isAmp text i (i + 16)} (λ w. within-all isAmp text i 16 (w .1 .ensures) (w .3 .left)) (λ w. c .before .before .any-amp .ensures (w .left)) (c .before .if4 .came))
 
 bytes-amp-requires : tie.Need-bytes-amp-requires Inv-loop μ-loop
 bytes-amp-requires c κs = c .before .loop .inv .to
@@ -80,15 +87,16 @@ amp-end-spec =
     (tie.spec
     Inv-loop
     μ-loop
-    sub-if1
+    amp-blocks-requires
+    sub-if2
     near-amp-requires
-    add-if2
+    add-if3
     returns
     loop-holds
     sub-loop
     any-amp-requires
     near-amp-requires-2
-    add-if4
+    add-if5
     returns-2
     add-i
     loop-less

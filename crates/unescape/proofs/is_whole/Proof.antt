@@ -7,6 +7,7 @@ use borrow.Author.Tests.{eqb-true}
 use Rattle.output.specs.Runs.{Plain}
 use Rattle.output.proofs.Runs.{plain-join}
 use Rattle.unescape.specs.Steps.{isAmp}
+use Rattle.unescape.proofs.Puts.{plain-part}
 use borrow.Author.Needs.{needs}
 use Rattle.unescape.proofs.is_whole.Statement.{statement}
 use Rattle.unescape.proofs.is_whole.Tie as tie
@@ -48,7 +49,7 @@ returns-4 c = λ e.
     let block = c .before .before .before .before .amp-blocks2 .result in
     let before = plain-join isAmp text 0 (c .before .before .before .before .before .amp-blocks .result) block (c .before .before .before .before .before .amp-blocks .ensures) (c .before .before .before .before .amp-blocks2 .ensures) in
     let last = c .before .any-amp .ensures (c .if3 .left) in
-    plain-join isAmp text 0 block (length text) before (record { from = before .to; to = omega arith; none = λ k g l. last .none k (omega (arith, c .before .before .before .if1 .left)) (omega (arith, c .before .before .if2 .left)) })
+    plain-join isAmp text 0 block (length text) before (plain-part isAmp text block (length text) last (omega (arith, c .before .before .before .if1 .left)) (before .to) (omega (arith, c .before .before .if2 .left)))
 
 pub is-whole-spec : {M : Type 1} → statement M
 is-whole-spec =

@@ -1,5 +1,4 @@
 use native.Mathlib.Omega.{arith}
-use mathlib.Core.Path.{_≡_, ap, _∙_}
 use mathlib.Core.Logic.{⊎-elim}
 use Prim.Native.Nat.{_+_, _-_, _≤_}
 use lib.ListN.{length}
@@ -7,7 +6,7 @@ use borrow.Author.Needs.{needs}
 use borrow.Rule.Slice.PartMut.{midOf}
 use Rattle.tokens.proofs.Search.{end-near}
 use Rattle.unescape.specs.Steps.{isAmp}
-use Rattle.unescape.proofs.Puts.{Blocks, Blockwise, blocks-none, blocks-near, blocks-rest, blockwise-start, blockwise-more, piece-near, piece-laid, block-fits, near-fits, put-length}
+use Rattle.unescape.proofs.Puts.{Blocks, Blockwise, blocks-none, blocks-near, blocks-of, blocks-rest, blockwise-start, blockwise-more, piece-near, piece-laid, block-fits, put-length}
 use Rattle.unescape.proofs.put_to_amp.Statement.{statement}
 use Rattle.unescape.proofs.put_to_amp.Tie as tie
 
@@ -22,10 +21,15 @@ begun c =
     let text = c .before .before .before .before .args .text .now in
     let from = c .before .before .before .before .args .from in
     let old = c .before .before .before .before .args .out .now in
+    let T = Blocks isAmp text from old (c .if1 .out) (from + c .if1 .k) (c .if1 .k) in
     ⊎-elim
-    {C = Blocks isAmp text from old (c .if1 .out) (from + c .if1 .k) (c .if1 .k)}
-    (λ w. blocks-near isAmp text from old 12 (omega (arith, near-fits (c .before .before .before .before .args .last) 12 (c .before .least .result) (w .0 .taken), c .before .least .ensures)) (w .6) (w .7) (w .2 .ensures) (w .5 .left))
-    (λ w. blocks-none isAmp text from old (c .before .before .before .before .pre) (w .1) (w .2))
+    {C = T}
+    (λ w. blocks-of isAmp text from old {room = c .before .least .result} (omega (arith, c .before .least .ensures)) (w .5) (w .6) (w .2 .ensures))
+    (λ z. ⊎-elim
+    {C = T}
+    (λ w. blocks-near isAmp text from old 12 (omega (arith, w .1 .taken, c .before .least .ensures)) (w .7) (w .8) (w .3 .ensures) (w .6 .left))
+    (λ w. blocks-none isAmp text from old (c .before .before .before .before .pre) (w .2) (w .3))
+    z)
     (c .if1 .came)
 
 sub-least : tie.Need-sub-least Inv-loop μ-loop
@@ -34,33 +38,34 @@ sub-least c = search needs
 least-requires : tie.Need-least-requires Inv-loop μ-loop
 least-requires c κs = tt
 
-put-near-requires : tie.Need-put-near-requires Inv-loop μ-loop
-put-near-requires c κs =
-    let n = near-fits (c .before .before .before .before .before .args .last) 12 (c .before .before .least .result) (c .before .if1 .taken) in
-    (omega (arith, n, c .before .before .least .ensures), omega (arith, n, c .before .before .least .ensures))
+put-wide-requires : tie.Need-put-wide-requires Inv-loop μ-loop
+put-wide-requires c κs = (omega (arith, c .before .before .least .ensures, c .before .before .before .before .before .pre), omega (arith, c .before .before .least .ensures))
 
-add-if2 : tie.Need-add-if2 Inv-loop μ-loop
-add-if2 c = omega (arith, near-fits (c .before .before .before .before .before .before .before .before .args .last) 12 (c .before .before .before .before .before .least .result) (c .before .before .before .before .if1 .taken), c .before .before .before .before .before .least .ensures)
+put-near-requires : tie.Need-put-near-requires Inv-loop μ-loop
+put-near-requires c κs = (omega (arith, c .before .if2 .taken, c .before .before .before .least .ensures), omega (arith, c .before .if2 .taken, c .before .before .before .least .ensures))
+
+add-if3 : tie.Need-add-if3 Inv-loop μ-loop
+add-if3 c = omega (arith, c .before .before .before .before .if2 .taken, c .before .before .before .before .before .before .least .ensures)
 
 same-length : tie.Need-same-length Inv-loop μ-loop
 same-length c = search needs
 
 returns : tie.Need-returns Inv-loop μ-loop
-returns c = (end-near isAmp (c .before .before .before .before .before .before .before .before .before .args .text .now) (c .before .before .before .before .before .before .before .before .before .args .from) (c .before .before .before .put-near .ensures .0) (c .if2 .taken), c .before .before .before .put-near .ensures .1)
+returns c = (end-near isAmp (c .before .before .before .before .before .before .before .before .before .before .args .text .now) (c .before .before .before .before .before .before .before .before .before .before .args .from) (c .before .before .before .put-near .ensures .0) (c .if3 .taken), c .before .before .before .put-near .ensures .1)
 
 loop-holds : tie.Need-loop-holds Inv-loop μ-loop
 loop-holds c =
     let text = c .before .before .before .before .args .text .now in
     let from = c .before .before .before .before .args .from in
-    let old = c .before .before .before .before .args .out .now in
     let room = c .before .least .result in
-    let held : (c .if1 .k ≤ room) × (length (c .if1 .out) ≡ length old) =
+    let fits =
     ⊎-elim
-    {C = (c .if1 .k ≤ room) × (length (c .if1 .out) ≡ length old)}
-    (λ w. (omega (arith, w .7, near-fits (c .before .before .before .before .args .last) 12 room (w .0 .taken)), ap length (w .6) ∙ put-length text from old (w .2 .result) (w .2 .ensures .1)))
-    (λ w. (omega (arith, w .2), ap length (w .1)))
+    {C = c .if1 .k ≤ room}
+    (λ w. omega (arith, w .6, w .2 .ensures .0))
+    (λ z. ⊎-elim {C = c .if1 .k ≤ room} (λ w. omega (arith, w .8, w .1 .taken)) (λ w. omega (arith, w .3)) z)
     (c .if1 .came) in
-    blockwise-start isAmp text from room (c .if1 .out) (c .if1 .k) (held .0) (omega (arith, held .1, c .before .least .ensures)) (omega (arith, c .before .least .ensures, c .before .before .before .before .pre))
+    let same = put-length text from (c .before .before .before .before .args .out .now) (from + c .if1 .k) (begun (c) .holds) in
+    blockwise-start isAmp text from room (c .if1 .out) (c .if1 .k) fits (omega (arith, same, c .before .least .ensures)) (omega (arith, c .before .least .ensures, c .before .before .before .before .pre))
 
 sub-loop : tie.Need-sub-loop Inv-loop μ-loop
 sub-loop c = c .loop .inv .count
@@ -86,22 +91,22 @@ put-near-requires-2 c κs =
     let more : i + 16 ≤ length (c .before .before .before .before .before .before .before .before .before .before .args .text .now) = omega (arith, c .before .before .before .before .before .loop .inv .count, c .before .before .before .before .before .loop .inv .inside, c .before .before .before .before .loop-test .taken) in
     (more, block-fits (c .before .before .before .before .before .before .before .before .before .before .args .text .now) i (c .before .before .before .before .before .loop .out) (c .before .before .before .before .before .loop .k) more (omega (arith, c .before .before .before .before .before .loop .inv .count, c .before .before .before .before .before .loop .inv .within, c .before .before .before .before .loop-test .taken)) .1)
 
-add-if4 : tie.Need-add-if4 Inv-loop μ-loop
-add-if4 c = omega (arith, c .before .before .before .before .before .before .before .before .loop .inv .count, c .before .before .before .before .before .before .before .before .loop .inv .inside, c .before .before .before .before .before .before .before .loop-test .taken)
+add-if5 : tie.Need-add-if5 Inv-loop μ-loop
+add-if5 c = omega (arith, c .before .before .before .before .before .before .before .before .loop .inv .count, c .before .before .before .before .before .before .before .before .loop .inv .inside, c .before .before .before .before .before .before .before .loop-test .taken)
 
 same-length-2 : tie.Need-same-length-2 Inv-loop μ-loop
 same-length-2 c =
     let text = c .before .before .before .before .before .before .before .before .before .before .before .before .before .before .args .text .now in
     let from = c .before .before .before .before .before .before .before .before .before .before .before .before .before .before .args .from in
     let old = c .before .before .before .before .before .before .before .before .before .before .before .before .before .before .args .out .now in
-    put-length text from old (c .before .before .before .put-near2 .result) (blocks-rest isAmp text from old (c .before .before .before .before .before .before .before .before .before .loop .inv .goes old (begun (c .before .before .before .before .before .before .before .before .before .before))) (end-near isAmp text (from + c .before .before .before .before .before .before .before .before .before .loop .k) (c .before .before .before .put-near2 .ensures .0) (c .if4 .taken), c .before .before .before .put-near2 .ensures .1) .1)
+    put-length text from old (c .before .before .before .put-near2 .result) (blocks-rest isAmp text from old (c .before .before .before .before .before .before .before .before .before .loop .inv .goes old (begun (c .before .before .before .before .before .before .before .before .before .before))) (end-near isAmp text (from + c .before .before .before .before .before .before .before .before .before .loop .k) (c .before .before .before .put-near2 .ensures .0) (c .if5 .taken), c .before .before .before .put-near2 .ensures .1) .1)
 
 returns-2 : tie.Need-returns-2 Inv-loop μ-loop
 returns-2 c =
     let text = c .before .before .before .before .before .before .before .before .before .before .before .before .before .before .args .text .now in
     let from = c .before .before .before .before .before .before .before .before .before .before .before .before .before .before .args .from in
     let old = c .before .before .before .before .before .before .before .before .before .before .before .before .before .before .args .out .now in
-    blocks-rest isAmp text from old (c .before .before .before .before .before .before .before .before .before .loop .inv .goes old (begun (c .before .before .before .before .before .before .before .before .before .before))) (end-near isAmp text (from + c .before .before .before .before .before .before .before .before .before .loop .k) (c .before .before .before .put-near2 .ensures .0) (c .if4 .taken), c .before .before .before .put-near2 .ensures .1)
+    blocks-rest isAmp text from old (c .before .before .before .before .before .before .before .before .before .loop .inv .goes old (begun (c .before .before .before .before .before .before .before .before .before .before))) (end-near isAmp text (from + c .before .before .before .before .before .before .before .before .before .loop .k) (c .before .before .before .put-near2 .ensures .0) (c .if5 .taken), c .before .before .before .put-near2 .ensures .1)
 
 add-put-block : tie.Need-add-put-block Inv-loop μ-loop
 add-put-block c = omega (arith, c .before .before .before .before .loop .inv .count, c .before .before .before .before .loop .inv .inside, c .before .before .before .loop-test .taken)
@@ -143,10 +148,10 @@ loop-again c =
     let mid = midOf k (length out - k) out in
     let space = block-fits text (from + k) out k more (omega (arith, c .before .before .before .before .loop .inv .count, c .before .before .before .before .loop .inv .within, c .before .before .before .loop-test .taken)) .1 in
     ⊎-elim
-    {C = Blockwise isAmp text from (c .before .before .before .before .before .before .least .result) (c .before .before .before .before .before .if1 .out) (c .before .before .before .before .before .if1 .k) (c .if3 .out) (k + 16)}
+    {C = Blockwise isAmp text from (c .before .before .before .before .before .before .least .result) (c .before .before .before .before .before .if1 .out) (c .before .before .before .before .before .if1 .k) (c .if4 .out) (k + 16)}
     (λ w. blockwise-more isAmp text from (c .before .before .before .before .before .before .least .result) (c .before .before .before .before .before .if1 .out) (c .before .before .before .before .before .if1 .k) (c .before .before .before .before .loop .inv) (c .before .before .before .loop-test .taken) (piece-near isAmp text (from + k) 16 mid (w .2 .ensures) (w .5 .left)) (w .6))
     (λ w. blockwise-more isAmp text from (c .before .before .before .before .before .before .least .result) (c .before .before .before .before .before .if1 .out) (c .before .before .before .before .before .if1 .k) (c .before .before .before .before .loop .inv) (c .before .before .before .loop-test .taken) (c .before .any-amp .ensures (w .0 .left), piece-laid text (from + k) 16 mid more space (w .3 .ensures)) (w .6))
-    (c .if3 .came)
+    (c .if4 .came)
 
 add-put-bytes : tie.Need-add-put-bytes Inv-loop μ-loop
 add-put-bytes c = omega (arith, c .before .before .loop .inv .count, c .before .before .loop .inv .inside)
@@ -185,8 +190,9 @@ put-to-amp-spec =
     μ-loop
     sub-least
     least-requires
+    put-wide-requires
     put-near-requires
-    add-if2
+    add-if3
     same-length
     returns
     loop-holds
@@ -197,7 +203,7 @@ put-to-amp-spec =
     part-put-near-start
     part-put-near-end
     put-near-requires-2
-    add-if4
+    add-if5
     same-length-2
     returns-2
     add-put-block
