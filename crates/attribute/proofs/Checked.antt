@@ -7,7 +7,6 @@ use lib.Dec.{ltb}
 use borrow.Author.Tests.{ltb-false}
 use Rattle.text.specs.Bytes.{pick}
 use Rattle.text.specs.Call.{versionCheck}
-use Rattle.text.specs.declared.Answer.{Answer}
 use Rattle.text.specs.declared.Answer.the-variants.{Done, Refused}
 use Rattle.attribute.specs.Checks.{settingsCheck}
 

@@ -10,7 +10,7 @@ use lib.Seq.{take-append-seam}
 use borrow.Author.Tests.{ltb-false, le-ltb}
 use Rattle.text.specs.Bytes.{pick}
 use Rattle.text.specs.Version.{Rule}
-use Rattle.text.specs.Call.{Called, called, callOf, laid, finish}
+use Rattle.text.specs.Call.{called, callOf, laid, finish}
 use Rattle.text.specs.declared.Answer.{Answer}
 use Rattle.text.specs.declared.Answer.the-variants.{Done, Refused}
 use Rattle.canonical.specs.Canonical.{canonical}

@@ -1,5 +1,5 @@
 -- A step of the text of a call: a stop other than `&`, a reference that is kept, or a new one. Assumes nothing.
-use mathlib.Core.Path.{_≡_, refl, ap, subst, _∙_}
+use mathlib.Core.Path.{_≡_, refl, ap, subst}
 use mathlib.Core.Logic.{_≢_}
 use mathlib.Core.Bool.{Bool, true, false}
 use mathlib.Core.List.{List, [], _∷_}
@@ -10,17 +10,17 @@ use borrow.Rule.Slice.PartMut.{midOf, putMid}
 use Rattle.eols.specs.Stops.{ruleFor}
 use Rattle.eols.specs.declared.Step.{Step as Blanked}
 use Rattle.output.specs.Over.{over}
-use Rattle.tokens.specs.Tokens.{tokenOf, nameAt, referenceAt}
+use Rattle.tokens.specs.Tokens.{nameAt, referenceAt}
 use Rattle.tokens.specs.Outcome.{done}
-use Rattle.tokens.specs.Walking.{headAt, nextAt, Stepped}
+use Rattle.tokens.specs.Walking.{nextAt, Stepped}
 use Rattle.tokens.specs.Seen.{Shifts, metAt, widthOf, Repeated, Again, Remembered}
 use Rattle.tokens.specs.Memory.{Walk, Memory, Advanced}
 use Rattle.tokens.specs.declared.Step.{Step}
 use Rattle.tokens.specs.declared.Step.the-variants.{Next, Stopped}
-use Rattle.tokens.proofs.Steps.{stepped-as, stepped-told, stepped-refused}
+use Rattle.tokens.proofs.Steps.{stepped-told}
 use Rattle.tokens.proofs.Memory.{advanced-again, advanced-once, advanced-kept}
 use Rattle.attribute.specs.Heads.{attributeHead}
-use Rattle.attribute.specs.Walk.{Settings, walk, reading, readingOf}
+use Rattle.attribute.specs.Walk.{Settings, reading, readingOf}
 use Rattle.attribute.specs.Steps.{stopByte, stopAnswer, outcomeAt, Blank, CountedStep, walking}
 use Rattle.attribute.proofs.Single.{zero-stepped, blank-stepped}
 use Rattle.attribute.proofs.Shifted.{stop-shifts}

@@ -12,18 +12,15 @@ use lib.ListN.{length, drop, getD, length-drop}
 use lib.Seq.{drop-cons}
 use borrow.Author.Tests.{eqb-true, eqb-false, eq-eqb, ne-eqb, leb-true, ltb-true, ltb-false}
 use Rattle.text.specs.Bytes.{pick, begins}
-use Rattle.text.specs.Version.{Rule, xml10, xml11}
-use Rattle.text.proofs.Bytes.{pick-both, pick-by, or-left, or-right, and-left, and-right}
+use Rattle.text.proofs.Bytes.{pick-both, pick-by, or-left, or-right, and-left}
 use Rattle.eols.specs.LineEnds.{lineEnd}
 use Rattle.eols.specs.Stops.{ruleFor}
-use Rattle.eols.specs.declared.Step.{Step}
 use Rattle.eols.proofs.LineEnds.{none10, none11, lf-alone, line-end-fits, common-plain as common-in-lines}
-use Rattle.tokens.specs.Tokens.{Stop, kept, space, number, named, Token, copy, stop, Head, head, tokenOf, Name, ended, endless, nameAt, referenceTo, referenceAt}
-use Rattle.tokens.specs.Outcome.{Outcome, done}
+use Rattle.tokens.specs.Tokens.{kept, space, number, named, Token, copy, stop, Head, head, tokenOf, Name, ended, endless, nameAt, referenceTo, referenceAt}
 use Rattle.output.specs.Runs.{Plain}
-use Rattle.tokens.specs.Walking.{RunEnd, Copies, headAt, nextAt, outcomeOf}
+use Rattle.tokens.specs.Walking.{RunEnd, Copies, headAt}
 use Rattle.attribute.specs.Heads.{spaceOr, otherHead, attributeHead}
-use Rattle.attribute.specs.Walk.{Settings, answer}
+use Rattle.attribute.specs.Walk.{answer}
 use Rattle.attribute.specs.Steps.{stopByte, Blank}
 
 -- ---- bytes told apart by one comparison

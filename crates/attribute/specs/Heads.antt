@@ -1,12 +1,12 @@
 -- How an attribute value is cut into tokens (document 01, Attribute walk; XML 1.0 and 1.1, 2.11 and 3.3.3). Assumes nothing.
 use Prim.Native.Nat.{ℕ, zero, suc}
-use mathlib.Core.Bool.{Bool, false, _||_}
+use mathlib.Core.Bool.{false, _||_}
 use mathlib.Core.List.{List, _∷_}
 use lib.Dec.{eqb}
 use Rattle.text.specs.Bytes.{pick}
 use Rattle.text.specs.Version.{Rule, xml10, xml11}
 use Rattle.eols.specs.LineEnds.{lineEnd}
-use Rattle.tokens.specs.Tokens.{Stop, kept, space, copy, stop, Head, head, nameAt, referenceAt}
+use Rattle.tokens.specs.Tokens.{kept, space, copy, stop, Head, head, nameAt, referenceAt}
 
 -- one line end of the version becomes one space
 unfoldable pub spaceOr : ℕ → Head → Head

@@ -1,6 +1,5 @@
 -- What a name is bound to (document 01, Entity table; XML 1.0, 4.2 and 4.6). Assumes nothing.
 use Prim.Native.Nat.{ℕ, _+_, _-_, _≤_, _<_}
-use mathlib.Core.Path.{_≡_}
 use mathlib.Core.List.{List, [], _∷_}
 use lib.ListN.{length}
 use Rattle.text.specs.Bytes.{pick, sameBytes}

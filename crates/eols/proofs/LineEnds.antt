@@ -1,23 +1,21 @@
 -- Laws of line ends: the head of a text, runs, length. Assumes nothing.
 use mathlib.Core.Path.{_≡_, refl, sym, ap, _∙_}
 use mathlib.Core.Bool.{Bool, true, false, _&&_, _||_, true≢false}
-use mathlib.Core.List.{List, [], _∷_, _++_}
+use mathlib.Core.List.{List, [], _∷_}
 use Prim.Native.Nat.{ℕ, zero, suc, _+_, _-_, _≤_, _<_, zero-le, suc-le-suc}
 use native.Mathlib.Omega.{arith}
 use native.Mathlib.Nat.{le-refl}
 use native.Mathlib.Numerals.{add-one}
 use lib.Dec.{eqb, leb, ltb}
-use lib.ListN.{length, take, drop, getD, length-drop, drop-of-length-le}
+use lib.ListN.{length, drop, getD, length-drop, drop-of-length-le}
 use lib.Seq.{drop-cons, drop-drop}
 use borrow.Author.Tests.{eqb-true, eqb-false, eq-eqb, ne-eqb, leb-true, lt-ltb}
-use Rattle.text.specs.Bytes.{pick, begins}
+use Rattle.text.specs.Bytes.{begins}
 use Rattle.text.specs.Version.{Rule, xml10, xml11, ruleOf}
-use Rattle.text.proofs.Bytes.{pick-by, pick-both, and-left, and-right, or-left, or-right, and-true}
-use Rattle.eols.specs.LineEnds.{lineEnds, widthOf, lineEnd, eolByte, eolSkip, eolsFrom, eols}
-use Rattle.output.specs.Runs.{Plain}
+use Rattle.text.proofs.Bytes.{pick-by, and-left, and-right, or-left, or-right, and-true}
+use Rattle.eols.specs.LineEnds.{lineEnds, widthOf, lineEnd, eolByte, eolSkip, eolsFrom}
 use Rattle.output.proofs.Writers.{Copies}
 use Rattle.eols.specs.Stops.{ruleFor, stopByte, Stepped}
-use Rattle.eols.specs.declared.Step.{Step}
 
 -- to skip bytes is to start later
 pub eols-skip : (r : Rule) (k : ℕ) (bs : List ℕ) → eolsFrom r k bs ≡ eolsFrom r 0 (drop k bs)

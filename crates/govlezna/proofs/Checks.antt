@@ -5,7 +5,7 @@ use Prim.Native.Nat.{ℕ}
 use lib.ListN.{length}
 use borrow.Author.Tests.{eq-eqb}
 use Rattle.text.specs.Utf8.{utf8End}
-use Rattle.text.specs.Call.{Called, andThen, callOf, guarded, lengthCheck, utf8Check, textCheck, passed}
+use Rattle.text.specs.Call.{andThen, callOf, guarded, lengthCheck, utf8Check, textCheck, passed}
 use Rattle.text.specs.declared.Answer.{Answer}
 use Rattle.text.specs.declared.Answer.the-variants.{Done, Refused}
 

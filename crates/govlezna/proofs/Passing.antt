@@ -4,7 +4,7 @@ use mathlib.Core.List.{List}
 use Prim.Native.Nat.{ℕ, _≤_}
 use native.Mathlib.Omega.{arith}
 use lib.ListN.{length}
-use Rattle.text.specs.Call.{andThen, lengthCheck, utf8Check, textCheck, argumentCheck}
+use Rattle.text.specs.Call.{andThen, lengthCheck, utf8Check}
 use Rattle.text.specs.declared.Answer.{Answer}
 use Rattle.text.specs.declared.Answer.the-variants.{Done, Refused}
 use Rattle.text.proofs.Call.{checked-length}

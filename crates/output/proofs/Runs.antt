@@ -6,7 +6,7 @@ use Prim.Native.Nat.{ℕ, _+_, _-_, _≤_, _<_, zero-le}
 use native.Mathlib.Omega.{arith}
 use native.Mathlib.Nat.{le-refl, le-trans}
 use lib.Dec.{ltb}
-use lib.ListN.{length, take, drop, getD, set, length-drop, length-take}
+use lib.ListN.{length, take, drop, getD, set, length-drop}
 use lib.Seq.{length-take-le, getD-drop}
 use borrow.Author.Tests.{ltb-true, ltb-false}
 use borrow.Rule.Slice.PartMut.{midOf, putMid}

@@ -7,7 +7,6 @@ use native.Mathlib.Omega.{arith}
 use lib.ListN.{length, take, drop, length-append, length-drop}
 use lib.Seq.{length-take-le}
 use borrow.Rule.Slice.PartMut.{midOf, putMid}
-use Rattle.text.specs.Call.{laid}
 use Rattle.output.specs.Runs.{Plain, Copied, Room}
 use Rattle.output.proofs.Laid.{rest-part}
 use Rattle.output.proofs.Written.{Written, written-as, written-more, to-come, same-length}

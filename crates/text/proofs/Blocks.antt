@@ -1,7 +1,7 @@
 -- Blocks: bytes that fit after the three before them are whole characters up to the last first byte. Assumes nothing.
-use mathlib.Core.Path.{_≡_, refl, ap, sym, _∙_}
+use mathlib.Core.Path.{_≡_, refl, sym, _∙_}
 use mathlib.Core.Bool.{Bool, true, false, not, _&&_, _||_, Bool·beq, true≢false}
-use mathlib.Core.List.{List, [], _∷_, _++_}
+use mathlib.Core.List.{List, [], _∷_}
 use Prim.Native.Nat.{ℕ, zero, suc, _+_, _-_, _≤_, _<_}
 use native.Mathlib.Omega.{arith}
 use native.Mathlib.Numerals.{add-one}
@@ -10,9 +10,9 @@ use lib.Dec.{eqb, leb, ltb}
 use lib.ListN.{length, take, drop, getD, length-drop}
 use lib.Seq.{take-suc, getD-drop, take-add}
 use borrow.Author.Count.{below-none, below-more}
-use borrow.Author.Tests.{le-leb, lt-leb, leb-true, leb-false, ltb-true, ltb-false, lt-ltb, le-ltb, eqb-true, eqb-false, eq-eqb, ne-eqb, not-false}
-use Rattle.text.specs.Bytes.{pick, within}
-use Rattle.text.specs.Utf8.{State, between, one, two, three, after-e0, after-ed, after-f0, after-f4, broken, first, next, after, WellFormed}
+use borrow.Author.Tests.{le-leb, lt-leb, leb-true, leb-false, ltb-true, ltb-false, lt-ltb, le-ltb, eqb-true, eqb-false, eq-eqb, ne-eqb}
+use Rattle.text.specs.Bytes.{pick}
+use Rattle.text.specs.Utf8.{State, between, one, two, three, first, next, after, WellFormed}
 use Rattle.text.specs.Blocks.{Prefix, Whole, AtMost, Ascii, Fitting, Edge, trail, misfit, misfit2, misfit3}
 use Rattle.text.proofs.Bytes.{inside, and-left, and-right, or-left, or-right}
 use Rattle.text.proofs.FirstByte.{first-ascii, first-one, first-e0, first-ed, first-two, first-f0, first-three, first-f4}

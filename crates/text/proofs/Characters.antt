@@ -1,8 +1,8 @@
 -- One character: what its first byte tells, and what follows from each of its bytes. Assumes nothing.
-use mathlib.Core.Path.{_≡_, refl, ap, sym, _∙_}
-use mathlib.Core.Bool.{Bool, true, false}
+use mathlib.Core.Path.{_≡_, refl, ap, _∙_}
+use mathlib.Core.Bool.{true, false}
 use mathlib.Core.List.{List, [], _∷_}
-use Prim.Native.Nat.{ℕ, zero, suc, _+_, _-_, _≤_, _<_}
+use Prim.Native.Nat.{ℕ, suc, _+_, _-_, _≤_, _<_}
 use native.Mathlib.Omega.{arith}
 use lib.Dec.{eqb}
 use borrow.Author.Tests.{ne-eqb}
@@ -10,8 +10,8 @@ use native.Mathlib.Numerals.{add-one}
 use lib.ListN.{length, take, drop, getD, length-drop}
 use lib.Seq.{drop-cons}
 use Rattle.text.specs.Bytes.{pick, within}
-use Rattle.text.specs.Utf8.{State, between, one, two, three, after-e0, after-ed, after-f0, after-f4, broken, first, next, isBetween, WellFormed, utf8End, endFrom}
-use Rattle.text.specs.Blocks.{Whole, Character, Leads, wanted}
+use Rattle.text.specs.Utf8.{State, one, two, three, broken, first, next, isBetween, WellFormed, utf8End, endFrom}
+use Rattle.text.specs.Blocks.{Character, Leads, wanted}
 use Rattle.text.specs.declared.validate.Lead.{Lead}
 use Rattle.text.proofs.Bytes.{pick-both}
 use Rattle.text.proofs.FirstByte.{first-ascii}

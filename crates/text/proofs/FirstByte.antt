@@ -1,11 +1,9 @@
 -- The state after a character's first byte, range by range. Assumes nothing.
 use mathlib.Core.Path.{_≡_}
-use mathlib.Core.Bool.{true, false}
 use Prim.Native.Nat.{ℕ, _≤_, _<_}
 use native.Mathlib.Omega.{arith}
-use lib.Dec.{eqb, leb}
 use borrow.Author.Tests.{le-leb, lt-leb, eq-eqb, ne-eqb}
-use Rattle.text.specs.Utf8.{State, between, one, two, three, after-e0, after-ed, after-f0, after-f4, broken, first}
+use Rattle.text.specs.Utf8.{between, one, two, three, after-e0, after-ed, after-f0, after-f4, broken, first}
 use Rattle.text.proofs.Bytes.{inside, above, below}
 
 pub first-ascii : (b : ℕ) → b < 0x80 → first b ≡ between
