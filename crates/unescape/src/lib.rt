@@ -349,7 +349,7 @@ fn unescape_runs(text: &[u8], list: &[u8], pool: &[u8], out: &mut [u8]) -> Answe
     let mut seen = [0u64; 21];
     let mut i: usize = 0;
     let mut len: usize = 0;
-    let mut last: usize = 0;
+    let mut last: usize = 16;
     loop {
         let at = output::least(len, out.len());
         let e = run_to_amp(text, i, last, &mut out[at..]);
