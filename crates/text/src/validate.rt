@@ -387,7 +387,8 @@ fn last_word(text: &[u8], from: usize) -> usize
     text.len()
 }
 
-// The end of the longest well-formed prefix. A text shorter than a word goes by none of the stages.
+// The end of the longest well-formed prefix. A text shorter than a word goes by none of the stages, one of whole blocks of ASCII by the
+// first alone.
 pub fn utf8_end(text: &[u8]) -> usize
     ensures { λ r. ⌜ r ≡ utf8End (now (text .entry)) ⌝ }
 {
@@ -395,6 +396,9 @@ pub fn utf8_end(text: &[u8]) -> usize
         return last_chars(text, 0);
     }
     let far = ascii_blocks(text, 0, 8);
+    if far == text.len() {
+        return far;
+    }
     let near = ascii_blocks(text, far, 4);
     let blocks = skip_blocks(text, near);
     let words = ascii_blocks(text, blocks, 1);

@@ -1,5 +1,5 @@
 use native.Mathlib.Omega.{arith}
-use Rattle.text.proofs.Longest.{none-prefix}
+use Rattle.text.proofs.Longest.{none-prefix, end-all}
 use borrow.Author.Needs.{needs}
 use Rattle.text.proofs.validate.utf8_end.Statement.{statement}
 use Rattle.text.proofs.validate.utf8_end.Tie as tie
@@ -12,6 +12,9 @@ returns c = search needs
 
 ascii-blocks-requires : tie.Need-ascii-blocks-requires
 ascii-blocks-requires c κs = (none-prefix _, omega arith)
+
+returns-2 : tie.Need-returns-2
+returns-2 c = end-all _ _ (c .before .ascii-blocks .ensures) (omega (arith, c .if2 .taken))
 
 ascii-blocks-requires-2 : tie.Need-ascii-blocks-requires-2
 ascii-blocks-requires-2 c κs = search needs
@@ -28,8 +31,8 @@ last-word-requires c κs = search needs
 last-chars-requires-2 : tie.Need-last-chars-requires-2
 last-chars-requires-2 c κs = search needs
 
-returns-2 : tie.Need-returns-2
-returns-2 c = search needs
+returns-3 : tie.Need-returns-3
+returns-3 c = search needs
 
 pub utf8-end-spec : {M : Type 1} → statement M
 utf8-end-spec =
@@ -38,9 +41,10 @@ utf8-end-spec =
     last-chars-requires
     returns
     ascii-blocks-requires
+    returns-2
     ascii-blocks-requires-2
     skip-blocks-requires
     ascii-blocks-requires-3
     last-word-requires
     last-chars-requires-2
-    returns-2)
+    returns-3)
