@@ -41,7 +41,7 @@ fn ends_run(b: u8, newer: bool) -> bool
     is_stop(b, newer)
 }
 
-// Is one of the `size` bytes from i on a stop? Most blocks of XML 1.0 need the first test alone.
+// Is one of the `size` bytes from i on a stop? Under XML 1.0 the first test tells by itself.
 fn any_stop(text: &[u8], i: usize, newer: bool, size: usize) -> bool
     requires { ⌜ i + size ≤ length (now text) ⌝ }
     ensures { λ r. ⌜ (r ≡ false → Plain (stopByte newer) (now (text .entry)) i (i + size)) ⌝ }
