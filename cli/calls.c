@@ -69,18 +69,13 @@ static uint32_t check(const struct request *q, uint64_t answer[2])
     return number;
 }
 
-uint32_t next_piece(const struct request *q, struct govlezna_cursor *cursor, uint64_t answer[2])
-{
-    return govlezna_cdata_next(q->text, q->text_length, cursor, answer);
-}
-
 uint32_t make_call(const struct request *q, struct outcome *o)
 {
     struct govlezna_cursor cursor = { 0, 0 };
     *o = (struct outcome){ 0, { 0, 0 }, NULL };
     switch (q->arguments->command) {
     case TRIM: return o->number = trim(q, o->answer);
-    case CDATA: return o->number = next_piece(q, &cursor, o->answer);
+    case CDATA: return o->number = govlezna_cdata_next(q->text, q->text_length, &cursor, o->answer);
     case CHECK: return o->number = check(q, o->answer);
     default: return write_result(q, o);
     }

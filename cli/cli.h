@@ -66,6 +66,8 @@ void free_request(struct request *request);
 
 /* calls.c */
 uint32_t make_call(const struct request *request, struct outcome *outcome);
+
+/* pieces.c */
 uint32_t next_piece(const struct request *request, struct govlezna_cursor *cursor, uint64_t answer[2]);
 
 /* place.c */

@@ -212,6 +212,27 @@ sizes() {
     refuses 6 'too long' check a --table "$room/list" "$room/pool"
 }
 
+# The library gets windows of the text, the first of 64 bytes and each twice as long (cli/pieces.c); the pieces are those of
+# the whole text. Cuts and characters at the ends of the first windows; then nothing but cuts, which take about a second.
+sections() {
+    local cut=']]>' between=']]]]><![CDATA[>' before middle text
+    for before in {59..65} {187..193} {443..449}; do
+        for middle in ']]>' ']]]>]]>' 'ß]]>' ']€]>]]>' ']]𝄞'; do
+            text=$(printf 'a%.0s' $(seq "$before"))$middle$(printf 'b%.0s' {1..70})
+            gives "<![CDATA[${text//"$cut"/$between}]]>" cdata "$text"
+        done
+    done
+    text=$(printf 'a%.0s' {1..100})
+    gives '{"command":"cdata","number":0,"pieces":[[0,102],[102,103],[205,101]]}'$'\n' cdata --json "$text]]>$text]]>$text"
+    yes "$cut" | tr -d '\n' | head -c 16777216 >"$room/cuts"
+    { printf '<![CDATA['; sed "s/$cut/$between/g" "$room/cuts"; printf ']]>'; } >"$room/sections"
+    timeout 60 "$program" cdata --file "$room/cuts" >"$room/out" 2>"$room/err"
+    status=$?
+    cases=$((cases + 1))
+    [ "$status" -eq 0 ] && cmp -s "$room/sections" "$room/out"
+    expect $? cdata 16 MiB of cuts
+}
+
 usage() {
     misused 'govlezna COMMAND'
     misused 'no such command' frobnicate a
@@ -246,6 +267,7 @@ refusals
 places
 files
 sizes
+sections
 usage
 echo "$cases runs, $wrong wrong"
 [ "$wrong" -eq 0 ]
