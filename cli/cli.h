@@ -60,6 +60,7 @@ void read_arguments(int argc, char **argv, struct arguments *arguments);
 
 /* input.c. Whatever goes wrong ends the program with status 2. */
 void fail(const char *what, const char *why);
+void flush_output(void);
 void *allocate(size_t length);
 void read_request(const struct arguments *arguments, struct request *request);
 void free_request(struct request *request);

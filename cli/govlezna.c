@@ -3,10 +3,8 @@
 
 #include "cli.h"
 
-#include <errno.h>
 #include <inttypes.h>
 #include <stdlib.h>
-#include <string.h>
 #include <unistd.h>
 
 static void put(const void *bytes, size_t length)
@@ -41,7 +39,7 @@ static void put_success(const struct request *q, const struct outcome *o)
     case TRIM: put(q->text + o->answer[0], o->answer[1]); break;
     default: put(o->bytes, o->answer[0]); break;
     }
-    if (isatty(STDOUT_FILENO))
+    if (!ferror(stdout) && isatty(STDOUT_FILENO)) /* isatty sets errno, which after an error says what it was */
         putchar('\n');
 }
 
@@ -64,8 +62,7 @@ int main(int argc, char **argv)
     read_request(&arguments, &request);
     make_call(&request, &outcome);
     answer(&request, &outcome);
-    if (fflush(stdout) != 0 || ferror(stdout))
-        fail("standard output", strerror(errno));
+    flush_output();
     free(outcome.bytes);
     free_request(&request);
     free(arguments.entities);

@@ -11,6 +11,13 @@ void fail(const char *what, const char *why)
     exit(2);
 }
 
+/* What was written has to be out, or the program fails. */
+void flush_output(void)
+{
+    if (fflush(stdout) != 0 || ferror(stdout))
+        fail("standard output", strerror(errno));
+}
+
 /* Never NULL, for a length of 0 too. */
 void *allocate(size_t length)
 {

@@ -202,6 +202,7 @@ void read_arguments(int argc, char **argv, struct arguments *a)
     for (int at = 1; at < argc && strcmp(argv[at], "--") != 0; at++)
         if (strcmp(argv[at], "--help") == 0) {
             fputs(help, stdout);
+            flush_output();
             exit(0);
         }
     *a = (struct arguments){ .command = read_command(argv[1]), .depth = 128, .limit = 10000 };

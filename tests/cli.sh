@@ -186,10 +186,18 @@ files() {
     misused "$room/none: No such file" escape --file "$room/none"
     misused "$room/none: No such file" unescape a --table "$room/list" "$room/none"
     misused "$room: Is a directory" escape --file "$room"
-    "$program" escape a >/dev/full 2>"$room/err"
+    full_disk escape a
+    full_disk --help
+}
+
+# full_disk ARGUMENTS..: status 2, and the reason, where nothing can be written.
+full_disk() {
+    "$program" "$@" </dev/null >/dev/full 2>"$room/err"
     status=$?
-    [ "$status" -eq 2 ] && grep -q 'standard output: No space left' "$room/err"
-    expect $? escape to a full disk
+    cases=$((cases + 1))
+    : >"$room/out"
+    [ "$status" -eq 2 ] && [ "$(cat "$room/err")" = 'govlezna: standard output: No space left on device' ]
+    expect $? "$@" '>/dev/full'
 }
 
 # The greatest text and one byte more, from a file and from a stream without end; the greatest table and one byte more.
@@ -199,6 +207,7 @@ sizes() {
     run escape --file "$room/most"
     [ "$status" -eq 0 ] && cmp -s "$room/most" "$room/out"
     expect $? escape the greatest text
+    full_disk escape --file "$room/most"
     refuses 1 'over 16,777,216 bytes' escape --file "$room/over"
     input=/dev/zero
     refuses 1 'over 16,777,216 bytes' check
