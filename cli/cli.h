@@ -54,6 +54,9 @@ struct place {
     size_t opened;         /* where in the text given the reference stands that leads there */
 };
 
+/* help.c */
+extern const char help[];
+
 /* options.c */
 const char *command_name(enum command command);
 void read_arguments(int argc, char **argv, struct arguments *arguments);

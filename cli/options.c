@@ -10,45 +10,6 @@ static const char *const commands[] = { "escape", "unescape", "normalize", "cano
 
 #define COMMANDS (sizeof commands / sizeof commands[0])
 
-static const char help[] =
-    "govlezna COMMAND [OPTIONS] [TEXT]: text of XML job files\n"
-    "\n"
-    "The text is TEXT, or the bytes of --file PATH, or else of standard input: UTF-8, at most 16,777,216 bytes.\n"
-    "\n"
-    "  escape      characters as references                       --level\n"
-    "  unescape    references as what they stand for              --entity, --table\n"
-    "  normalize   the attribute value that a reader sees         --version, --depth, --limit, --entity, --table\n"
-    "  canonical   the canonical form of that value               --version, --depth, --limit, --entity, --table\n"
-    "  eols        every line end as LF                           --version\n"
-    "  trim        without white space at the ends                --start, --end\n"
-    "  cdata       as CDATA sections\n"
-    "  check       is the text UTF-8, and the table valid?        --entity, --table\n"
-    "\n"
-    "  --level N           0: < > & ' \" CR (if not given); 1: < > & CR; 2: < & CR; 3: as 0, and LF, TAB\n"
-    "  --version V         0, 1 or 1.0: XML 1.0 (if not given); 2 or 1.1: XML 1.1\n"
-    "  --depth N           how deep entities may nest, at most 128 (if not given)\n"
-    "  --limit N           how many entities may be opened, at most 1,000,000; 10,000 if not given\n"
-    "  --entity NAME=TEXT  defines an entity; may be repeated, and of one name the first holds\n"
-    "  --table LIST POOL   the entity table in these two files\n"
-    "  --start, --end      trim at this end alone\n"
-    "  --file PATH         read the text from a file; - is standard input\n"
-    "  --json              answer by one line of JSON on standard output, refusals too\n"
-    "  --                  what follows is TEXT, even if it starts with -\n"
-    "\n"
-    "The result goes to standard output byte for byte; a line end follows it on a terminal alone. A refusal goes to\n"
-    "standard error: its number, what it means and its place. Exit status: 0; 1 for a refusal; 2 for bad usage, or a file\n"
-    "that cannot be read or written.\n"
-    "\n"
-    "In JSON a success has number 0 and, as the command has them, length, openings, start, definitions, pieces (start and\n"
-    "length of each) and result. A refusal has its number, words, first and second, and its place if there is one: start,\n"
-    "end and line, in the text of `entity` where that is given, `opened` from this byte of the text.\n"
-    "\n"
-    "Examples:\n"
-    "  govlezna canonical 'Panel &sail; <3>' --entity sail='Gro&#xDF;segel'\n"
-    "  govlezna escape --level 3 --file names.txt > names.escaped\n"
-    "  printf 'a\\r\\nb' | govlezna eols\n"
-    "  govlezna unescape '&boom;' --json\n";
-
 enum option { LEVEL, VERSION, DEPTH, LIMIT, ENTITY, TABLE, AT_START, AT_END, FROM_FILE, JSON, OPTIONS };
 
 #define ON(command) (1u << (command))

@@ -48,14 +48,36 @@ prove_and_compile() { # CRATE..
     cd "$root" && rt check "$@" && rt staticlib govlezna
 }
 
+# Is the library missing, or older than a source of its crates?
+archive_is_old() {
+    local crate folder sources=("$root/crates.txt")
+    for crate in $(library_crates); do
+        for folder in "$root/crates/$crate"/{src,specs,proofs}; do
+            if [ -d "$folder" ]; then sources+=("$folder"); fi
+        done
+    done
+    is_older "$archive" "${sources[@]}"
+}
+
+# ready [compiler]: is there what a build needs? Asked before anything is proved, and told in one line.
+ready() {
+    if archive_is_old && ! command -v rt >/dev/null; then
+        echo "rt is not in the PATH: the Rattle kit is needed" >&2
+        return 1
+    fi
+    if ! mkdir -p "$build" 2>/dev/null || [ ! -w "$root/target" ] || [ ! -w "$build" ]; then
+        echo "$root/target cannot be written, and all is built there" >&2
+        return 1
+    fi
+    [ $# -eq 0 ] || need_compiler
+}
+
 # Proves what is not proved yet, and compiles the library.
 build_archive() {
-    local crates crate sources=("$root/crates.txt") start=$root/target/library.start log=$root/target/library.log
+    local crates start=$root/target/library.start log=$root/target/library.log
+    archive_is_old || return 0
+    ready || return 1
     crates=$(library_crates)
-    for crate in $crates; do sources+=("$root/crates/$crate"/{src,specs,proofs}); done
-    is_older "$archive" $(ls -d "${sources[@]}" 2>/dev/null) || return 0
-    command -v rt >/dev/null || { echo "rt is not in the PATH: the Rattle kit is needed" >&2; return 1; }
-    mkdir -p "$root/target"
     echo "proving $(echo "$crates" | wc -l) crates and compiling the library; the first time takes some minutes" >&2
     touch "$start"
     watch_proofs "$start" $crates &
@@ -72,17 +94,15 @@ build_archive() {
 
 # The archive's code is position independent, so that the shared library is made of it; it exports the calls alone.
 build_shared() {
-    build_archive && need_packages cc gcc libc6-dev || return 1
-    is_older "$build/libgovlezna.so" "$archive" "$root/scripts/govlezna.map" || return 0
-    mkdir -p "$build"
-    cc -shared -o "$build/libgovlezna.so" -Wl,--whole-archive "$archive" -Wl,--no-whole-archive \
+    archive_is_old || is_older "$build/libgovlezna.so" "$archive" "$root/scripts/govlezna.map" || return 0
+    ready compiler && build_archive || return 1
+    "${compiler[@]}" -shared -o "$build/libgovlezna.so" -Wl,--whole-archive "$archive" -Wl,--no-whole-archive \
         "-Wl,--version-script=$root/scripts/govlezna.map" "-Wl,-soname,libgovlezna.so.${version%%.*}" \
         -Wl,-z,defs -Wl,-z,now
 }
 
 build_cli() {
-    build_archive && need_packages cc gcc libc6-dev || return 1
-    is_older "$build/govlezna" "$archive" "$root/cli" "$root/include" || return 0
-    mkdir -p "$build"
-    cc -std=c11 -O2 "${warnings[@]}" "-I$root/include" "$root"/cli/*.c "$archive" -o "$build/govlezna"
+    archive_is_old || is_older "$build/govlezna" "$archive" "$root/cli" "$root/include" || return 0
+    ready compiler && build_archive || return 1
+    "${compiler[@]}" -std=c11 -O2 "${warnings[@]}" "-I$root/include" "$root"/cli/*.c "$archive" -o "$build/govlezna"
 }
