@@ -9,6 +9,7 @@ strict=(-std=c11 -O2 -Wall -Wextra -Werror -pedantic)
 
 make --silent install "PREFIX=$room"
 [ "$("$room/bin/govlezna" unescape '&lt;')" = '<' ]
+cmp NOTICE "$room/share/doc/govlezna/NOTICE"
 
 cc "${strict[@]}" examples/names.c $(pkg-config --cflags --libs govlezna) -o "$room/shared"
 LD_LIBRARY_PATH=$room/lib "$room/shared" | diff - examples/names.expected
