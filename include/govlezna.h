@@ -4,21 +4,25 @@
  * Every call takes its arguments as they come and checks them itself. The result is 0 for success, or the number of
  * the refusal. Both words of `answer` are written by every call: on success what the call says below, on a refusal its
  * first and second; a word that nothing is said of is 0. On success the first bytes of an output are the result and the
- * rest keep their bytes. A refusal writes nothing but the answer words; the one exception is 19 of
+ * rest keep their bytes. A refusal writes nothing but the answer words; the one exception is GOVLEZNA_NO_ROOM of
  * govlezna_canonical_form, whose scratch then holds the value.
  *
- * To learn how long a result is, call with an output of length 0: refusal 19 gives the length needed, and success means
- * that the result is empty.
+ * To learn how long a result is, call with an output of length 0: GOVLEZNA_NO_ROOM gives the length needed, and success
+ * means that the result is empty.
  *
  * What a caller owes:
  * - `text`, `list` and `pool` point to as many readable bytes as their length says, of any value; `out` and `scratch` to
- *   as many writable bytes. NULL is allowed where the length is 0.
+ *   as many writable bytes. NULL is allowed where the length is 0; but a list of no bytes is refused: "no table" is the
+ *   list { 0 } of length 1.
  * - `answer` points to two writable words, `cursor` to a cursor.
  * - What a call may write overlaps nothing else that it is lent.
  * Nothing is kept after a call, and no call allocates: calls on different buffers may run at the same time.
  * A call takes at most 96 KiB of stack: about 630 bytes for each level of depth (measured at depth 128: 81,040 bytes).
  *
- * Build: target/staticlib/libgovlezna.a, for x86-64 Linux.
+ * Time: a call checks all of its text and all of its table each time, whatever part it then needs; beyond that it takes
+ * what is said below.
+ *
+ * For x86-64 Linux: link libgovlezna.a, or libgovlezna.so; `pkg-config --cflags --libs govlezna` has the flags.
  */
 #ifndef GOVLEZNA_H
 #define GOVLEZNA_H
@@ -30,7 +34,10 @@
 extern "C" {
 #endif
 
-/* Refusals. The checks of a call run in the order in which its comment lists them; the first that applies answers. */
+/*
+ * Refusals. The checks of a call run in the order in which its comment lists them, there without GOVLEZNA_; the first
+ * that applies answers. "First" and "second" are answer[0] and answer[1].
+ */
 #define GOVLEZNA_TOO_LONG 1             /* text over 16,777,216 bytes: first is its length */
 #define GOVLEZNA_DEPTH_TOO_LARGE 2      /* depth over 128 */
 #define GOVLEZNA_LIMIT_TOO_LARGE 3      /* opening limit over 1,000,000 */
@@ -58,7 +65,10 @@ extern "C" {
 
 /*
  * Is the text UTF-8 (RFC 3629: shortest forms, no surrogates, at most U+10FFFF)?
- * Refusals: 1, 5. Success: answer[0] is the text's length.
+ *
+ * Success: answer[0] is the text's length.
+ * Refusals, in this order: TOO_LONG (text over 16,777,216 bytes; answer[0]: its length); NOT_UTF8 (answer[0]: the end
+ * of its longest well-formed prefix).
  */
 uint32_t govlezna_check_utf8(const uint8_t *text, size_t text_length, uint64_t answer[2]);
 
@@ -66,22 +76,34 @@ uint32_t govlezna_check_utf8(const uint8_t *text, size_t text_length, uint64_t a
  * The text with characters written as references. Level 0: < > & ' " as &lt; &gt; &amp; &apos; &quot; and CR as &#13;.
  * Level 1: < > & CR. Level 2: < & CR. Level 3: as level 0, and LF as &#10;, TAB as &#9;. All else is copied, so the
  * result has at least as many bytes as the text and at most six times as many.
- * Refusals: 1, 4, 5, 19. Success: answer[0] is the length written.
+ *
+ * Success: answer[0] is the length written; the rest of `out` keeps its bytes.
+ * Refusals, in this order: TOO_LONG; UNKNOWN_BYTE (level over 3); NOT_UTF8; NO_ROOM (answer[0]: the length needed). None
+ * writes to `out`.
+ * Time: the text is read once more to count, but not where `out` has six times its length; then once to write.
  */
 uint32_t govlezna_escape(const uint8_t *text, size_t text_length, uint8_t level, uint8_t *out, size_t out_length,
                          uint64_t answer[2]);
 
 /*
- * The character that a reference such as &#65; or &#x41; names. `text` is what stands between `#` and `;`:
- * decimal digits, or a lower-case x and hexadecimal digits of either letter case.
- * Refusals: 1, 5, 12, 13, 15, 14. Success: answer[0] is the character's number.
+ * The character that a reference such as &#65; or &#x41; names. `text` is what stands between `#` and `;`: decimal
+ * digits, or a lower-case x and hexadecimal digits of either letter case.
+ *
+ * Success: answer[0] is the character's number.
+ * Refusals, in this order: TOO_LONG; NOT_UTF8; UNEXPECTED_SIGN (+ or - before the digits); INVALID_NUMBER (no digits, a
+ * byte that is no digit, or a value over 4,294,967,295); ILLEGAL_CHARACTER (the value 0); INVALID_CODEPOINT (a surrogate
+ * or over 1,114,111; answer[0]: the value).
  */
 uint32_t govlezna_parse_number(const uint8_t *text, size_t text_length, uint64_t answer[2]);
 
 /*
  * The text with every line end as LF. Versions 0 and 1 (XML 1.0): CR LF and CR. Version 2 (XML 1.1): CR LF, CR U+0085,
  * CR, U+0085 and U+2028. The result is no longer than the text.
- * Refusals: 1, 4, 5, 19. Success: answer[0] is the length written.
+ *
+ * Success: answer[0] is the length written; the rest of `out` keeps its bytes.
+ * Refusals, in this order: TOO_LONG; UNKNOWN_BYTE (version over 2); NOT_UTF8; NO_ROOM (answer[0]: the length needed).
+ * None writes to `out`.
+ * Time: the text is read once more to count, but not where `out` is as long as it; then once to write.
  */
 uint32_t govlezna_normalize_eols(const uint8_t *text, size_t text_length, uint8_t version, uint8_t *out,
                                  size_t out_length, uint64_t answer[2]);
@@ -91,7 +113,8 @@ uint32_t govlezna_normalize_eols(const uint8_t *text, size_t text_length, uint8_
  * fixed width, little-endian:
  *   1  name start (4 bytes), name length (1), text start (4), text length (2): a definition, 12 bytes in all; the starts
  *      are offsets in the pool.
- *   0  end: the last byte of the list. Alone it is the empty table.
+ *   0  end: the last byte of the list. Alone it is the empty table: for "no table" hand over the list { 0 } of length 1,
+ *      and NULL with length 0 for the pool.
  * Where a name is defined twice, the first definition binds. A name that no definition has may be one of lt, gt, amp,
  * apos and quot, which stand for < > & ' " . A table may define these five.
  *
@@ -100,8 +123,16 @@ uint32_t govlezna_normalize_eols(const uint8_t *text, size_t text_length, uint8_
 
 /*
  * Is the table valid? The calls below check their table in the same way.
- * Refusals: 6; then 7, 8, 9, command by command. Success: answer[0] is the number of definitions.
- * Example: the table above gives 1. Without its last byte it is refused by 7, first 12.
+ *
+ * `list`, `pool`: the table; for none the list { 0 } of length 1, and NULL with length 0.
+ * Success: answer[0] is the number of definitions.
+ * Refusals, in this order: TABLE_TOO_LONG (list over 49,153 or pool over 1,048,576 bytes); then, command by command,
+ * MALFORMED_LIST (unknown command, cut operands, no end, bytes after the end; answer[0]: where), OUTSIDE_POOL (a name or
+ * text runs past the pool; answer[0]: the command's offset), INVALID_DEFINITION (an empty name, or a name or text that
+ * is not UTF-8; answer[0]: the command's offset).
+ * Time: at most the list and the pool once, and each name and text once, also where they share bytes of the pool.
+ * Example: the table above gives 1. Without its last byte it is refused by MALFORMED_LIST, first 12; so is a list of no
+ * bytes, first 0.
  */
 uint32_t govlezna_check_table(const uint8_t *list, size_t list_length, const uint8_t *pool, size_t pool_length,
                               uint64_t answer[2]);
@@ -109,8 +140,16 @@ uint32_t govlezna_check_table(const uint8_t *list, size_t list_length, const uin
 /*
  * The text with each reference as what it stands for: &#65; or &#x41; as the character, &name; as the name's text, which
  * is copied as it stands. From & the next & or ; must be a ; .
- * Refusals: 1, 5; 6 to 9; the first of 10 to 15 from left to right; 19. Success: answer[0] is the length written.
- * Example: with the table above `&lt;&e; &#65;` gives `<sail A`; `a&b;` is refused by 11, first 2, second 3.
+ *
+ * `list`, `pool`: the table; for none the list { 0 } of length 1, and NULL with length 0.
+ * Success: answer[0] is the length written; the rest of `out` keeps its bytes.
+ * Refusals, in this order: TOO_LONG; NOT_UTF8; those of govlezna_check_table; the leftmost of UNTERMINATED_ENTITY (no ;
+ * after &; answer[0]: the offset of &, answer[1]: the text's length), UNRECOGNIZED_ENTITY (no such name; answer[0] and
+ * answer[1]: its start and end) and UNEXPECTED_SIGN, INVALID_NUMBER, ILLEGAL_CHARACTER, INVALID_CODEPOINT (as in
+ * govlezna_parse_number); NO_ROOM (answer[0]: the length needed). None writes to `out`.
+ * Time: the text is walked at most twice, to count and to write; a name is looked for from the table's first command on.
+ * Example: with the table above `&lt;&e; &#65;` gives `<sail A`; `a&b;` is refused by UNRECOGNIZED_ENTITY, first 2,
+ * second 3.
  */
 uint32_t govlezna_unescape(const uint8_t *text, size_t text_length, const uint8_t *list, size_t list_length,
                            const uint8_t *pool, size_t pool_length, uint8_t *out, size_t out_length,
@@ -119,17 +158,27 @@ uint32_t govlezna_unescape(const uint8_t *text, size_t text_length, const uint8_
 /*
  * The attribute value normalized: TAB, LF and each line end of the version (see govlezna_normalize_eols) become one
  * space; a character reference becomes its character, which is never turned into a space; &amp; becomes &, whatever the
- * table says; a reference to another name is replaced by the name's text, read by the same rules with the depth one less.
- * A name runs from & to the next ; .
+ * table says; a reference to another name is replaced by the name's text, read by the same rules with the depth one
+ * less. A name runs from & to the next ; .
  *
- * `depth`, at most 128: a text read at depth 0 is refused by 16 where it has a TAB, LF, CR, & or, in version 2, a byte C2
- * or E2. `limit`, at most 1,000,000: how many texts of the table may be opened; one of the five that the table does not
- * define is not counted. The limit bounds the work and the length: each opening brings at most 65,535 bytes.
+ * `depth`, at most 128: a text read at depth 0 is refused where it has a TAB, LF, CR, & or, in version 2, a byte C2 or
+ * E2.
+ * `limit`, at most 1,000,000: how many texts of the table may be opened; one of the five that the table does not define
+ * is not counted. The limit bounds the work and the length: each opening brings at most 65,535 bytes.
+ * `list`, `pool`: the table; for none the list { 0 } of length 1, and NULL with length 0.
  *
- * Refusals: 1, 2, 3, 4, 5; 6 to 9; the first of 10 to 17 from left to right, with offsets in the text that is being read,
- * which may be a text of the table; 19. Success: answer[0] is the length written, answer[1] the number of openings.
+ * Success: answer[0] is the length written, answer[1] the number of openings; the rest of `out` keeps its bytes.
+ * Refusals, in this order: TOO_LONG; DEPTH_TOO_LARGE; LIMIT_TOO_LARGE; UNKNOWN_BYTE (version over 2); NOT_UTF8; those of
+ * govlezna_check_table; the first that the walk meets, from left to right and into the texts that it opens; NO_ROOM
+ * (answer[0]: the length needed). None writes to `out`. The walk's, with offsets in the text that is being read, which
+ * may be a text of the table, are: TOO_DEEP (at depth 0, as above), UNTERMINATED_ENTITY (no ; after &; answer[0]: the
+ * offset of &, answer[1]: that text's length), UNEXPECTED_SIGN, INVALID_NUMBER, ILLEGAL_CHARACTER, INVALID_CODEPOINT (as
+ * in govlezna_parse_number), UNRECOGNIZED_ENTITY (no such name; answer[0] and answer[1]: its start and end),
+ * TOO_MANY_OPENINGS (the limit is used up; answer[0]: the offset of &).
+ * Time: the text is walked at most twice, to count and to write, and a text of the table at each of its openings; a name
+ * is looked for from the table's first command on.
  * Example: version 0, depth 2, limit 10, the table above: `&e;` TAB `&#9;` gives `sail`, a space and a TAB, openings 1.
- * With limit 0 it is refused by 17, first 0; at depth 0 by 16.
+ * With limit 0 it is refused by TOO_MANY_OPENINGS, first 0; at depth 0 by TOO_DEEP.
  */
 uint32_t govlezna_normalize_attribute_value(const uint8_t *text, size_t text_length, uint8_t version, uint64_t depth,
                                             uint64_t limit, const uint8_t *list, size_t list_length,
@@ -139,13 +188,18 @@ uint32_t govlezna_normalize_attribute_value(const uint8_t *text, size_t text_len
 /*
  * The canonical form of an attribute value: the normalized value, written as level 3 of govlezna_escape; in version 2
  * also U+0085 as &#133; and U+2028 as &#8232; . Two values of one XML version have equal forms exactly when their
- * normalized values are equal. A form of at most 16,777,216 bytes, normalized in the same version at depth 1 or more with
- * a table that defines none of lt, gt, apos and quot, gives the normalized value back, and its form is itself.
+ * normalized values are equal. A form of at most 16,777,216 bytes, normalized in the same version at depth 1 or more
+ * with a table that defines none of lt, gt, apos and quot, gives the normalized value back, and its form is itself.
  *
- * Refusals: those of govlezna_normalize_attribute_value up to 17; 18; 19. Success: answer[0] is the length of the form,
- * answer[1] the number of openings. After success, and after 19, the first bytes of the scratch are the normalized value,
- * and its rest keeps its bytes.
- * Example: with the settings above `&e;` TAB `&#9;` gives `sail &#9;`, openings 1, and the scratch begins with the value.
+ * `list`, `pool`: the table; for none the list { 0 } of length 1, and NULL with length 0.
+ * Success: answer[0] is the length of the form, answer[1] the number of openings. The first bytes of the scratch are the
+ * normalized value; the rest of `scratch` and of `out` keep their bytes.
+ * Refusals, in this order: those of govlezna_normalize_attribute_value without its last; NO_SCRATCH (scratch shorter
+ * than the value; answer[0]: the length needed); NO_ROOM (answer[0]: the length needed). None writes to `out`, and of
+ * them NO_ROOM alone to the scratch: it holds the value, as after success.
+ * Time: as govlezna_normalize_attribute_value, and then as govlezna_escape over the value.
+ * Example: with the settings above `&e;` TAB `&#9;` gives `sail &#9;`, openings 1, and the scratch begins with the
+ * value.
  */
 uint32_t govlezna_canonical_form(const uint8_t *text, size_t text_length, uint8_t version, uint64_t depth,
                                  uint64_t limit, const uint8_t *list, size_t list_length, const uint8_t *pool,
@@ -154,8 +208,10 @@ uint32_t govlezna_canonical_form(const uint8_t *text, size_t text_length, uint8_
 
 /*
  * The part of the text without white space (space, TAB, CR, LF) at its start, at its end, at both.
- * Refusals: 1, 5. Success: answer[0] is the part's start, answer[1] its length. Of blanks alone the length is 0, and the
- * start is 0 for govlezna_trim_xml_end, else the text's length.
+ *
+ * Success: answer[0] is the part's start, answer[1] its length. Of blanks alone the length is 0, and the start is 0 for
+ * govlezna_trim_xml_end, else the text's length.
+ * Refusals, in this order: TOO_LONG; NOT_UTF8.
  */
 uint32_t govlezna_trim_xml_start(const uint8_t *text, size_t text_length, uint64_t answer[2]);
 uint32_t govlezna_trim_xml_end(const uint8_t *text, size_t text_length, uint64_t answer[2]);
@@ -168,10 +224,17 @@ struct govlezna_cursor {
 };
 
 /*
- * The next piece of a text that is written as CDATA sections: the text is cut between `]]` and `>` at each `]]>` from the
- * cursor's offset on. Start with { 0, 0 }; the pieces joined are the text, and none holds `]]>`.
- * Refusals: 1, 5, 20. Success: answer[0] is the piece's start, answer[1] its length; the cursor moves to the cut, or, at
- * the last piece, `finished` becomes 1 and the offset stays. GOVLEZNA_NO_MORE: nothing changes.
+ * The next piece of a text that is written as CDATA sections: the text is cut between `]]` and `>` at each `]]>` from
+ * the cursor's offset on. Start with { 0, 0 }; the pieces joined are the text, and none holds `]]>`.
+ *
+ * Success: answer[0] is the piece's start, answer[1] its length; the cursor moves to the cut, or, at the last piece,
+ * `finished` becomes 1 and the offset stays.
+ * Refusals, in this order: TOO_LONG; NOT_UTF8; CURSOR_OUTSIDE (the offset is past the end or inside a character;
+ * answer[0]: the offset). After these, where the last piece was handed over before, NO_MORE. The cursor stays as it is.
+ * Time: each call checks all that it is handed, so the pieces of a text that is handed over whole take the square of its
+ * length. Check a long text once, by govlezna_check_utf8, and hand over windows of it, each with a cursor { 0, 0 }: from
+ * the last cut on, or from the last window's end where it had none, up to an end between two characters and not within
+ * `]]>`. The last piece of a window goes on in the next window.
  */
 uint32_t govlezna_cdata_next(const uint8_t *text, size_t text_length, struct govlezna_cursor *cursor,
                              uint64_t answer[2]);

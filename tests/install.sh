@@ -10,6 +10,8 @@ strict=(-std=c11 -O2 -Wall -Wextra -Werror -pedantic)
 make --silent install "PREFIX=$room"
 [ "$("$room/bin/govlezna" unescape '&lt;')" = '<' ]
 cmp NOTICE "$room/share/doc/govlezna/NOTICE"
+# What is installed does not speak of the folders it was built in.
+if grep -n target/ "$room/include/govlezna.h"; then exit 1; fi
 
 cc "${strict[@]}" examples/names.c $(pkg-config --cflags --libs govlezna) -o "$room/shared"
 LD_LIBRARY_PATH=$room/lib "$room/shared" | diff - examples/names.expected

@@ -1,0 +1,103 @@
+/* The examples of include/govlezna.h, and what it says of "no table". Each line that is wrong is said. */
+#include "govlezna.h"
+
+#include <stdio.h>
+#include <string.h>
+
+static int wrong;
+static uint64_t answer[2];
+static uint8_t out[64], scratch[64];
+
+static const uint8_t list[] = { 1, 0, 0, 0, 0, 1, 1, 0, 0, 0, 4, 0, 0 }, empty[] = { 0 };
+static const uint8_t pool[] = { 'e', 's', 'a', 'i', 'l' };
+
+static const uint8_t *bytes(const char *s)
+{
+    return (const uint8_t *)s;
+}
+
+static void expect(int line, uint32_t got, uint32_t number, uint64_t first, uint64_t second)
+{
+    if (got == number && answer[0] == first && answer[1] == second)
+        return;
+    wrong = 1;
+    printf("line %d: %u (%llu, %llu)\n", line, (unsigned)got, (unsigned long long)answer[0], (unsigned long long)answer[1]);
+}
+
+static void expect_bytes(int line, const uint8_t *got, const char *text)
+{
+    if (memcmp(got, text, strlen(text)) == 0)
+        return;
+    wrong = 1;
+    printf("line %d: other bytes than %s\n", line, text);
+}
+
+static uint32_t unescape(const char *text, const uint8_t *commands, size_t length, const uint8_t *from, size_t size)
+{
+    return govlezna_unescape(bytes(text), strlen(text), commands, length, from, size, out, sizeof out, answer);
+}
+
+static uint32_t normalize(uint64_t depth, uint64_t limit)
+{
+    const char *text = "&e;\t&#9;";
+    return govlezna_normalize_attribute_value(bytes(text), strlen(text), 0, depth, limit, list, sizeof list, pool,
+                                              sizeof pool, out, sizeof out, answer);
+}
+
+static void examples(void)
+{
+    const char *text = "&e;\t&#9;";
+    expect(__LINE__, govlezna_check_table(list, sizeof list, pool, sizeof pool, answer), 0, 1, 0);
+    expect(__LINE__, govlezna_check_table(list, 12, pool, sizeof pool, answer), GOVLEZNA_MALFORMED_LIST, 12, 0);
+    expect(__LINE__, unescape("&lt;&e; &#65;", list, sizeof list, pool, sizeof pool), 0, 7, 0);
+    expect_bytes(__LINE__, out, "<sail A");
+    expect(__LINE__, unescape("a&b;", list, sizeof list, pool, sizeof pool), GOVLEZNA_UNRECOGNIZED_ENTITY, 2, 3);
+    expect(__LINE__, normalize(2, 10), 0, 6, 1);
+    expect_bytes(__LINE__, out, "sail \t");
+    expect(__LINE__, normalize(2, 0), GOVLEZNA_TOO_MANY_OPENINGS, 0, 0);
+    expect(__LINE__, normalize(0, 10), GOVLEZNA_TOO_DEEP, 0, 0);
+    expect(__LINE__,
+           govlezna_canonical_form(bytes(text), strlen(text), 0, 2, 10, list, sizeof list, pool, sizeof pool, scratch,
+                                   sizeof scratch, out, sizeof out, answer),
+           0, 9, 1);
+    expect_bytes(__LINE__, out, "sail &#9;");
+    expect_bytes(__LINE__, scratch, "sail \t");
+}
+
+static void no_table(void)
+{
+    expect(__LINE__, govlezna_check_table(empty, 1, NULL, 0, answer), 0, 0, 0);
+    expect(__LINE__, govlezna_check_table(NULL, 0, NULL, 0, answer), GOVLEZNA_MALFORMED_LIST, 0, 0);
+    expect(__LINE__, unescape("&lt;", empty, 1, NULL, 0), 0, 1, 0);
+    expect(__LINE__, unescape("&lt;", NULL, 0, NULL, 0), GOVLEZNA_MALFORMED_LIST, 0, 0);
+    expect(__LINE__,
+           govlezna_normalize_attribute_value(bytes("a"), 1, 0, 1, 1, empty, 1, NULL, 0, out, sizeof out, answer), 0, 1, 0);
+    expect(__LINE__,
+           govlezna_canonical_form(bytes("a"), 1, 0, 1, 1, empty, 1, NULL, 0, scratch, sizeof scratch, out, sizeof out,
+                                   answer),
+           0, 1, 0);
+}
+
+/* `]]>]]>` by windows of three bytes: from the last cut, or the last window's end, on, none ended within `]]>`. */
+static void cdata_windows(void)
+{
+    static const size_t windows[][4] = { { 0, 3, 2, 0 }, { 2, 3, 1, 1 }, { 3, 6, 2, 0 }, { 5, 6, 1, 1 } };
+    const char *text = "]]>]]>";
+    for (size_t i = 0; i < 4; i++) {
+        struct govlezna_cursor cursor = { 0, 0 };
+        const size_t *w = windows[i];
+        expect(__LINE__, govlezna_cdata_next(bytes(text) + w[0], w[1] - w[0], &cursor, answer), 0, 0, w[2]);
+        if (cursor.finished != w[3]) {
+            wrong = 1;
+            printf("window %u: finished is %u\n", (unsigned)i, (unsigned)cursor.finished);
+        }
+    }
+}
+
+int main(void)
+{
+    examples();
+    no_table();
+    cdata_windows();
+    return wrong;
+}

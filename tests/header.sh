@@ -1,0 +1,23 @@
+#!/usr/bin/env bash
+# header.sh [HEADER]: what include/govlezna.h says. Its comments name refusals by its constants and not by number, each call has its
+# refusals, each call with a table says what to hand over for none, and its examples are so (tests/header.c).
+set -eu
+cd "$(dirname "$0")/.."
+header=${1:-include/govlezna.h}
+room=$(mktemp -d)
+trap 'rm -rf "$room"' EXIT
+
+sed -n 's/^#define GOVLEZNA_\([A-Z0-9_]*\) [0-9].*/\1/p' "$header" | sort >"$room/constants"
+sed -n '/^#define GOVLEZNA_NO_MORE/,$p' "$header" >"$room/calls"
+grep '^ \*' "$room/calls" | grep -oE '\b[A-Z]+(_[A-Z0-9]+)+\b' | sed 's/^GOVLEZNA_//' | sort -u >"$room/named"
+if comm -13 "$room/constants" "$room/named" | grep .; then echo "no constants"; exit 1; fi
+if comm -23 "$room/constants" "$room/named" | grep .; then echo "constants that no call names"; exit 1; fi
+if grep -nE 'Refusals: [0-9]|refused by [0-9]|refusal [0-9]' "$header"; then exit 1; fi
+
+# Each comment above declarations, on one line with the first of them.
+awk '/^\/\*/ { block = "" } { block = block " " $0 } /\);$/ { print block; block = "" }' "$room/calls" >"$room/blocks"
+if grep '^ /\*' "$room/blocks" | grep -v 'Refusals, in this order: '; then exit 1; fi
+if grep 'const uint8_t \*list' "$room/blocks" | grep -v 'for none the list { 0 } of length 1, and NULL with length 0'; then exit 1; fi
+
+cc -std=c11 -O2 -Wall -Wextra -Werror -pedantic -Iinclude tests/header.c target/staticlib/libgovlezna.a -o "$room/header"
+"$room/header"
