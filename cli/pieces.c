@@ -20,6 +20,7 @@ static int breaks(const struct request *q, size_t at)
     return 0;
 }
 
+/* Where a window of up to `size` bytes ends; of fewer, where that would break something. */
 static size_t window_end(const struct request *q, size_t start, size_t size)
 {
     size_t end = start + size;
