@@ -12,7 +12,7 @@ Answer = ctypes.c_uint64 * 2
 
 
 class Cursor(ctypes.Structure):
-    _fields_ = [("offset", ctypes.c_uint64), ("finished", ctypes.c_uint8)]
+    _fields_ = [("offset", ctypes.c_uint64), ("finished", ctypes.c_uint64)]
 
 
 class Refusal(Exception):

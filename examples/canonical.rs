@@ -5,7 +5,7 @@
 #[repr(C)]
 struct Cursor {
     offset: u64,
-    finished: u8,
+    finished: u64,
 }
 
 extern "C" {

@@ -217,10 +217,10 @@ uint32_t govlezna_trim_xml_start(const uint8_t *text, size_t text_length, uint64
 uint32_t govlezna_trim_xml_end(const uint8_t *text, size_t text_length, uint64_t answer[2]);
 uint32_t govlezna_trim_xml_spaces(const uint8_t *text, size_t text_length, uint64_t answer[2]);
 
-/* Where the next piece starts, and whether the last one was handed over: 0, or any other byte for yes. */
+/* Where the next piece starts, and whether the last one was handed over: 0, or any other number for yes. No padding. */
 struct govlezna_cursor {
     uint64_t offset;
-    uint8_t finished;
+    uint64_t finished;
 };
 
 /*

@@ -12,9 +12,9 @@ const GUARD: usize = 64;
 pub const ALIGNMENTS: usize = 64;
 const WORD: usize = std::mem::size_of::<u64>();
 const WORDS: usize = 2;
-const CURSOR: usize = std::mem::size_of::<Cursor>();
-/// The offset and the flag; what follows is padding, which may change.
-const CURSOR_FIELDS: usize = WORD + 1;
+/// The offset and the flag: no byte of a cursor is padding, so each of them is compared.
+const CURSOR: usize = 2 * WORD;
+const _: () = assert!(std::mem::size_of::<Cursor>() == CURSOR);
 /// The longest text at 6 bytes for each of its own, and what is spare.
 pub const LONGEST_OUTPUT: usize = 6 * LONGEST_TEXT + MOST_SPARE;
 pub const LONGEST_SCRATCH: usize = LONGEST_TEXT + MOST_SPARE;
@@ -167,8 +167,8 @@ impl Buffers {
             .prefill(expected.scratch_room, other_alignment ^ alignment, fill);
         // A cursor and an array of words are owed no more than a word's alignment.
         self.cursor
-            .prefill(CURSOR, (turn + 3) * WORD % ALIGNMENTS, fill)[..CURSOR_FIELDS]
-            .copy_from_slice(&fields(arguments.cursor));
+            .prefill(CURSOR, (turn + 3) * WORD % ALIGNMENTS, fill)
+            .copy_from_slice(&cursor_bytes(arguments.cursor));
         self.answer
             .prefill(WORDS * WORD, turn * WORD % ALIGNMENTS, fill);
         let Table { list, pool } = arguments.table;
@@ -197,24 +197,14 @@ impl Buffers {
 
     /// The first byte of any buffer that a call has not left as the answer says.
     pub fn damage(&self, arguments: &Arguments, expected: &Answer) -> Option<Damage> {
-        let mut words = [0; WORDS * WORD];
-        words[..WORD].copy_from_slice(&expected.first.to_ne_bytes());
-        words[WORD..].copy_from_slice(&expected.second.to_ne_bytes());
         self.answer
-            .damage(&words)
+            .damage(&word_bytes([expected.first, expected.second]))
             .or_else(|| self.out.damage(&expected.written))
             .or_else(|| self.scratch.damage(&expected.scratch))
-            .or_else(|| self.cursor.damage(&self.cursor_bytes(expected.cursor)))
+            .or_else(|| self.cursor.damage(&cursor_bytes(expected.cursor)))
             .or_else(|| self.text.damage_of_held(arguments.text))
             .or_else(|| self.list.damage_of_held(arguments.table.list))
             .or_else(|| self.pool.damage_of_held(arguments.table.pool))
-    }
-
-    /// What the cursor's buffer has to hold, with the padding as it is found.
-    fn cursor_bytes(&self, cursor: Cursor) -> [u8; CURSOR] {
-        let mut bytes: [u8; CURSOR] = self.cursor.content().try_into().unwrap();
-        bytes[..CURSOR_FIELDS].copy_from_slice(&fields(cursor));
-        bytes
     }
 
     pub fn answer_words(&self) -> [u64; WORDS] {
@@ -226,9 +216,14 @@ impl Buffers {
     }
 }
 
-fn fields(cursor: Cursor) -> [u8; CURSOR_FIELDS] {
-    let mut bytes = [cursor.finished; CURSOR_FIELDS];
-    bytes[..WORD].copy_from_slice(&cursor.offset.to_ne_bytes());
+fn cursor_bytes(cursor: Cursor) -> [u8; CURSOR] {
+    word_bytes([cursor.offset, cursor.finished])
+}
+
+fn word_bytes(words: [u64; 2]) -> [u8; 2 * WORD] {
+    let mut bytes = [0; 2 * WORD];
+    bytes[..WORD].copy_from_slice(&words[0].to_ne_bytes());
+    bytes[WORD..].copy_from_slice(&words[1].to_ne_bytes());
     bytes
 }
 

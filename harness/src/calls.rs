@@ -232,6 +232,7 @@ pub const CALLS: &[Call] = &[
         seams: woven::seams::<Cdata>,
         families: &[
             inputs::limits,
+            cdata::too_long,
             woven::long::<Cdata>,
             cdata::every_iteration,
             woven::every_short_text::<Cdata>,

@@ -30,7 +30,7 @@ pub fn cut(bytes: &[u8], each: &mut dyn FnMut(&'static Call, Arguments, usize)) 
     let cursor = match call.form {
         Form::Cursor => Cursor {
             offset: i64::from(offset) as u64,
-            finished,
+            finished: flag_of(finished),
         },
         _ => Cursor::default(),
     };
@@ -63,6 +63,15 @@ fn depth_of(byte: u8) -> u64 {
         0..=129 => byte.into(),
         130..=250 => u64::from(byte) - 130,
         251..=254 => 1 << (8 * (byte - 250)),
+        255 => u64::MAX,
+    }
+}
+
+/// Any but 0 means finished: flags of a byte, and ones whose low bits are 0.
+fn flag_of(byte: u8) -> u64 {
+    match byte {
+        0..=239 => byte.into(),
+        240..=254 => 1 << (4 * (byte - 239)),
         255 => u64::MAX,
     }
 }

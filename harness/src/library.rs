@@ -5,7 +5,7 @@
 #[derive(Clone, Copy, Debug, Default, PartialEq, Eq)]
 pub struct Cursor {
     pub offset: u64,
-    pub finished: u8,
+    pub finished: u64,
 }
 
 extern "C" {

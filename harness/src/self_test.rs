@@ -77,11 +77,28 @@ const CURSOR_FAULTS: &[(&str, Fault)] = &[
     ("the cursor's offset changed", changed_cursor::<0>),
     ("the cursor's offset changed high up", changed_cursor::<7>),
     ("the cursor's flag changed", changed_cursor::<8>),
+    (
+        "the byte after the flag's lowest changed",
+        changed_cursor::<9>,
+    ),
+    ("the cursor's flag changed high up", changed_cursor::<15>),
     ("the byte after the cursor changed", changed_cursor::<16>),
     ("the byte before the cursor changed", changed_cursor::<-1>),
     ("the cursor not moved", unmoved_cursor),
     ("the cursor moved by the last piece", moved_by_last),
-    ("the cursor's flag set to 1 by \"no more\"", normal_flag),
+    ("the cursor's flag set to 2 by the last piece", flag_of_two),
+    (
+        "the cursor's flag set to 1 by \"no more\"",
+        changed_flag::<255, 1>,
+    ),
+    ("the cursor's flag set to 1 by 20", changed_flag::<20, 1>),
+    ("the cursor's flag cleared by 5", changed_flag::<5, 0>),
+    ("the cursor's flag cleared by 1", changed_flag::<1, 0>),
+    ("the flag's lowest byte alone read", narrowed_flag::<0xFF>),
+    (
+        "the flag's high half not read",
+        narrowed_flag::<0xFFFF_FFFF>,
+    ),
     ("only flag 1 taken for finished", only_flag_1),
     ("finished looked at before 20", finished_first),
     ("the offset's high half not read", halved_offset),
@@ -392,17 +409,36 @@ unsafe fn moved_by_last(lent: &Lent, real: Run) -> u32 {
     number
 }
 
-unsafe fn normal_flag(lent: &Lent, real: Run) -> u32 {
+unsafe fn flag_of_two(lent: &Lent, real: Run) -> u32 {
     let number = real(lent);
-    if number == 255 {
-        (*lent.cursor).finished = 1;
+    if number == 0 && (*lent.cursor).finished != 0 {
+        (*lent.cursor).finished = 2;
+    }
+    number
+}
+
+unsafe fn changed_flag<const NUMBER: u32, const FLAG: u64>(lent: &Lent, real: Run) -> u32 {
+    let number = real(lent);
+    if number == NUMBER {
+        (*lent.cursor).finished = FLAG;
+    }
+    number
+}
+
+/// Reads the bits of the mask alone; what it leaves is right where it answers no piece.
+unsafe fn narrowed_flag<const MASK: u64>(lent: &Lent, real: Run) -> u32 {
+    let before = *lent.cursor;
+    (*lent.cursor).finished = before.finished & MASK;
+    let number = real(lent);
+    if number != 0 {
+        *lent.cursor = before;
     }
     number
 }
 
 unsafe fn only_flag_1(lent: &Lent, real: Run) -> u32 {
     let before = *lent.cursor;
-    (*lent.cursor).finished = u8::from(before.finished == 1);
+    (*lent.cursor).finished = u64::from(before.finished == 1);
     let number = real(lent);
     if before.finished > 1 && number != 0 {
         *lent.cursor = before;

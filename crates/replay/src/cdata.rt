@@ -34,14 +34,7 @@ pub fn replay_cdata(line: &[u8]) -> Outcome {
     let Parsed::Number(finished) = decimal(field(line, 3)) else {
         return Outcome::Malformed;
     };
-    if 255 < finished {
-        return Outcome::Malformed;
-    }
-    let cursor = Cursor {
-        offset,
-        finished: finished as u8,
-    };
-    compare_left(line, cdata_next(&text[..n], cursor))
+    compare_left(line, cdata_next(&text[..n], Cursor { offset, finished }))
 }
 
 fn cdata_next(text: &[u8], cursor: Cursor) -> Left {
@@ -88,14 +81,11 @@ fn compare_left(line: &[u8], left: Left) -> Outcome {
     let Parsed::Number(finished) = decimal(field(line, 9)) else {
         return Outcome::Malformed;
     };
-    if 255 < finished {
-        return Outcome::Malformed;
-    }
     let outcome = compare(line, 4, number, words);
     let Outcome::Same = outcome else {
         return outcome;
     };
-    if offset == next.offset && finished == next.finished as u64 {
+    if offset == next.offset && finished == next.finished {
         return outcome;
     }
     differs(number, words)

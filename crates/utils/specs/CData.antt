@@ -36,7 +36,7 @@ pieceFrom offset rest =
 unfoldable pub outside : List ℕ → ℕ → Bool
 outside text offset = ltb (length text) offset || within 0x80 0xBF (getD text offset 0)
 
--- CDATA: one call; 20 and "no more" leave the cursor as it is, and any byte but 0 means finished
+-- CDATA: one call; 20 and "no more" leave the cursor as it is, and any number but 0 means finished
 unfoldable pub cdataStep : List ℕ → Cursor → Stepped
 unfolding outside pieceFrom
 cdataStep text cursor =

@@ -13,11 +13,12 @@ pub struct Part {
     pub length: usize,
 }
 
-// Where the next piece starts, and whether the last one was handed over: any byte but 0 says so.
+// Where the next piece starts, and whether the last one was handed over: any number but 0 says so.
+// Two words, so that no byte of a cursor is padding, which a store would write and no equation name.
 #[repr(C)]
 pub struct Cursor {
     pub offset: u64,
-    pub finished: u8,
+    pub finished: u64,
 }
 
 // A part of the text, no more of them, or the refusal of a cursor outside the text's characters.

@@ -5,13 +5,23 @@ use super::woven::Subject;
 use super::{every_sequence, Sink, PAGE, SHORT_LENGTHS};
 use crate::calls::Arguments;
 use crate::library::Cursor;
-use crate::oracle;
+use crate::oracle::{self, LONGEST_TEXT};
 use crate::random::Random;
 
 pub struct Cdata;
 
-/// Any of them means finished.
-const FLAGS: [u8; 4] = [1, 2, 0x80, 0xFF];
+/// Any of them means finished, also where the low byte or the low half is 0.
+const FLAGS: [u64; 9] = [
+    1,
+    2,
+    0xFF,
+    0x100,
+    0x8000,
+    1 << 31,
+    1 << 32,
+    1 << 63,
+    u64::MAX,
+];
 
 impl Subject for Cdata {
     const PIECES: &'static [&'static [u8]] = &[
@@ -54,6 +64,13 @@ impl Subject for Cdata {
             sink(at(offset, 0, Arguments::text(b"]]>")));
             sink(at(offset, 1, Arguments::text(b"]]>")));
         }
+        // Every flag: on "no more", on 20, and on a refusal of the text.
+        for flag in FLAGS {
+            sink(at(0, flag, Arguments::text(b"]]>")));
+            sink(at(4, flag, Arguments::text(b"]]>")));
+            sink(at(1, flag, Arguments::text("é".as_bytes())));
+            sink(at(0, flag, Arguments::text(b"\xC3")));
+        }
         for gap in [1, 3, 10] {
             let text = woven(random, Mix::Dense, Self::PIECES, gap, 100);
             iterate(Arguments::text(&text), sink);
@@ -78,17 +95,26 @@ impl Subject for Cdata {
             _ => arguments.text.len() - random.below(arguments.text.len().min(20) + 1),
         };
         let finished = match random.below(8) {
-            0 => random.byte(),
+            0 => 1 << random.below(64),
+            1 => random.byte().into(),
             _ => 0,
         };
         sink(at(offset as u64, finished, arguments));
     }
 }
 
-fn at(offset: u64, finished: u8, arguments: Arguments) -> Arguments {
+fn at(offset: u64, finished: u64, arguments: Arguments) -> Arguments {
     Arguments {
         cursor: Cursor { offset, finished },
         ..arguments
+    }
+}
+
+/// Refused by its length, with every flag.
+pub fn too_long(_: &mut Random, sink: &mut Sink) {
+    let text = vec![b'a'; LONGEST_TEXT + 1];
+    for flag in FLAGS {
+        sink(at(0, flag, Arguments::text(&text)));
     }
 }
 
