@@ -4,6 +4,7 @@ pub mod Demands
 pub mod CallDemands
 pub mod Refusals
 pub mod Again
+pub mod CDataCalls
 mod Seams
 pub mod Lines
 pub mod Decoding

@@ -3,3 +3,4 @@ pub mod CallDemands
 pub mod Characters
 pub mod Standard
 pub mod Again
+pub mod CDataCalls

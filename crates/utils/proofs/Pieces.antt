@@ -240,6 +240,11 @@ some-in (suc n) t h = go (split n t)
     go (one f q e) = omega (arith, ap length e)
     go (more xs r s f q e) = omega (arith, ap length e)
 
+-- there is one at least: of the empty text the empty one
+pub pieces-some : (t : List ℕ) → 1 ≤ length (pieces t)
+unfolding pieces
+pieces-some t = some-in (length t + 1) t (omega arith)
+
 call-first : (m : ℕ) (t : List ℕ) (c : Cursor) (s : Stepped) → cdataStep t c ≡ s → calls (suc m) t c ≡ s ∷ calls m t (s .next)
 unfolding calls
 call-first m t c s e = ap (λ (r : Stepped). r ∷ calls m t (r .next)) e
