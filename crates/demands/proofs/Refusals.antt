@@ -180,25 +180,25 @@ normalize-attribute-value-refuses text version depth limit list pool out =
         }
 
 finish-short : (value scratch form : List ℕ) (openings : ℕ) (out : List ℕ) → length value ≤ length scratch
-    → RefusesForm scratch out (besides (laid value scratch) (finish form openings out))
+    → RefusesForm (done value openings) scratch out (besides (laid value scratch) (finish form openings out))
 unfolding finish
 finish-short value scratch form openings out room =
-    pick-both (λ (c : Called). RefusesForm scratch out (besides (laid value scratch) c)) (ltb (length out) (length form))
+    pick-both (λ (c : Called). RefusesForm (done value openings) scratch out (besides (laid value scratch) c)) (ltb (length out) (length form))
     {a = called 19 (length form ∷ 0 ∷ []) (out ∷ [])} {b = called 0 (length form ∷ openings ∷ []) (laid form out ∷ [])}
-    (short value (length form ∷ 0 ∷ []) room) (formed (length form ∷ openings ∷ []) (laid value scratch ∷ laid form out ∷ []))
+    (short value openings (length form ∷ 0 ∷ []) refl room) (formed (length form ∷ openings ∷ []) (laid value scratch ∷ laid form out ∷ []))
 
-formed-refuses : (r : Rule) (o : Outcome) (scratch out : List ℕ) → Fails (In formNumbers) o → RefusesForm scratch out (formOutcome r o scratch out)
+formed-refuses : (r : Rule) (o : Outcome) (scratch out : List ℕ) → Fails (In formNumbers) o → RefusesForm o scratch out (formOutcome r o scratch out)
 unfolding formOutcome
 formed-refuses r (done value openings) scratch out h = go (ltb (length scratch) (length value)) refl
   where
     go : (b : Bool) → ltb (length scratch) (length value) ≡ b
-        → RefusesForm scratch out (pick b (called 18 (length value ∷ 0 ∷ []) (scratch ∷ out ∷ [])) (besides (laid value scratch) (finish (canonical r value) openings out)))
+        → RefusesForm (done value openings) scratch out (pick b (called 18 (length value ∷ 0 ∷ []) (scratch ∷ out ∷ [])) (besides (laid value scratch) (finish (canonical r value) openings out)))
     go true q = untouched 18 (length value ∷ 0 ∷ []) refl
     go false q = finish-short value scratch (canonical r value) openings out (ltb-false (length scratch) (length value) q)
 formed-refuses r (refused before openings why first second) scratch out h = untouched why (first ∷ second ∷ []) h
 
 pub canonical-form-refuses : (text : List ℕ) (version depth limit : ℕ) (list pool scratch out : List ℕ)
-    → RefusesForm scratch out
+    → RefusesForm (walked text version depth limit list pool) scratch out
     (canonicalFormCall text version depth limit list pool scratch out)
 unfolding canonicalFormCall
 canonical-form-refuses text version depth limit list pool scratch out =
@@ -214,6 +214,6 @@ canonical-form-refuses text version depth limit list pool scratch out =
         }
 
     go : (c : Answer) → By (In formNumbers) c
-        → RefusesForm scratch out (guarded c (scratch ∷ out ∷ []) (formOutcome (ruleOf version) (walked text version depth limit list pool) scratch out))
+        → RefusesForm (walked text version depth limit list pool) scratch out (guarded c (scratch ∷ out ∷ []) (formOutcome (ruleOf version) (walked text version depth limit list pool) scratch out))
     go (Done first second) h = formed-refuses (ruleOf version) (walked text version depth limit list pool) scratch out (fails-walked formNumbers text version depth limit list pool of-walk)
     go (Refused why first second) h = untouched why (first ∷ second ∷ []) h

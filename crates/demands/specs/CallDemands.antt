@@ -8,6 +8,7 @@ use lib.ListN.{length, take}
 use lib.Dec.{eqb}
 use Rattle.text.specs.Version.{knownVersion}
 use Rattle.text.specs.Call.{Called, called, laid}
+use Rattle.tokens.specs.Outcome.{Outcome, done}
 use Rattle.utils.specs.declared.Cursor.{Cursor}
 use Rattle.govlezna.specs.declared.CDataNext.{CDataNext}
 use Rattle.govlezna.specs.Calls.{checkTableCall, unescapeCall, normalizeAttributeValueCall, canonicalFormCall}
@@ -50,11 +51,13 @@ pub data Refuses (numbers : List ℕ) (entry : List (List ℕ)) : Called → Typ
   success : (words : List ℕ) (buffers : List (List ℕ)) → Refuses numbers entry (called 0 words buffers)
   refusal : (number : ℕ) (words : List ℕ) → listed number numbers ≡ true → Refuses numbers entry (called number words entry)
 
--- demand 1, the canonical form: the output is left by every refusal, and the scratch by all but 19, after which it holds the value
-pub data RefusesForm (scratch out : List ℕ) : Called → Type 0 where
-  formed : (words : List ℕ) (buffers : List (List ℕ)) → RefusesForm scratch out (called 0 words buffers)
-  untouched : (number : ℕ) (words : List ℕ) → listed number formNumbers ≡ true → RefusesForm scratch out (called number words (scratch ∷ out ∷ []))
-  short : (value words : List ℕ) → length value ≤ length scratch → RefusesForm scratch out (called 19 words (laid value scratch ∷ out ∷ []))
+-- demand 1, the canonical form: the output is left by every refusal, and the scratch by all but 19, after which its first bytes are the
+-- value that the walk made of this text, the rest kept
+pub data RefusesForm (walk : Outcome) (scratch out : List ℕ) : Called → Type 0 where
+  formed : (words : List ℕ) (buffers : List (List ℕ)) → RefusesForm walk scratch out (called 0 words buffers)
+  untouched : (number : ℕ) (words : List ℕ) → listed number formNumbers ≡ true → RefusesForm walk scratch out (called number words (scratch ∷ out ∷ []))
+  short : (value : List ℕ) (openings : ℕ) (words : List ℕ) → walk ≡ done value openings → length value ≤ length scratch
+      → RefusesForm walk scratch out (called 19 words (laid value scratch ∷ out ∷ []))
 
 -- demand 1, CDATA: the cursor moves with a piece alone; 255, "no more", leaves it too
 pub data RefusesPiece (cursor : Cursor) : CDataNext → Type 0 where
