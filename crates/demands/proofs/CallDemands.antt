@@ -21,7 +21,7 @@ use Rattle.output.proofs.Finish.{finish-laid}
 use Rattle.escape.specs.Escape.{Replacements, write, levelOf, levelSet, levelCheck}
 use Rattle.escape.proofs.Write.{Ascii, write-well-formed}
 use Rattle.escape.proofs.Levels.{level-ascii}
-use Rattle.entity.specs.Table.{declarations, tableCheck, ValidTable}
+use Rattle.entity.specs.Table.{Declaration, declarations, sizeCheck, tableCheck, ValidTable}
 use Rattle.entity.proofs.Tables.{checked-table, empty-valid}
 use Rattle.tokens.specs.Outcome.{Outcome, done, refused, finished}
 use Rattle.canonical.specs.Canonical.{canonical}
@@ -31,9 +31,9 @@ use Rattle.attribute.specs.Walk.{readingOf}
 use Rattle.attribute.proofs.Checked.{checked-settings}
 use Rattle.govlezna.specs.Calls.{escapeCall, checkTableCall, unescapeCall, walkCheck, walked, normalizeAttributeValueCall, canonicalFormCall}
 use Rattle.demands.specs.Demands.{Asked, ruleFor, Taken, Accepted, formOf, AskedAgain}
-use Rattle.demands.specs.CallDemands.{UnescapesTo, normalizeOf, canonicalOf, Answered, valueOf, writtenOf, CallsEqualExactly, CallAgain, CallRereads}
+use Rattle.demands.specs.CallDemands.{EmptyTable, UnescapesTo, normalizeOf, canonicalOf, Answered, valueOf, writtenOf, CallsEqualExactly, CallAgain, CallRereads}
 use Rattle.demands.proofs.Numbers.{By, Fails, TableNumbers, WalkNumbers, by-then, by-length, by-utf8, by-level, by-settings, by-table, fails-normalize, finished-done}
-use Rattle.demands.proofs.RoundTrip.{ReadsBack, unescape-write, level-reads}
+use Rattle.demands.proofs.RoundTrip.{ReadsBack, unescape-write, level-reads, unescape-undeclared}
 use Rattle.demands.proofs.Demands.{demand-3-equal, demand-3-again}
 
 -- ---- success has the number 0, and no refusal has it
@@ -97,6 +97,39 @@ version-done version {first} {second} e = go (knownVersion version) refl
         let z : _≡_ {A = ℕ} 0 1 = cc in
         absurd (omega arith)
 
+-- ---- a table that its check accepts
+
+table-numbers : TableNumbers Not0
+table-numbers =
+    record {
+      six = not0 6 (omega arith);
+      seven = not0 7 (omega arith);
+      eight = not0 8 (omega arith);
+      nine = not0 9 (omega arith);
+    }
+
+table-valid : (list pool : List ℕ) {declared : ℕ} → checkTableCall list pool ≡ called 0 (declared ∷ 0 ∷ []) [] → ValidTable list pool
+unfolding checkTableCall
+table-valid list pool {declared} e = go (tableCheck list pool) refl (by-table Not0 table-numbers list pool) e
+  where
+    go : (c : Answer) → tableCheck list pool ≡ c → By Not0 c → callOf c [] ≡ called 0 (declared ∷ 0 ∷ []) [] → ValidTable list pool
+    go (Done first second) q h k = checked-table list pool refl q
+    go (Refused why first second) q h k = absurd (h cc)
+
+-- the list `0` alone is an empty table, beside any pool of at most 1,048,576 bytes
+pub empty-accepted : (pool : List ℕ) → length pool ≤ 1048576 → EmptyTable (0 ∷ []) pool
+unfolding checkTableCall tableCheck sizeCheck
+empty-accepted pool l = rw (le-ltb 1048576 (length pool) l) refl
+
+-- an empty table declares nothing
+empty-declares : (list pool : List ℕ) → EmptyTable list pool → declarations list ≡ []
+unfolding checkTableCall
+empty-declares list pool e = go (declarations list) (rw (table-valid list pool e) at e)
+  where
+    go : (ds : List Declaration) → called 0 (length ds ∷ 0 ∷ []) [] ≡ called 0 (0 ∷ 0 ∷ []) [] → ds ≡ []
+    go [] q = refl
+    go (d ∷ ds) q = let z : length (d ∷ ds) ≡ 0 = cc in absurd (omega arith)
+
 -- ---- how a call finishes
 
 -- a value laid over a buffer that has room for it
@@ -134,9 +167,19 @@ unescape-form set back ascii t h out =
     go (Done first second) = refl
     go (Refused why first second) = refl
 
+-- with an empty table, whatever its pool, the call answers as with the list `0` and no pool
+pub unescape-empty : (text list pool out : List ℕ) → EmptyTable list pool → unescapeCall text list pool out ≡ unescapeCall text (0 ∷ []) [] out
+unfolding unescapeCall declarations
+unescape-empty text list pool out e =
+    let none = empty-declares list pool e in
+    rw (table-valid list pool e, empty-valid, none, unescape-undeclared list pool none text)
+
+-- demand 2 of any replacement set that reads back and is written in ASCII: a form of at most 16,777,216 bytes unescapes, with an empty
+-- table, to its text
 pub unescapes-to : (set : Replacements) → ReadsBack set → Ascii set → (t : List ℕ) → WellFormed t → length (write set t) ≤ 16777216 → UnescapesTo t (write set t)
-unescapes-to set back ascii t h l out room =
-    unescape-form set back ascii t h out ∙ rw (length-passes (write set t) l) (sym (finish-laid t 0 out refl room refl))
+unescapes-to set back ascii t h l list pool out empty room =
+    unescape-empty (write set t) list pool out empty
+    ∙ unescape-form set back ascii t h out ∙ rw (length-passes (write set t) l) (sym (finish-laid t 0 out refl room refl))
 
 -- what an escape that answered 0 wrote
 pub record Escaped (text : List ℕ) (level : ℕ) (out words : List ℕ) (left : List (List ℕ)) : Type 0 where
@@ -186,15 +229,6 @@ walk-numbers =
       };
       sixteen = not0 16 (omega arith);
       seventeen = not0 17 (omega arith);
-    }
-
-table-numbers : TableNumbers Not0
-table-numbers =
-    record {
-      six = not0 6 (omega arith);
-      seven = not0 7 (omega arith);
-      eight = not0 8 (omega arith);
-      nine = not0 9 (omega arith);
     }
 
 -- the checks and the walk of what is asked
@@ -377,14 +411,6 @@ demand-3-calls-equal a b e x y =
       λ h. (p .size ∙ ap length (both .0 h) ∙ sym (q .size), p .form ∙ both .0 h ∙ sym (q .form)),
       λ h. both .1 (sym (p .form) ∙ h .1 ∙ q .form),
     )
-
-table-valid : (list pool : List ℕ) {declared : ℕ} → checkTableCall list pool ≡ called 0 (declared ∷ 0 ∷ []) [] → ValidTable list pool
-unfolding checkTableCall
-table-valid list pool {declared} e = go (tableCheck list pool) refl (by-table Not0 table-numbers list pool) e
-  where
-    go : (c : Answer) → tableCheck list pool ≡ c → By Not0 c → callOf c [] ≡ called 0 (declared ∷ 0 ∷ []) [] → ValidTable list pool
-    go (Done first second) q h k = checked-table list pool refl q
-    go (Refused why first second) q h k = absurd (h cc)
 
 pub demand-3-calls-again : (a : Asked) (x : Answered a) (b : Asked) → CallAgain a x b → CallRereads (valueOf a x) b
 demand-3-calls-again a x b c =

@@ -1,13 +1,14 @@
 -- A text written by any replacement set that reads back unescapes, with an empty table, to itself; the four levels are such sets
 -- (demand 2). Assumes nothing.
-use mathlib.Core.Path.{_≡_, refl, ap}
+use mathlib.Core.Path.{_≡_, refl, ap, _∙_}
 use Prim.Native.Nat.{ℕ, suc}
 use mathlib.Core.Bool.{Bool, true, false}
 use mathlib.Core.List.{List, [], _∷_, _++_}
 use lib.Dec.{eqb}
 use borrow.Author.Tests.{eqb-true}
 use Rattle.text.proofs.Bytes.{pick-by, contrary}
-use Rattle.entity.specs.Binding.{Bound, binding}
+use Rattle.entity.specs.Table.{Declaration, declarations}
+use Rattle.entity.specs.Binding.{Bound, bindingIn, binding}
 use Rattle.escape.specs.Escape.{Replacements, writeByte, write, Level, full, partial, minimal, attribute, escaped, reference, levelOf, levelSet}
 use Rattle.escape.proofs.View.{Kind, Other, is-lt, is-gt, is-amp, is-apos, is-quot, is-cr, is-lf, is-tab, is-other, kind}
 use Rattle.tokens.specs.Outcome.{done, prepend}
@@ -47,6 +48,7 @@ module _ (set : Replacements) (back : ReadsBack set) where
   written-read [] offset = refl
   written-read (b ∷ bs) offset = byte-read b (write set bs) bs (written-read bs) offset
 
+  -- over any set that reads back, what is written unescapes, with an empty table, to the text
   pub unescape-write : (t : List ℕ) → unescape noTable (write set t) ≡ done t 0
   unfolding unescape
   unescape-write t = written-read t 0
@@ -76,10 +78,20 @@ escapes-amp partial = refl
 escapes-amp minimal = refl
 escapes-amp attribute = refl
 
+-- each of the four levels reads back
 pub level-reads : (l : Level) → ReadsBack (levelSet l)
 unfolding levelSet
 level-reads l = record { reads = λ b e. reference-read b (kind b); amp = escapes-amp l }
 
+-- ---- every empty table
+
+-- a table that declares nothing reads as the empty table, whatever its pool
+pub unescape-undeclared : (list pool : List ℕ) → declarations list ≡ [] → (t : List ℕ) → unescape (binding list pool) t ≡ unescape noTable t
+unfolding binding bindingIn declarations
+unescape-undeclared list pool e t = ap (λ (ds : List Declaration). unescape (λ name. bindingIn ds pool name) t) e
+
 -- demand 2: a text escaped at any of the four levels unescapes, with an empty table, to itself
-pub unescape-escape : (level : ℕ) (t : List ℕ) → unescape (binding (0 ∷ []) []) (write (levelSet (levelOf level)) t) ≡ done t 0
-unescape-escape level t = unescape-write (levelSet (levelOf level)) (level-reads (levelOf level)) t
+pub unescape-escape : (level : ℕ) (t : List ℕ) (list pool : List ℕ) → declarations list ≡ []
+    → unescape (binding list pool) (write (levelSet (levelOf level)) t) ≡ done t 0
+unescape-escape level t list pool e =
+    unescape-undeclared list pool e (write (levelSet (levelOf level)) t) ∙ unescape-write (levelSet (levelOf level)) (level-reads (levelOf level)) t

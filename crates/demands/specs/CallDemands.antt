@@ -66,9 +66,14 @@ pub data RefusesPiece (cursor : Cursor) : CDataNext → Type 0 where
 
 -- ---- demand 2
 
+-- demand 2: an empty table is one that its check accepts with no definition: the list `0` alone, beside any pool that is not too long
+abbrev pub EmptyTable : List ℕ → List ℕ → Type 0
+EmptyTable list pool = checkTableCall list pool ≡ called 0 (0 ∷ 0 ∷ []) []
+
 -- demand 2: with an empty table and any output that has room, the form unescapes to the text, with no opening; the output's rest is kept
 abbrev pub UnescapesTo : List ℕ → List ℕ → Type 0
-UnescapesTo text form = (out : List ℕ) → length text ≤ length out → unescapeCall form (0 ∷ []) [] out ≡ called 0 (length text ∷ 0 ∷ []) (laid text out ∷ [])
+UnescapesTo text form = (list pool out : List ℕ) → EmptyTable list pool → length text ≤ length out
+    → unescapeCall form list pool out ≡ called 0 (length text ∷ 0 ∷ []) (laid text out ∷ [])
 
 -- ---- demand 3
 

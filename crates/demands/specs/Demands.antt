@@ -15,10 +15,11 @@ use Rattle.unescape.specs.Unescape.{unescape}
 use Rattle.attribute.specs.Walk.{normalize, readingOf}
 use Rattle.canonical.specs.Canonical.{canonical}
 
--- demand 2: an escaped text is UTF-8 (so no call refuses it by 5), and unescapes, with an empty table, to the text with no opening
+-- demand 2: an escaped text is UTF-8 (so no call refuses it by 5), and unescapes, with a table that declares nothing, to the text with
+-- no opening
 pub record EscapedReads (level : ℕ) (t : List ℕ) : Type 0 where
   pub utf8 : WellFormed (write (levelSet (levelOf level)) t)
-  pub reads : unescape (binding (0 ∷ []) []) (write (levelSet (levelOf level)) t) ≡ done t 0
+  pub reads : (list pool : List ℕ) → declarations list ≡ [] → unescape (binding list pool) (write (levelSet (levelOf level)) t) ≡ done t 0
 
 -- Attribute walk: what a call that normalizes is asked
 pub record Asked : Type 0 where
