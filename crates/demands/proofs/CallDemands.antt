@@ -1,5 +1,5 @@
 -- Demands 2 and 3 hold of the calls. Assumes nothing.
-use mathlib.Core.Path.{_≡_, refl, ap, sym, subst, _∙_}
+use mathlib.Core.Path.{_≡_, refl, ap, ap₂, sym, subst, _∙_}
 use mathlib.Core.Logic.{_≢_}
 use Prim.Native.Nat.{ℕ, _≤_}
 use native.Mathlib.Omega.{arith}
@@ -31,7 +31,7 @@ use Rattle.attribute.specs.Walk.{readingOf}
 use Rattle.attribute.proofs.Checked.{checked-settings}
 use Rattle.govlezna.specs.Calls.{escapeCall, checkTableCall, unescapeCall, walkCheck, walked, normalizeAttributeValueCall, canonicalFormCall}
 use Rattle.demands.specs.Demands.{Asked, ruleFor, Taken, Accepted, formOf, AskedAgain}
-use Rattle.demands.specs.CallDemands.{EmptyTable, UnescapesTo, normalizeOf, canonicalOf, Answered, valueOf, writtenOf, CallsEqualExactly, CallAgain, CallRereads}
+use Rattle.demands.specs.CallDemands.{EmptyTable, UnescapesTo, normalizeOf, canonicalOf, Answered, Completed, valueOf, writtenOf, CallsEqualExactly, CallAgain, CallRereads}
 use Rattle.demands.proofs.Numbers.{By, Fails, TableNumbers, WalkNumbers, by-then, by-length, by-utf8, by-level, by-settings, by-table, fails-normalize, finished-done}
 use Rattle.demands.proofs.RoundTrip.{ReadsBack, unescape-write, level-reads, unescape-undeclared}
 use Rattle.demands.proofs.Demands.{demand-3-equal, demand-3-again}
@@ -302,28 +302,28 @@ canonical-roomy a value openings p scratch out room space =
 
 -- ---- and a call that answered 0 accepted
 
-pub record Normalized (a : Asked) (out : List ℕ) (size openings : ℕ) (left : List ℕ) : Type 0 where
+-- what normalization that answered 0 left, whatever was lent
+pub record Normalized (a : Asked) (out words : List ℕ) (buffers : List (List ℕ)) : Type 0 where
   pub value : List ℕ
+  pub openings : ℕ
   pub accepted : Accepted a value openings
-  pub value-is : take size left ≡ value
+  pub holds : Laid value openings out words buffers
 
-pub normalize-answered : (a : Asked) (out : List ℕ) {size openings : ℕ} {left : List ℕ} → normalizeOf a out ≡ called 0 (size ∷ openings ∷ []) (left ∷ [])
-    → Normalized a out size openings left
+-- demand 1: where normalization answers 0, what it was asked passed all of 1 to 9, and the walk made the value that the output holds
+pub normalize-answered : (a : Asked) (out : List ℕ) {words : List ℕ} {buffers : List (List ℕ)} → normalizeOf a out ≡ called 0 words buffers
+    → Normalized a out words buffers
 unfolding normalizeAttributeValueCall finished
-normalize-answered a out {size} {openings} {left} e =
+normalize-answered a out {words} {buffers} e =
     let p = guarded-zero (checkOf a) (out ∷ []) (finished (walkedOf a) out) (check-by a) e in
     go (walkedOf a) refl (taken-by a (p .checks)) (p .answers) (fails-normalize Not0 walk-numbers (readingOf (ruleFor a) (a .list) (a .pool) (a .limit)) (a .depth) (a .text))
   where
-    go : (o : Outcome) → walkedOf a ≡ o → Taken a → finished o out ≡ called 0 (size ∷ openings ∷ []) (left ∷ []) → Fails Not0 o → Normalized a out size openings left
+    go : (o : Outcome) → walkedOf a ≡ o → Taken a → finished o out ≡ called 0 words buffers → Fails Not0 o → Normalized a out words buffers
     go (done value made) q t k f =
-        let l = finish-zero value made out (sym (finished-done value made out) ∙ k) in
-        let n : size ≡ length value = cc in
-        let m : made ≡ openings = cc in
-        let b : left ≡ laid value out = cc in
         record {
           value = value;
-          accepted = record { taken = t; reads = q ∙ ap (done value) m };
-          value-is = first-bytes value out n b;
+          openings = made;
+          accepted = record { taken = t; reads = q };
+          holds = finish-zero value made out (sym (finished-done value made out) ∙ k);
         }
     go (refused before made why first second) q t k f = absurd (f cc)
 
@@ -387,21 +387,59 @@ pub answered-reads : (a : Asked) (x : Answered a) → Read a x
 answered-reads a x =
     let n = normalize-answered a (x .out) (x .normalizes) in
     let f = canonical-answered a (x .scratch) (x .formOut) (x .writes) in
-    let d : done (n .value) (x .openings) ≡ done (f .value) (f .openings) = sym (n .accepted .reads) ∙ f .accepted .reads in
+    let d : done (n .value) (n .openings) ≡ done (f .value) (f .openings) = sym (n .accepted .reads) ∙ f .accepted .reads in
     let w = f .words-are in
     let b = f .buffers-are in
+    let wn = n .holds .words-are in
+    let bn = n .holds .left-is in
     let u : n .value ≡ f .value = cc in
-    let v : f .value ≡ valueOf a x = sym u ∙ sym (n .value-is) in
+    let made : n .openings ≡ x .openings = cc in
+    let long : x .size ≡ length (n .value) = cc in
+    let whole : x .left ≡ laid (n .value) (x .out) = cc in
+    let value : valueOf a x ≡ n .value = first-bytes (n .value) (x .out) long whole in
+    let v : f .value ≡ valueOf a x = sym u ∙ sym value in
     let size : x .formSize ≡ length (formOf a (f .value)) = cc in
     let held : x .held ≡ laid (f .value) (x .scratch) = cc in
     let left : x .formLeft ≡ laid (formOf a (f .value)) (x .formOut) = cc in
     record {
-      accepted = rw (n .value-is) (n .accepted);
+      accepted = record { taken = n .accepted .taken; reads = n .accepted .reads ∙ ap₂ done (sym value) made };
       size = size ∙ ap (λ (t : List ℕ). length (formOf a t)) v;
       form = first-bytes (formOf a (f .value)) (x .formOut) size left ∙ ap (formOf a) v;
       same = cc;
       scratch = held ∙ ap (λ (t : List ℕ). laid t (x .scratch)) v;
     }
+
+-- demand 3's premise: an accepted value is answered by both calls where there is room; here in buffers of just the length needed
+pub accepted-answered : (a : Asked) (value : List ℕ) (openings : ℕ) → Accepted a value openings → (out : List ℕ) → length value ≤ length out
+    → Completed a (length value ∷ openings ∷ []) (laid value out ∷ [])
+accepted-answered a value openings p out room =
+    let form = formOf a value in
+    record {
+      answered = record {
+        out = out;
+        size = length value;
+        openings = openings;
+        left = laid value out;
+        normalizes = normalize-roomy a value openings p out room;
+        scratch = value;
+        formOut = form;
+        formSize = length form;
+        formOpenings = openings;
+        held = laid value value;
+        formLeft = laid form form;
+        writes = canonical-roomy a value openings p value form (omega arith) (omega arith);
+      };
+      words-are = refl;
+      buffers-are = refl;
+    }
+
+-- demand 3's premise from acceptance alone: a value whose normalization answers 0, with any output, is `Answered`, by what this call left
+pub normalize-completes : (a : Asked) (out : List ℕ) {words : List ℕ} {buffers : List (List ℕ)} → normalizeOf a out ≡ called 0 words buffers
+    → Completed a words buffers
+normalize-completes a out e =
+    let n = normalize-answered a out e in
+    let c = accepted-answered a (n .value) (n .openings) (n .accepted) out (n .holds .room) in
+    record { answered = c .answered; words-are = n .holds .words-are ∙ c .words-are; buffers-are = n .holds .left-is ∙ c .buffers-are }
 
 pub demand-3-calls-equal : (a b : Asked) → ruleFor a ≡ ruleFor b → (x : Answered a) (y : Answered b) → CallsEqualExactly a b x y
 demand-3-calls-equal a b e x y =

@@ -2,6 +2,7 @@ pub mod Numbers
 pub mod RoundTrip
 pub mod Demands
 pub mod CallDemands
+mod Inhabited
 pub mod Refusals
 pub mod Again
 pub mod CDataCalls

@@ -99,6 +99,12 @@ pub record Answered (a : Asked) : Type 0 where
   pub formLeft : List ℕ
   pub writes : canonicalOf a scratch formOut ≡ called 0 (formSize ∷ formOpenings ∷ []) (held ∷ formLeft ∷ [])
 
+-- Canonical form: what normalization left with the number 0 is part of such an `Answered`: acceptance asks nothing of the writer
+pub record Completed (a : Asked) (words : List ℕ) (buffers : List (List ℕ)) : Type 0 where
+  pub answered : Answered a
+  pub words-are : words ≡ answered .size ∷ answered .openings ∷ []
+  pub buffers-are : buffers ≡ answered .left ∷ []
+
 -- Canonical form: the bytes that normalization gives are the normalized value
 abbrev pub valueOf : (a : Asked) → Answered a → List ℕ
 valueOf a x = take (x .size) (x .left)
