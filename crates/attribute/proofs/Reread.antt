@@ -164,13 +164,6 @@ pub normalize-canonical : (r : Rule) (bind : List ℕ → Bound) (limit depth : 
 unfolding normalize reading
 normalize-canonical r bind limit depth P value = reread r (reading r bind limit) depth (readable r bind limit P) value
 
--- what a canonical form is read as has that form again
-pub canonical-again : (r : Rule) (bind : List ℕ → Bound) (limit depth : ℕ) → LeavesPredefined bind → (w value : List ℕ) (openings : ℕ)
-    → normalize (reading r bind limit) (suc depth) (canonical r w) ≡ done value openings → (canonical r value ≡ canonical r w) × (openings ≡ 0)
-canonical-again r bind limit depth P w value openings e =
-    let p : done value openings ≡ done w 0 = sym e ∙ normalize-canonical r bind limit depth P w in
-    (ap (canonical r) cc, cc)
-
 no-table : LeavesPredefined (binding (0 ∷ []) [])
 unfolding binding
 no-table = record { lt = refl; gt = refl; apos = refl; quot = refl }

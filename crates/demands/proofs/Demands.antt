@@ -5,11 +5,7 @@ use Prim.Native.Nat.{ℕ, zero, suc, _≤_}
 use native.Mathlib.Omega.{arith}
 use mathlib.Core.Bool.{Bool, true, false}
 use mathlib.Core.List.{List, [], _∷_}
-use lib.ListN.{length}
-use borrow.Author.Tests.{eq-eqb, le-ltb}
 use Rattle.text.specs.Bytes.{sameBytes}
-use Rattle.text.specs.Call.{passed, lengthCheck, utf8Check, textCheck}
-use Rattle.text.proofs.Longest.{whole-end}
 use Rattle.text.specs.Version.{Rule}
 use Rattle.text.specs.Utf8.{WellFormed}
 use Rattle.text.proofs.Bytes.{same-equal}
@@ -29,11 +25,6 @@ use Rattle.demands.proofs.RoundTrip.{unescape-escape}
 
 pub demand-2 : (level : ℕ) (t : List ℕ) → WellFormed t → EscapedReads level t
 demand-2 level t h = record { utf8 = escape-well-formed (levelOf level) t h; reads = unescape-escape level t }
-
--- a UTF-8 text of at most 16,777,216 bytes passes the checks of a text
-pub text-passes : (t : List ℕ) → WellFormed t → length t ≤ 16777216 → textCheck t ≡ passed
-unfolding lengthCheck utf8Check
-text-passes t h l = rw (le-ltb 16777216 (length t) l, whole-end t h, eq-eqb (length t) (length t) refl)
 
 -- ---- what a table that defines none of the four leaves them bound to
 

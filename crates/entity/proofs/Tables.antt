@@ -36,10 +36,6 @@ pub empty-valid : ValidTable (0 ∷ []) []
 unfolding tableCheck
 empty-valid = refl
 
-pub empty-binding : (name : List ℕ) → binding (0 ∷ []) [] name ≡ predefinedOf name
-unfolding binding
-empty-binding name = refl
-
 -- ---- bindings by declaration
 
 -- XML 1.0, 4.2: the first declaration binds

@@ -5,7 +5,7 @@ use mathlib.Core.List.{List, [], _∷_, _++_, append-assoc, append-nil}
 use Prim.Native.Nat.{ℕ, _+_, _*_, _-_, _≤_, _<_}
 use native.Mathlib.Omega.{arith}
 use native.Mathlib.Numerals.{add-one}
-use lib.ListN.{length, take, drop, getD, length-append, take-append-drop}
+use lib.ListN.{length, take, drop, getD, length-append}
 use lib.Seq.{take-length, take-suc, drop-cons, take-add}
 use Rattle.text.specs.Utf8.{State, between, after, WellFormed}
 use Rattle.text.proofs.Bytes.{pick-by}
@@ -35,9 +35,6 @@ module _ (set : Replacements) where
   -- a part more
   pub write-part : (text : List ℕ) (i n : ℕ) → write set (take (i + n) text) ≡ write set (take i text) ++ write set (take n (drop i text))
   write-part text i n = rw (take-add i n text, write-append)
-
-  pub write-whole : (text : List ℕ) (i : ℕ) → write set text ≡ write set (take i text) ++ write set (drop i text)
-  write-whole text i = ap (write set) (sym (take-append-drop i text)) ∙ write-append (take i text) (drop i text)
 
   -- the count of a part, added to that of what is before it
   pub count-part : (text : List ℕ) (i n c m : ℕ) → n + i ≡ length (write set (take i text)) → m + c ≡ length (write set (take c (drop i text)))
