@@ -58,12 +58,14 @@ module _ (st : Settings) where
       (answer-related (Keeps by16) (keeps-related by16) st (λ u m. walk st (st .inner) depth u m) (λ u m. walk st (st .inner) (suc depth) u m)
       (λ u m. one-deeper (st .inner) depth u m)) (tokens at 0 0 t) n
 
+  -- A value accepted at one depth is accepted at every greater one, with the same bytes and openings.
   pub deeper-done : (at : Heads) (depth more : ℕ) (t value : List ℕ) (n openings : ℕ) → walk st at depth t n ≡ done value openings
       → walk st at (more + depth) t n ≡ done value openings
   deeper-done at depth zero t value n openings e = rw (zero-add depth) e
   deeper-done at depth (suc more) t value n openings e =
       rw (suc-add more depth) (rw (deeper-done at depth more t value n openings e) at (one-deeper at (more + depth) t n))
 
+  -- A refusal other than 16 is the answer at every greater depth.
   pub deeper-refused : (at : Heads) (depth more : ℕ) (t before : List ℕ) (n m why first second : ℕ) → eqb why 16 ≡ false
       → walk st at depth t n ≡ refused before m why first second → walk st at (more + depth) t n ≡ refused before m why first second
   deeper-refused at depth zero t before n m why first second w e = rw (zero-add depth) e

@@ -158,7 +158,8 @@ readable xml11 bind limit P =
       ls-legal = refl;
     }
 
--- with any limit, and any binding that leaves lt, gt, apos and quot predefined
+-- A canonical form is read, with any limit, at any depth from 1 on and with any binding that leaves lt, gt, apos and quot predefined, as the
+-- value it was written from, with no opening.
 pub normalize-canonical : (r : Rule) (bind : List ℕ → Bound) (limit depth : ℕ) → LeavesPredefined bind → (value : List ℕ)
     → normalize (reading r bind limit) (suc depth) (canonical r value) ≡ done value 0
 unfolding normalize reading
@@ -177,5 +178,6 @@ canonical-injective r a b e =
     ∙ normalize-canonical r (binding (0 ∷ []) []) 0 0 no-table b in
     cc
 
+-- Values are equal exactly when their canonical forms are.
 pub canonical-exactly : (r : Rule) (a b : List ℕ) → (a ≡ b) ↔ (canonical r a ≡ canonical r b)
 canonical-exactly r a b = (λ e. ap (canonical r) e, canonical-injective r a b)

@@ -127,17 +127,19 @@ module _ (r : Rule) (bind : List ℕ → Bound) (limit depth : ℕ) (t : List �
   normalize-well-formed good =
       walk-well-formed (reading r bind limit) any-own good (attribute-utf8 anyCharacter any-own r) (attributeHead r) (attribute-utf8 anyCharacter any-own r) depth t 0
 
+  -- An accepted value took at most as many openings as the limit.
   pub openings-within : (value : List ℕ) (openings : ℕ) → normalize (reading r bind limit) depth t ≡ done value openings → openings ≤ limit
   unfolding normalize reading
   openings-within value openings e = rw e at (walk-within (reading r bind limit) (attributeHead r) depth t 0 (omega arith))
 
 -- with a table
 module _ (r : Rule) (list pool : List ℕ) (limit depth : ℕ) (t value : List ℕ) (openings : ℕ) (e : normalize (readingOf r list pool limit) depth t ≡ done value openings) where
-  -- of a list of bytes
+  -- An accepted value is at most as long as its text and 65,535 bytes for each opening; of a list of bytes.
   pub table-length : ((k : ℕ) → getD list k 0 < 0x100) → length value ≤ length t + 65535 * openings
   unfolding readingOf
   table-length small = value-length r (binding list pool) limit depth t (binding-short list pool small) value openings e
 
+  -- With a valid table, what a UTF-8 text is normalized to is UTF-8.
   pub table-well-formed : ValidTable list pool → WellFormed t → WellFormed value
   unfolding readingOf
   table-well-formed valid h = normalize-well-formed r (binding list pool) limit depth t (binding-good list pool valid) value openings h e

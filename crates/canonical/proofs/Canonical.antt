@@ -145,6 +145,7 @@ pieces-move r value form (more {bytes = bytes} {front = front} {rest = rest} {fo
     after-append s front left ∙ ap (λ (x : State). after x left) (piece-moves r bytes front left p s)
     ∙ pieces-move r rest left m (after s bytes) ∙ sym (after-append s bytes rest)
 
+-- The canonical form of a UTF-8 value is UTF-8.
 pub canonical-well-formed : (r : Rule) (value : List ℕ) → WellFormed value → WellFormed (canonical r value)
 unfolding WellFormed
 canonical-well-formed r value h = pieces-move r value (canonical r value) (canonical-pieces r value) between ∙ h

@@ -50,6 +50,7 @@ module _ (P : List ℕ → Type 0) (n : ℕ)
 
 -- ---- their count
 
+-- UTF-8 has 1 byte for a character below U+0080, 2 below U+0800, 3 below U+10000, else 4.
 pub encode-length : (n : ℕ) → length (encode n) ≡ pick (ltb n 0x80) 1 (pick (ltb n 0x800) 2 (pick (ltb n 0x10000) 3 4))
 encode-length n =
     by-size (λ (l : List ℕ). length l ≡ pick (ltb n 0x80) 1 (pick (ltb n 0x800) 2 (pick (ltb n 0x10000) 3 4))) n

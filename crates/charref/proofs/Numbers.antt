@@ -165,9 +165,11 @@ module _ (legal : ℕ → CharNumber) (own : (m n : ℕ) → legal m ≡ Char n 
   legal-character [] n e = judge-character NoNumber n e
   legal-character (b ∷ bs) n e = judge-character (pick (eqb b 120) (inBase 16 bs) (inBase 10 (b ∷ bs))) n e
 
+-- A character number that is read is not 0, no surrogate, and at most U+10FFFF.
 pub charNumber-character : (text : List ℕ) (n : ℕ) → charNumber anyCharacter text ≡ Char n → Character n
 charNumber-character text n e = legal-character anyCharacter (λ m k q. cc) text n e
 
+-- The bytes of a character number that is read are well-formed UTF-8.
 pub charNumber-well-formed : (text : List ℕ) (n : ℕ) → charNumber anyCharacter text ≡ Char n → WellFormed (encode n)
 charNumber-well-formed text n e =
     let h : Character n = charNumber-character text n e in

@@ -155,7 +155,7 @@ first-bytes value out e q = rw (e, q) (take-append-seam value (drop (length valu
 
 -- ---- demand 2
 
--- of any set that reads back and is written in ASCII: 1 where the form is too long, else the text
+-- A text written by any set that reads back and is written in ASCII: 1 where the form is too long, else the text.
 pub unescape-form : (set : Replacements) → ReadsBack set → Ascii set → (t : List ℕ) → WellFormed t → (out : List ℕ)
     → unescapeCall (write set t) (0 ∷ []) [] out ≡ guarded (lengthCheck (write set t)) (out ∷ []) (finish t 0 out)
 unfolding unescapeCall declarations
@@ -189,6 +189,7 @@ pub record Escaped (text : List ℕ) (level : ℕ) (out words : List ℕ) (left 
   pub checks : argumentCheck text (levelCheck level) ≡ Done first second
   pub writes : Laid (write (levelSet (levelOf level)) text) 0 out words left
 
+-- Where an escape answers 0, the text is UTF-8, and the output holds it written at the level.
 pub escape-answered : (text : List ℕ) (level : ℕ) (out : List ℕ) {words : List ℕ} {left : List (List ℕ)} → escapeCall text level out ≡ called 0 words left
     → Escaped text level out words left
 unfolding escapeCall
@@ -200,6 +201,7 @@ escape-answered text level out e =
     let u = then-done (levelCheck level) (utf8Check text) (then-done (lengthCheck text) (andThen (levelCheck level) (utf8Check text)) (p .checks) .later) .later in
     record { utf8 = utf8-done text u; first = p .first; second = p .second; checks = p .checks; writes = finish-zero form 0 out (p .answers) }
 
+-- Demand 2: a text escaped at any of the four levels into at most 16,777,216 bytes unescapes, with an empty table, to itself.
 pub demand-2-calls : (text : List ℕ) (level : ℕ) (out : List ℕ) (size second : ℕ) (left : List ℕ)
     → escapeCall text level out ≡ called 0 (size ∷ second ∷ []) (left ∷ []) → size ≤ 16777216 → UnescapesTo text (take size left)
 demand-2-calls text level out size second left e l =
@@ -277,21 +279,23 @@ taken-passes a t =
     )
     (t .table)
 
--- an accepted value: what the calls do with any buffers; there is room enough where neither 18 nor 19 answers
+-- What normalization gives of an accepted value does not hang on the output: the value, or 19 where there is no room for it.
 pub normalize-accepted : (a : Asked) (value : List ℕ) (openings : ℕ) → Accepted a value openings → (out : List ℕ) → normalizeOf a out ≡ finish value openings out
 unfolding normalizeAttributeValueCall
 normalize-accepted a value openings p out = rw (taken-passes a (p .taken), p .reads) (finished-done value openings out)
 
+-- What the canonical form gives of an accepted value does not hang on the buffers: the form, or 18 or 19 where there is no room.
 pub canonical-accepted : (a : Asked) (value : List ℕ) (openings : ℕ) → Accepted a value openings → (scratch out : List ℕ)
     → canonicalOf a scratch out ≡ formed (ruleFor a) (done value openings) scratch out
 unfolding canonicalFormCall
 canonical-accepted a value openings p scratch out = rw (taken-passes a (p .taken), p .reads)
 
--- where there is room
+-- With room enough, normalization of an accepted value answers 0, the length and the openings.
 pub normalize-roomy : (a : Asked) (value : List ℕ) (openings : ℕ) → Accepted a value openings → (out : List ℕ) → length value ≤ length out
     → normalizeOf a out ≡ called 0 (length value ∷ openings ∷ []) (laid value out ∷ [])
 normalize-roomy a value openings p out room = normalize-accepted a value openings p out ∙ sym (finish-laid value openings out refl room refl)
 
+-- With room enough, the canonical form of an accepted value answers 0, the form's length and the openings.
 pub canonical-roomy : (a : Asked) (value : List ℕ) (openings : ℕ) → Accepted a value openings → (scratch out : List ℕ)
     → length value ≤ length scratch → length (formOf a value) ≤ length out
     → canonicalOf a scratch out ≡ called 0 (length (formOf a value) ∷ openings ∷ []) (laid value scratch ∷ laid (formOf a value) out ∷ [])
@@ -309,7 +313,7 @@ pub record Normalized (a : Asked) (out words : List ℕ) (buffers : List (List �
   pub accepted : Accepted a value openings
   pub holds : Laid value openings out words buffers
 
--- demand 1: where normalization answers 0, what it was asked passed all of 1 to 9, and the walk made the value that the output holds
+-- Demand 1: where normalization answers 0, what it was asked passed all of 1 to 9, and the output holds the value that the walk made.
 pub normalize-answered : (a : Asked) (out : List ℕ) {words : List ℕ} {buffers : List (List ℕ)} → normalizeOf a out ≡ called 0 words buffers
     → Normalized a out words buffers
 unfolding normalizeAttributeValueCall finished
@@ -345,6 +349,8 @@ record Beside (first words : List ℕ) (buffers : List (List ℕ)) (c : Called) 
 besides-zero : (first : List ℕ) (c : Called) {words : List ℕ} {buffers : List (List ℕ)} → besides first c ≡ called 0 words buffers → Beside first words buffers c
 besides-zero first (called number words rest) e = record { rest = rest; own = cc; whole = cc }
 
+-- Demand 1: where the canonical form answers 0, what it was asked passed all of 1 to 9, the scratch holds the value that the walk made
+-- and the output its form.
 pub canonical-answered : (a : Asked) (scratch out : List ℕ) {words : List ℕ} {buffers : List (List ℕ)} → canonicalOf a scratch out ≡ called 0 words buffers
     → Formed a scratch out words buffers
 unfolding canonicalFormCall formed
@@ -383,6 +389,7 @@ pub record Read (a : Asked) (x : Answered a) : Type 0 where
   pub same : x .formOpenings ≡ x .openings
   pub scratch : x .held ≡ laid (valueOf a x) (x .scratch)
 
+-- What the calls of an `Answered` left are the definitions' value and form, with the same openings.
 pub answered-reads : (a : Asked) (x : Answered a) → Read a x
 answered-reads a x =
     let n = normalize-answered a (x .out) (x .normalizes) in
@@ -441,6 +448,8 @@ normalize-completes a out e =
     let c = accepted-answered a (n .value) (n .openings) (n .accepted) out (n .holds .room) in
     record { answered = c .answered; words-are = n .holds .words-are ∙ c .words-are; buffers-are = n .holds .left-is ∙ c .buffers-are }
 
+-- Demand 3, first half: two accepted values of one XML version, each read with its own table, depth and opening limit, are equal exactly
+-- when their canonical forms are equal, in length and in every byte.
 pub demand-3-calls-equal : (a b : Asked) → ruleFor a ≡ ruleFor b → (x : Answered a) (y : Answered b) → CallsEqualExactly a b x y
 demand-3-calls-equal a b e x y =
     let p = answered-reads a x in
@@ -450,6 +459,8 @@ demand-3-calls-equal a b e x y =
       λ h. both .1 (sym (p .form) ∙ h .1 ∙ q .form),
     )
 
+-- Demand 3, second half: a canonical form of at most 16,777,216 bytes, normalized under its version with room enough, is accepted, gives
+-- exactly the value it was written from, with an opening count of 0, and its canonical form is itself, byte for byte.
 pub demand-3-calls-again : (a : Asked) (x : Answered a) (b : Asked) → CallAgain a x b → CallRereads (valueOf a x) b
 demand-3-calls-again a x b c =
     let p = answered-reads a x in

@@ -23,6 +23,7 @@ use Rattle.attribute.proofs.Reread.{LeavesPredefined, normalize-canonical, cano
 use Rattle.demands.specs.Demands.{EscapedReads, Asked, ruleFor, Accepted, formOf, EqualExactly, NoneNamed, DefinesNone, AskedAgain, Rereads}
 use Rattle.demands.proofs.RoundTrip.{unescape-escape}
 
+-- Demand 2, of the definitions: a text escaped at any of the four levels unescapes, with an empty table, to itself.
 pub demand-2 : (level : ℕ) (t : List ℕ) → WellFormed t → EscapedReads level t
 demand-2 level t h = record { utf8 = escape-well-formed (levelOf level) t h; reads = unescape-escape level t }
 
@@ -40,6 +41,7 @@ unnamed : (name list pool : List ℕ) → NoneNamed name pool (declarations list
 unfolding binding
 unnamed name list pool h = undeclared-binds (declarations list) pool name (undeclared name pool (declarations list) h)
 
+-- A table that defines none of lt, gt, apos and quot leaves them predefined.
 pub leaves-predefined : (list pool : List ℕ) → DefinesNone list pool → LeavesPredefined (binding list pool)
 unfolding predefinedOf
 leaves-predefined list pool h =
@@ -52,6 +54,7 @@ leaves-predefined list pool h =
 
 -- ---- demand 3
 
+-- Demand 3, first half, of the definitions: accepted values of one version are equal exactly when their canonical forms are.
 pub demand-3-equal : (a b : Asked) (v w : List ℕ) (m n : ℕ) → ruleFor a ≡ ruleFor b → Accepted a v m → Accepted b w n → EqualExactly a b v w
 demand-3-equal a b v w m n e p q = subst (λ (r : Rule). (v ≡ w) ↔ (canonical (ruleFor a) v ≡ canonical r w)) e (canonical-exactly (ruleFor a) v w)
 
@@ -66,6 +69,8 @@ unfolding readingOf
 reads-again r list pool h limit zero s value = absurd (omega arith)
 reads-again r list pool h limit (suc depth) s value = normalize-canonical r (binding list pool) limit depth (leaves-predefined list pool h) value
 
+-- Demand 3, second half, of the definitions: a canonical form is accepted again, gives the value it was written from with no opening, and
+-- is its own canonical form.
 pub demand-3-again : (a : Asked) (value : List ℕ) (openings : ℕ) → Accepted a value openings → (b : Asked) → AskedAgain a value b → Rereads value b
 demand-3-again a value openings p b q =
     let e : b .text ≡ formOf b value = q .form ∙ ap (λ (r : Rule). canonical r value) (sym (q .version)) in

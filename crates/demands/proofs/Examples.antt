@@ -31,6 +31,7 @@ third : List ℕ
 third =
     38 ∷ 35 ∷ 120 ∷ 100 ∷ 59 ∷ 38 ∷ 35 ∷ 120 ∷ 100 ∷ 59 ∷ 65 ∷ 38 ∷ 35 ∷ 120 ∷ 97 ∷ 59 ∷ 38 ∷ 35 ∷ 120 ∷ 97 ∷ 59 ∷ 66 ∷ 38 ∷ 35 ∷ 120 ∷ 100 ∷ 59 ∷ 38 ∷ 35 ∷ 120 ∷ 97 ∷ 59 ∷ []
 
+-- The standards' examples give the standards' values, and `&da;` one space less by document 01's departure.
 examples :
     (normalized (λ t. t) (13 ∷ 10 ∷ 13 ∷ 120 ∷ 121 ∷ 122 ∷ []) ≡ some (32 ∷ 32 ∷ 120 ∷ 121 ∷ 122 ∷ []))  -- two line ends, xyz
     × (normalized (λ t. t) second ≡ some (32 ∷ 32 ∷ 65 ∷ 32 ∷ 32 ∷ 32 ∷ 66 ∷ 32 ∷ 32 ∷ []))

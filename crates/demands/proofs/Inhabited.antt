@@ -59,6 +59,7 @@ value-answered =
 abbrev form : Asked
 form = record { version = 1; text = 32 ∷ 38 ∷ 35 ∷ 57 ∷ 59 ∷ []; list = 0 ∷ []; pool = []; depth = 1; limit = 0 }
 
+-- it is asked as demand 3 has it
 value-again : CallAgain value value-answered form
 unfolding checkTableCall tableCheck declarations
 value-again =

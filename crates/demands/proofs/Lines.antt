@@ -254,7 +254,7 @@ lines-from r (c ∷ d ∷ ds) =
     (cr-bytes r d ds (lines-from r (d ∷ ds)) (lines-from r ds) (pairEnds r 13 d) refl)
     (λ e. char-bytes r c (d ∷ ds) (ending r c) (eqb-false c 13 e) (lines-from r (d ∷ ds)))
 
--- 2.11 on bytes is 2.11 on characters
+-- XML 1.0 and 1.1, 2.11: the line ends of bytes are the standard's line ends of characters.
 pub line-ends : (r : Rule) (cs : List ℕ) → eols r (encodeAll cs) ≡ encodeAll (lineEndsOf r cs)
 unfolding eols
 line-ends r cs = lines-from r cs

@@ -65,11 +65,13 @@ module _ (numbers : List ℕ) where
 
 -- ---- the calls without a table
 
+-- Demand 1: the check of UTF-8 answers 0, or refuses by 1 or 5.
 pub check-utf8-refuses : (text : List ℕ) → Refuses textNumbers [] (checkUtf8Call text)
 unfolding checkUtf8Call
 check-utf8-refuses text =
     guarded-refuses textNumbers [] (textCheck text) (called 0 (length text ∷ 0 ∷ []) []) (by-text textNumbers refl refl text) (success (length text ∷ 0 ∷ []) [])
 
+-- Demand 1: a character number is read, or refused by 1, 5 or 12 to 15.
 pub parse-number-refuses : (text : List ℕ) → Refuses numberNumbers [] (parseNumberCall text)
 unfolding parseNumberCall
 parse-number-refuses text =
@@ -77,6 +79,7 @@ parse-number-refuses text =
     guarded-refuses numberNumbers [] (textCheck text) (callOf a []) (by-text numberNumbers refl refl text)
     (call-refuses numberNumbers [] a (by-number (In numberNumbers) (record { twelve = refl; thirteen = refl; fourteen = refl; fifteen = refl }) anyCharacter text))
 
+-- Demand 1: an escape answers 0, or refuses by 1, 4, 5 or 19 and leaves the output's bytes untouched.
 pub escape-refuses : (text : List ℕ) (level : ℕ) (out : List ℕ) → Refuses writerNumbers (out ∷ []) (escapeCall text level out)
 unfolding escapeCall
 escape-refuses text level out =
@@ -84,6 +87,7 @@ escape-refuses text level out =
     guarded-refuses writerNumbers (out ∷ []) (argumentCheck text (levelCheck level)) (finish form 0 out)
     (by-arguments writerNumbers refl refl text (levelCheck level) (by-level (In writerNumbers) refl level)) (finish-refuses writerNumbers refl form 0 out)
 
+-- Demand 1: the normalization of line ends answers 0, or refuses by 1, 4, 5 or 19 and leaves the output's bytes untouched.
 pub normalize-eols-refuses : (text : List ℕ) (version : ℕ) (out : List ℕ) → Refuses writerNumbers (out ∷ []) (normalizeEolsCall text version out)
 unfolding normalizeEolsCall
 normalize-eols-refuses text version out =
@@ -91,6 +95,7 @@ normalize-eols-refuses text version out =
     guarded-refuses writerNumbers (out ∷ []) (argumentCheck text (versionCheck version)) (finish ended 0 out)
     (by-arguments writerNumbers refl refl text (versionCheck version) (by-version (In writerNumbers) refl version)) (finish-refuses writerNumbers refl ended 0 out)
 
+-- Demand 1: each trim answers 0, or refuses by 1 or 5.
 pub trim-refuses : (trim : List ℕ → Part) (text : List ℕ) → Refuses textNumbers [] (trimCall trim text)
 unfolding trimCall
 trim-refuses trim text =
@@ -122,6 +127,7 @@ step-stays text cursor = go (outside text (cursor .offset)) (eqb (cursor .finish
     go false true = cut (eqb (firstCut rest) (length rest))
     go false false = stays 255 (0 ∷ 0 ∷ []) refl
 
+-- Demand 1: the next CDATA piece is handed over, or the call answers 1, 5, 20 or 255 ("no more") and leaves the cursor as it was.
 pub cdata-next-refuses : (text : List ℕ) (cursor : Cursor) → RefusesPiece cursor (cdataNextCall text cursor)
 unfolding cdataNextCall
 cdata-next-refuses text cursor = go (textCheck text) (by-text pieceNumbers refl refl text)
@@ -132,11 +138,13 @@ cdata-next-refuses text cursor = go (textCheck text) (by-text pieceNumbers refl 
 
 -- ---- the calls with a table
 
+-- Demand 1: the check of a table answers 0, or refuses by 6 to 9.
 pub check-table-refuses : (list pool : List ℕ) → Refuses tableNumbers [] (checkTableCall list pool)
 unfolding checkTableCall
 check-table-refuses list pool =
     call-refuses tableNumbers [] (tableCheck list pool) (by-table (In tableNumbers) (record { six = refl; seven = refl; eight = refl; nine = refl }) list pool)
 
+-- Demand 1: unescaping answers 0, or refuses by 1, 5 to 15 or 19 and leaves the output's bytes untouched.
 pub unescape-refuses : (text list pool out : List ℕ)
     → Refuses unescapeNumbers (out ∷ []) (unescapeCall text list pool out)
 unfolding unescapeCall
@@ -161,6 +169,7 @@ module _ (numbers : List ℕ) (text : List ℕ) (version depth limit : ℕ) (lis
   fails-walked : WalkNumbers (In numbers) → Fails (In numbers) (walked text version depth limit list pool)
   fails-walked h = fails-normalize (In numbers) h (readingOf (ruleOf version) list pool limit) depth text
 
+-- Demand 1: normalization answers 0, or refuses by 1 to 17 or 19 and leaves the output's bytes untouched.
 pub normalize-attribute-value-refuses : (text : List ℕ) (version depth limit : ℕ) (list pool out : List ℕ)
     → Refuses valueNumbers (out ∷ [])
     (normalizeAttributeValueCall text version depth limit list pool out)
@@ -197,6 +206,8 @@ formed-refuses r (done value openings) scratch out h = go (ltb (length scratch) 
     go false q = finish-short value scratch (canonical r value) openings out (ltb-false (length scratch) (length value) q)
 formed-refuses r (refused before openings why first second) scratch out h = untouched why (first ∷ second ∷ []) h
 
+-- Demand 1: the canonical form answers 0, or refuses by 1 to 19 and leaves the output's bytes untouched, and with 1 to 18 the scratch's;
+-- with 19 the scratch holds the value that the walk made of this text.
 pub canonical-form-refuses : (text : List ℕ) (version depth limit : ℕ) (list pool scratch out : List ℕ)
     → RefusesForm (walked text version depth limit list pool) scratch out
     (canonicalFormCall text version depth limit list pool scratch out)

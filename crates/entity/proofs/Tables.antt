@@ -38,11 +38,12 @@ empty-valid = refl
 
 -- ---- bindings by declaration
 
--- XML 1.0, 4.2: the first declaration binds
+-- XML 1.0, 4.2: the first declaration of a name binds it.
 pub first-binds : (d : Declaration) (ds : List Declaration) (pool name : List ℕ) → sameBytes (nameOf pool d) name ≡ true → bindingIn (d ∷ ds) pool name ≡ bodyBound pool (d .body)
 unfolding bindingIn
 first-binds d ds pool name e = rw e
 
+-- A declaration of another name binds nothing: those after it decide.
 pub later-binds : (d : Declaration) (ds : List Declaration) (pool name : List ℕ) → sameBytes (nameOf pool d) name ≡ false → bindingIn (d ∷ ds) pool name ≡ bindingIn ds pool name
 unfolding bindingIn
 later-binds d ds pool name e = rw e
@@ -52,7 +53,7 @@ abbrev pub Undeclared : List Declaration → List ℕ → List ℕ → Type 0
 Undeclared [] pool name = Unit {0}
 Undeclared (d ∷ ds) pool name = (sameBytes (nameOf pool d) name ≡ false) × Undeclared ds pool name
 
--- the five where the table has no such name
+-- XML 1.0, 4.6: a name that no declaration has is bound to one of the five predefined texts, or to nothing.
 pub undeclared-binds : (ds : List Declaration) (pool name : List ℕ) → Undeclared ds pool name → bindingIn ds pool name ≡ predefinedOf name
 unfolding bindingIn
 undeclared-binds [] pool name h = refl
@@ -122,7 +123,7 @@ list-good pool (b ∷ bs) offset zero h =
     (body-good pool (declaration bs) (p .0), list-good pool bs (suc offset) operands (p .1)))
     (λ e. tt)
 
--- refusal 9 keeps other texts out
+-- What a valid table binds a name to is UTF-8: refusal 9 keeps other texts out.
 pub binding-good : (list pool : List ℕ) → ValidTable list pool → (name : List ℕ) → GoodBound (binding list pool name)
 unfolding binding declarations
 binding-good list pool e name = each-bound GoodBound pool five-good (declarations list) (list-good pool list 0 0 (table-done list pool e)) name

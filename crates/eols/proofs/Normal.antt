@@ -122,6 +122,7 @@ keeps r (b ∷ bs) zero s h = go (lineEnd r (b ∷ bs)) (width-settles (lineEnds
     go zero e ih = ih 0 (next s b) h
     go (suc w) e ih = rw (next-ascii s 10 refl) (ih w (settle s) (sym (e s) ∙ h))
 
+-- A UTF-8 text with its line ends normalized is UTF-8.
 pub eols-well-formed : (r : Rule) (t : List ℕ) → WellFormed t → WellFormed (eols r t)
 unfolding eols WellFormed
 eols-well-formed r t h = keeps r t 0 between h
@@ -216,6 +217,7 @@ normal-from r zero (b ∷ bs) = go (lineEnd r (b ∷ bs)) refl (λ k. normal-fro
     go zero e ih = (inl (width-kept r b bs e), ih 0)
     go (suc w) e ih = (inr refl, ih w)
 
+-- XML 1.0 and 1.1, 2.11: no line end but LF is left.
 pub eols-normal : (r : Rule) (t : List ℕ) → Normal r (eols r t)
 unfolding eols
 eols-normal r t = normal-from r 0 t
@@ -235,6 +237,7 @@ normal-same r (b ∷ bs) n =
     (λ q. rw (lf-one r b bs q) (rw q (ap (λ (l : List ℕ). 10 ∷ l) (normal-same r bs (n .1)))))
     (n .0)
 
+-- Line ends normalized twice are line ends normalized once.
 pub eols-twice : (r : Rule) (t : List ℕ) → eols r (eols r t) ≡ eols r t
 unfolding eols
 eols-twice r t = normal-same r (eolsFrom r 0 t) (normal-from r 0 t)

@@ -169,11 +169,14 @@ level-ascii level =
 
 -- ---- what every level keeps: the written length is at least the text's and at most 6 times it, and UTF-8 stays UTF-8
 
+-- An escaped text is at least as long as the text.
 pub escape-least : (level : Level) (text : List ℕ) → length text ≤ length (write (levelSet level) text)
 escape-least level text = write-least (levelSet level) (level-sized level) text
 
+-- An escaped text is at most 6 times as long as the text.
 pub escape-most : (level : Level) (text : List ℕ) → length (write (levelSet level) text) ≤ 6 * length text
 escape-most level text = write-most (levelSet level) (level-sized level) text
 
+-- A UTF-8 text escaped at any of the four levels is UTF-8.
 pub escape-well-formed : (level : Level) (text : List ℕ) → WellFormed text → WellFormed (write (levelSet level) text)
 escape-well-formed level text h = write-well-formed (levelSet level) (level-ascii level) text h

@@ -45,12 +45,14 @@ module _ (bind : List ℕ → Bound) (C : Carried anyCharacter) where
 
 -- ---- openings
 
+-- Unescaping opens no entity, accepted or refused.
 pub unescape-openings : (bind : List ℕ → Bound) (t : List ℕ) → openingsOf (unescape bind t) ≡ 0
 unescape-openings bind t =
     unescape-carried bind (noneMade anyCharacter)
     (record { bound = λ x y offset name u l e n. refl; stands-for = λ x y offset name u l e n. refl })
     (none-moving anyCharacter textHead) tt t tt
 
+-- An unescaped text took no opening: the second answer word is 0.
 pub no-openings : (bind : List ℕ → Bound) (t value : List ℕ) (openings : ℕ) → unescape bind t ≡ done value openings → openings ≡ 0
 no-openings bind t value openings e = rw e at (unescape-openings bind t)
 
@@ -73,6 +75,7 @@ module _ (bind : List ℕ → Bound) (good : (name : List ℕ) → GoodBound (bi
         stands-for = λ s s′ offset name t l e n. between-brings s s′ t l (subst GoodBound e (good name));
       }
 
+  -- With bindings that are UTF-8, as those of a valid table are, what a UTF-8 text is unescaped to is UTF-8.
   pub unescape-well-formed : (t value : List ℕ) (openings : ℕ) → WellFormed t → unescape bind t ≡ done value openings → WellFormed value
   unfolding WellFormed
   unescape-well-formed t value openings h e = rw e at (unescape-carried bind (utf8 anyCharacter any-own) utf8-copying text-utf8 between t h)

@@ -89,6 +89,7 @@ join-in (suc n) t h = go (split n t) (λ rest. join-in n (62 ∷ rest))
     go (more xs rest s f q e) ih =
         ap joined e ∙ ap (λ (r : List ℕ). (xs ++ (93 ∷ 93 ∷ [])) ++ r) (ih rest (omega (arith, whole-length t xs rest s))) ∙ sym s
 
+-- CDATA: the pieces joined are the text.
 pub pieces-joined : (t : List ℕ) → joined (pieces t) ≡ t
 unfolding pieces
 pieces-joined t = join-in (length t + 1) t (omega arith)
@@ -106,6 +107,7 @@ free-in (suc n) t k = go k (split n t) (λ rest m. free-in n (62 ∷ rest) m)
     go zero (more xs rest s f q e) ih = rw e f
     go (suc m) (more xs rest s f q e) ih = rw e (ih rest m)
 
+-- CDATA: no piece holds `]]>`.
 pub pieces-free : (t : List ℕ) (k : ℕ) → holds (getD (pieces t) k []) ≡ false
 unfolding pieces
 pieces-free t k = free-in (length t + 1) t k
@@ -135,6 +137,7 @@ count-in (suc n) t = go (split n t)
     go (one f q e) = omega (arith, ap length e)
     go (more xs r s f q e) = omega (arith, ap length e, count-gt n r, whole-length t xs r s)
 
+-- CDATA: a text of n bytes has at most n/3 + 1 pieces.
 pub pieces-count : (t : List ℕ) → length (pieces t) ≤ length t / 3 + 1
 unfolding pieces
 pieces-count t = omega (arith, count-in (length t + 1) t)
@@ -168,7 +171,7 @@ cut-in (suc n) t k h = rw (add-one k) (go k (split n t) (omega arith) (λ rest m
     go zero (more xs rest s f q e) l ih = rw e (record { front = xs; rest = _; ends = refl; begun = gt-first n rest (omega (arith, ap length e)) })
     go (suc m) (more xs rest s f q e) l ih = rw e (ih rest m (omega (arith, ap length e)))
 
--- it ends with `]]`, and the next starts with `>`
+-- CDATA: a piece that is not the last ends with `]]`, and the next starts with `>`.
 pub pieces-cut : (t : List ℕ) (k : ℕ) → k + 1 < length (pieces t) → AtCut (getD (pieces t) k []) (getD (pieces t) (k + 1) [])
 unfolding pieces
 pieces-cut t k h = cut-in (length t + 1) t k h
@@ -181,7 +184,7 @@ holds-after (b ∷ bs) v e = or-true (begins closing (b ∷ bs ++ v)) (holds-aft
     or-true true f = refl
     or-true false f = f
 
--- a longer part of the same text holds `]]>`
+-- CDATA: a piece is as long as it can be: every longer part from the same start holds `]]>`.
 pub first-longest : (t : List ℕ) (n : ℕ) → firstCut t < n → n ≤ length t → holds (take n t) ≡ true
 first-longest t n h k = go (view t)
   where
@@ -281,7 +284,7 @@ hand (suc n) t u o j count d h l c = go (split n u) (hand n t)
         ∙ ap (λ (i : ℕ). stepped (Part o i) (o + i) 0 ∷ handed (o + i) (piecesIn n (62 ∷ rest)) j) (sym k)
         ∙ sym (ap (λ (ps : List (List ℕ)). handed o ps j) e ∙ handed-cons o p (piecesIn n (62 ∷ rest)) j v)
 
--- from offset 0, not finished: the pieces in turn, then "no more" as often as it is called, with the cursor left as it is
+-- CDATA: from offset 0, not finished: the pieces in turn, then "no more" as often as it is called, with the cursor left as it is.
 pub calls-handed : (t : List ℕ) (j : ℕ) → WellFormed t → calls (length (pieces t) + j) t (cursorAt 0 0) ≡ handed 0 (pieces t) j
 unfolding pieces
 calls-handed t j w = hand (length t + 1) t t 0 j (length (piecesIn (length t + 1) t) + j) refl (start-inside t w) (omega arith) refl
@@ -303,6 +306,7 @@ whole-in (suc n) t k w = go k (split n t) (λ rest m. whole-in n (62 ∷ rest) m
         append-assoc xs (93 ∷ 93 ∷ []) (62 ∷ rest) ∙ sym (append-assoc xs (93 ∷ []) (93 ∷ 62 ∷ rest)) in
         rw e (ih rest m (split-ascii (xs ++ (93 ∷ [])) (62 ∷ rest) 93 (omega arith) (subst WellFormed (s ∙ r) w) .1))
 
+-- CDATA: each piece of a UTF-8 text is UTF-8.
 pub pieces-whole : (t : List ℕ) (k : ℕ) → WellFormed t → WellFormed (getD (pieces t) k [])
 unfolding pieces
 pieces-whole t k w = whole-in (length t + 1) t k w

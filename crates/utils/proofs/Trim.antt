@@ -200,10 +200,12 @@ kept-is t (suc n) h = go (isWhitespace (getD t n 0)) refl (kept-is t n (omega ar
     })
     go false e ih = rw (kept-all t n (omega arith) e) (record { last = λ p. let z : suc n - 1 ≡ n = omega arith in rw z e; cut = λ i p q. absurd (omega arith); fits = omega arith; whole = λ w. w })
 
+-- The start trimmed: the part begins with no white space, and only white space is cut off.
 pub trim-start : (t : List ℕ) → TrimmedStart t (trimStart t)
 unfolding trimStart
 trim-start t = record { first = λ p. first-black t (omega (arith, blanks-le t)); cut = before-white t }
 
+-- The start trimmed: the part ends where the text ends.
 pub trim-start-fits : (t : List ℕ) → (trimStart t) .start + (trimStart t) .length ≡ length t
 unfolding trimStart
 trim-start-fits t = omega (arith, blanks-le t)
@@ -224,23 +226,27 @@ trimmed-end t s k h = record {
       ∙ h .cut (i - s) (omega arith) (omega (arith, length-drop s t));
 }
 
+-- The end trimmed: the part ends with no white space, and only white space is cut off.
 pub trim-end : (t : List ℕ) → TrimmedEnd t (trimEnd t)
 unfolding trimEnd
 trim-end t = trimmed-end t 0 (length t - blanks (reverse t)) (rest-kept t)
 
+-- The end trimmed: the part lies in the text.
 pub trim-end-fits : (t : List ℕ) → (trimEnd t) .start + (trimEnd t) .length ≤ length t
 unfolding trimEnd
 trim-end-fits t = omega arith
 
+-- Both ends trimmed: the part ends with no white space, and only white space is cut off there.
 pub trim-spaces-end : (t : List ℕ) → TrimmedEnd t (trimSpaces t)
 unfolding trimSpaces
 trim-spaces-end t = trimmed-end t (blanks t) ((trimEnd (drop (blanks t) t)) .length) (rest-kept (drop (blanks t) t))
 
+-- Both ends trimmed: the part lies in the text.
 pub trim-spaces-fits : (t : List ℕ) → (trimSpaces t) .start + (trimSpaces t) .length ≤ length t
 unfolding trimSpaces
 trim-spaces-fits t = omega (arith, rest-kept (drop (blanks t) t) .fits, length-drop (blanks t) t, blanks-le t)
 
--- where the part is not empty, some byte is no white space
+-- Both ends trimmed: the part begins with no white space, and only white space is cut off there.
 pub trim-spaces-start : (t : List ℕ) → TrimmedStart t (trimSpaces t)
 unfolding trimSpaces
 trim-spaces-start t = record {
@@ -262,14 +268,17 @@ drop-blanks (b ∷ bs) w = go (isWhitespace b) refl (drop-blanks bs)
 end-whole : (u : List ℕ) → WellFormed u → WellFormed (take ((trimEnd u) .length) u)
 end-whole u w = rest-kept u .whole (subst WellFormed (sym (take-length u)) w)
 
+-- The start of a UTF-8 text trimmed: the part is UTF-8.
 pub trim-start-whole : (t : List ℕ) → WellFormed t → WellFormed (partOf t (trimStart t))
 unfolding trimStart
 trim-start-whole t w = rw (rest t (blanks t)) (drop-blanks t w)
 
+-- The end of a UTF-8 text trimmed: the part is UTF-8.
 pub trim-end-whole : (t : List ℕ) → WellFormed t → WellFormed (partOf t (trimEnd t))
 unfolding trimEnd
 trim-end-whole t w = end-whole t w
 
+-- Both ends of a UTF-8 text trimmed: the part is UTF-8.
 pub trim-spaces-whole : (t : List ℕ) → WellFormed t → WellFormed (partOf t (trimSpaces t))
 unfolding trimSpaces
 trim-spaces-whole t w = end-whole (drop (blanks t) t) (drop-blanks t w)
