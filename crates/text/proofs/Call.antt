@@ -7,7 +7,7 @@ use native.Mathlib.Omega.{arith}
 use lib.Dec.{ltb}
 use lib.ListN.{length}
 use borrow.Author.Tests.{ltb-false}
-use Rattle.text.specs.Call.{Called, andThen, callOf, guarded, lengthCheck}
+use Rattle.text.specs.Call.{Called, andThen, callOf, guarded, longestText, lengthCheck}
 use Rattle.text.specs.declared.Answer.{Answer}
 use Rattle.text.specs.declared.Answer.the-variants.{Done, Refused}
 
@@ -29,12 +29,12 @@ passes buffers rest e q = sym (ap (λ (a : Answer). guarded a buffers rest) (sym
 
 -- where checks that begin with that of the text's length let a call pass, the text is no longer than that
 pub checked-length : (text : List ℕ) (later : Answer) {first second : ℕ} → andThen (lengthCheck text) later ≡ Done first second
-    → length text ≤ 16777216
+    → length text ≤ longestText
 unfolding lengthCheck
-checked-length text later {first} {second} e = go (ltb 16777216 (length text)) refl
+checked-length text later {first} {second} e = go (ltb longestText (length text)) refl
   where
-    go : (t : Bool) → ltb 16777216 (length text) ≡ t → length text ≤ 16777216
-    go false h = ltb-false 16777216 (length text) h
+    go : (t : Bool) → ltb longestText (length text) ≡ t → length text ≤ longestText
+    go false h = ltb-false longestText (length text) h
     go true h =
         let q : Refused 1 (length text) 0 ≡ Done first second = rw h at e in
         let z : _≡_ {A = ℕ} 0 1 = cc in

@@ -41,9 +41,13 @@ finish value second out =
     pick (ltb (length out) (length value)) (called 19 (length value ∷ 0 ∷ []) (out ∷ []))
     (called 0 (length value ∷ second ∷ []) (laid value out ∷ []))
 
+-- the longest text that a call takes, in bytes
+abbrev pub longestText : ℕ
+longestText = 16777216
+
 -- refusal 1: text over 16,777,216 bytes
 unfoldable pub lengthCheck : List ℕ → Answer
-lengthCheck text = pick (ltb 16777216 (length text)) (Refused 1 (length text) 0) passed
+lengthCheck text = pick (ltb longestText (length text)) (Refused 1 (length text) 0) passed
 
 -- refusal 4: unknown version byte
 unfoldable pub versionCheck : ℕ → Answer

@@ -2,7 +2,11 @@
 ghost use mathlib.Core.Path.{_≡_};
 ghost use Rattle.text.specs.Call.{lengthCheck, versionCheck, utf8Check, textCheck, argumentCheck};
 
+pub mod refusals;
 pub mod validate;
+
+// The longest text that a call takes, in bytes.
+pub const LONGEST_TEXT: usize = 16777216;
 
 // What a call answers: on success its first and second, else document 01's refusal number with first and second.
 pub enum Answer {
@@ -21,9 +25,9 @@ pub enum Answer {
 pub fn check_length(text: &[u8]) -> Answer
     ensures { λ r. ⌜ r ≡ lengthCheck (now (text .entry)) ⌝ }
 {
-    if 16777216 < text.len() {
+    if LONGEST_TEXT < text.len() {
         return Answer::Refused {
-            number: 1,
+            number: refusals::TOO_LONG,
             first: text.len() as u64,
             second: 0,
         };
@@ -40,7 +44,7 @@ pub fn check_version(version: u8) -> Answer
 {
     if 2 < version {
         return Answer::Refused {
-            number: 4,
+            number: refusals::UNKNOWN_BYTE,
             first: 0,
             second: 0,
         };
@@ -63,7 +67,7 @@ pub fn check_utf8(text: &[u8]) -> Answer
         };
     }
     Answer::Refused {
-        number: 5,
+        number: refusals::NOT_UTF8,
         first: end as u64,
         second: 0,
     }
