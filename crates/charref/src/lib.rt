@@ -7,6 +7,7 @@ ghost use lib.ListN.{length, drop};
 ghost use Rattle.charref.specs.CharRef.{digitValue, numberFrom, small, inBase, judge, charNumber, anyCharacter, numberAnswer, encode};
 ghost use Rattle.charref.specs.Reading.{Written, Quickly};
 use text::Answer;
+use text::refusals;
 
 // What the digits write: a value of 32 bits, or what refuses them, 12 or 13.
 enum Parsed {
@@ -15,7 +16,7 @@ enum Parsed {
     NoNumber,
 }
 
-// A character, or the refusal of its number: 12, 13, 14 with the value, 15.
+// A character, or the refusal of its number: refusals::UNEXPECTED_SIGN, 13, 14 with the value, 15.
 pub enum CharNumber {
     Char(u32),
     UnexpectedSign,
@@ -198,22 +199,22 @@ pub fn answer_of(n: CharNumber) -> Answer
             second: 0,
         },
         CharNumber::UnexpectedSign => Answer::Refused {
-            number: 12,
+            number: refusals::UNEXPECTED_SIGN,
             first: 0,
             second: 0,
         },
         CharNumber::InvalidNumber => Answer::Refused {
-            number: 13,
+            number: refusals::INVALID_NUMBER,
             first: 0,
             second: 0,
         },
         CharNumber::InvalidCodepoint(v) => Answer::Refused {
-            number: 14,
+            number: refusals::INVALID_CODEPOINT,
             first: v as u64,
             second: 0,
         },
         CharNumber::IllegalCharacter => Answer::Refused {
-            number: 15,
+            number: refusals::ILLEGAL_CHARACTER,
             first: 0,
             second: 0,
         },
