@@ -5,11 +5,12 @@ ghost use mathlib.Core.List.{[], _∷_};
 ghost use Prim.Native.Nat.{_+_, _≤_, _<_};
 ghost use lib.ListN.{length, take, drop};
 ghost use Rattle.text.specs.Bytes.{pick};
-ghost use Rattle.text.specs.Call.{laid, finish, callOf};
+ghost use Rattle.text.specs.Call.{laid, finish, callOf, longestText};
 ghost use Rattle.escape.specs.Escape.{write, levelOf, levelSet, levelCheck, reference};
 ghost use Rattle.output.specs.Runs.{Plain, Copied, Ends, Room};
 ghost use Rattle.escape.specs.Scan.{escapedBy, addedBy, charsSet, levelChars};
 use text::Answer;
+use text::refusals;
 
 // The characters that are escaped besides `<`, `&` and CR: LF and TAB, `'`, `"`, `>`.
 pub struct EscapeChars {
@@ -25,7 +26,7 @@ pub fn check_level(level: u8) -> Answer
 {
     if 3 < level {
         return Answer::Refused {
-            number: 4,
+            number: refusals::UNKNOWN_BYTE,
             first: 0,
             second: 0,
         };
@@ -268,7 +269,7 @@ pub fn write_escaped(text: &[u8], chars: EscapeChars, out: &mut [u8]) -> usize
 // One of the four levels. Where the output has six times the text's length there is room for the result: no count is needed.
 // Else it counts first, so that 19 leaves the output as it is.
 pub fn escape(text: &[u8], level: u8, out: &mut [u8]) -> Answer
-    requires { ⌜ length (now text) ≤ 16777216 ⌝ }
+    requires { ⌜ length (now text) ≤ longestText ⌝ }
     ensures { λ r. ⌜ callOf r (now (out .exit) ∷ []) ≡ finish (write (levelSet (levelOf level)) (now (text .entry))) 0 (now (out .entry)) ⌝ }
 {
     let chars = escape_chars(level);
@@ -276,7 +277,7 @@ pub fn escape(text: &[u8], level: u8, out: &mut [u8]) -> Answer
         let length = escaped_length(text, chars);
         if out.len() < length {
             return Answer::Refused {
-                number: 19,
+                number: refusals::NO_ROOM,
                 first: length as u64,
                 second: 0,
             };
