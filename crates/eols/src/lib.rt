@@ -11,6 +11,7 @@ ghost use Rattle.eols.specs.LineEnds.{lineEnd, eols};
 ghost use Rattle.output.specs.Runs.{Plain, Copied, Room};
 ghost use Rattle.eols.specs.Stops.{ruleFor, stopByte, Stepped};
 use text::Answer;
+use text::refusals;
 
 // A byte to write, and how many bytes of the text it stands for.
 pub struct Step {
@@ -284,7 +285,7 @@ pub fn normalize_eols(text: &[u8], version: u8, out: &mut [u8]) -> Answer
         let n = eols_length(text, newer);
         if out.len() < n {
             return Answer::Refused {
-                number: 19,
+                number: refusals::NO_ROOM,
                 first: n as u64,
                 second: 0,
             };
