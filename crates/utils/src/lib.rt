@@ -7,6 +7,7 @@ ghost use Rattle.utils.specs.Trim.{isWhitespace, trimStart, trimEnd, tri
 ghost use Rattle.utils.specs.CData.{firstCut, outside, cdataStep, pieceAnswer};
 ghost use Rattle.utils.specs.Blocks.{Blank, Skipped, Dropped, closesAt, Clear, Passed};
 use text::Answer;
+use text::refusals;
 
 pub struct Part {
     pub start: usize,
@@ -305,12 +306,12 @@ pub fn piece_answer(piece: Piece) -> Answer
             second: length as u64,
         },
         Piece::NoMore => Answer::Refused {
-            number: 255,
+            number: refusals::NO_MORE,
             first: 0,
             second: 0,
         },
         Piece::Outside(offset) => Answer::Refused {
-            number: 20,
+            number: refusals::CURSOR_OUTSIDE,
             first: offset,
             second: 0,
         },
