@@ -13,6 +13,7 @@ ghost use Rattle.entity.specs.Table.{littleEndian, part, inside, declara
 ghost use Rattle.entity.specs.Binding.{predefinedOf, binding, boundTo, Lies};
 ghost use Rattle.entity.specs.Steps.{commandCheck, lastCheck, TextAt, Agree};
 use text::Answer;
+use text::refusals;
 use text::validate;
 
 // What a name is bound to: a text of the table as start and end in the pool, a predefined byte, or nothing.
@@ -103,7 +104,7 @@ fn check_declaration(
     let name_end = name_start + name_length;
     let text_end = text_start + text_length;
     if (pool.len() < name_end) | (pool.len() < text_end) {
-        return refused(8, at);
+        return refused(refusals::OUTSIDE_POOL, at);
     }
     if (name_end <= ascii) & (text_end <= ascii) & (name_length != 0) {
         return Answer::Done {
@@ -112,7 +113,7 @@ fn check_declaration(
         };
     }
     if ill_formed(&pool[name_start..name_end], &pool[text_start..text_end]) {
-        return refused(9, at);
+        return refused(refusals::INVALID_DEFINITION, at);
     }
     Answer::Done {
         first: 0,
@@ -127,7 +128,7 @@ fn check_command(list: &[u8], pool: &[u8], at: usize, ascii: usize) -> Answer
     ensures { λ r. ⌜ r ≡ commandCheck (now (list .entry)) (now (pool .entry)) at ⌝ }
 {
     if list.len() - at < 12 {
-        return refused(7, at);
+        return refused(refusals::MALFORMED_LIST, at);
     }
     check_declaration(
         pool,
@@ -146,13 +147,13 @@ fn check_end(list: &[u8], at: usize, count: u64) -> Answer
     ensures { λ r. ⌜ r ≡ lastCheck (drop at (now (list .entry))) at count ⌝ }
 {
     if at == list.len() {
-        return refused(7, at);
+        return refused(refusals::MALFORMED_LIST, at);
     }
     if list[at] != 0 {
-        return refused(7, at);
+        return refused(refusals::MALFORMED_LIST, at);
     }
     if at + 1 != list.len() {
-        return refused(7, at + 1);
+        return refused(refusals::MALFORMED_LIST, at + 1);
     }
     Answer::Done {
         first: count,
@@ -188,10 +189,10 @@ pub fn check_table(list: &[u8], pool: &[u8]) -> Answer
     ensures { λ r. ⌜ r ≡ tableCheck (now (list .entry)) (now (pool .entry)) ⌝ }
 {
     if 49153 < list.len() {
-        return refused(6, 0);
+        return refused(refusals::TABLE_TOO_LONG, 0);
     }
     if 1048576 < pool.len() {
-        return refused(6, 0);
+        return refused(refusals::TABLE_TOO_LONG, 0);
     }
     check_commands(list, pool)
 }
