@@ -7,7 +7,7 @@ use Rattle.output.specs.Over.{over}
 use Rattle.tokens.specs.Tokens.{Stop, Heads, tokenOf}
 use Rattle.tokens.specs.Outcome.{Outcome, done, produced}
 use Rattle.tokens.specs.Walking.{headAt, nextAt, outcomeOf, stepOf}
-use Rattle.tokens.specs.Seen.{Met, metAt, widthOf, Matches}
+use Rattle.tokens.specs.Seen.{Met, metAt, nextPlace, seenSize, widthOf, Matches}
 use Rattle.tokens.specs.declared.Step.{Step}
 
 -- how a text is walked: its heads, the answers to stops, the opening limit, and how many bytes a reference of a width may give that
@@ -33,8 +33,8 @@ pub record Stands (w : Walk) (text value : List ℕ) (m : Met) : Type 0 where
       → given w text e n ≡ done (take (m .count) (drop (m .start) value)) (n + m .opened)
 
 pub record Memory (w : Walk) (text seen value : List ℕ) : Type 0 where
-  pub size : length seen ≡ 21
-  pub place : getD seen 20 0 < 4
+  pub size : length seen ≡ seenSize
+  pub place : nextPlace seen < 4
   pub each : (k : ℕ) → k < 4 → Stands w text value (metAt seen k)
 
 -- a single step at `i`, after a value that lies over what the output held

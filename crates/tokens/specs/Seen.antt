@@ -44,6 +44,14 @@ abbrev pub metAt : List ℕ → ℕ → Met
 metAt seen k =
     record { key = getD seen k 0; shift = getD seen (k + 4) 0; start = getD seen (k + 8) 0; count = getD seen (k + 12) 0; opened = getD seen (k + 16) 0 }
 
+-- the place of the next one stands after them
+abbrev pub nextPlace : List ℕ → ℕ
+nextPlace seen = getD seen 20 0
+
+-- and nothing after that
+abbrev pub seenSize : ℕ
+seenSize = 21
+
 -- the reference of `width` bytes at `place`
 abbrev pub metOf : List ℕ → ℕ → ℕ → ℕ → ℕ → ℕ → Met
 metOf text place width start count opened =
@@ -56,7 +64,7 @@ pub record Matches (text : List ℕ) (at : ℕ) (m : Met) : Type 0 where
 
 -- bounds of what is kept: no sum overflows, and every value lies in the value so far
 pub record Kept (seen : List ℕ) (len limit : ℕ) : Type 0 where
-  pub size : length seen ≡ 21
+  pub size : length seen ≡ seenSize
   pub shifts : (k : ℕ) → k < 4 → getD seen (k + 4) 0 < 64
   pub inside : (k : ℕ) → k < 4 → getD seen (k + 8) 0 + getD seen (k + 12) 0 ≤ len
   pub few : (k : ℕ) → k < 4 → getD seen (k + 16) 0 ≤ limit
@@ -86,6 +94,6 @@ pub data Entered (text : List ℕ) (place width : ℕ) (fresh before after : Met
 
 -- all four, and the place of the next one, which stands after them
 pub record Remembered (text : List ℕ) (place width start count opened : ℕ) (old new : List ℕ) : Type 0 where
-  pub size : length new ≡ 21
-  pub next : getD new 20 0 < 4
+  pub size : length new ≡ seenSize
+  pub next : nextPlace new < 4
   pub entries : (k : ℕ) → k < 4 → Entered text place width (metOf text place width start count opened) (metAt old k) (metAt new k)

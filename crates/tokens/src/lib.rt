@@ -8,7 +8,7 @@ ghost use Rattle.output.specs.Over.{over};
 ghost use Rattle.charref.specs.CharRef.{anyCharacter, encode};
 ghost use Rattle.charref.specs.Reading.{Found};
 ghost use Rattle.tokens.specs.Outcome.{done, numberOutcome};
-ghost use Rattle.tokens.specs.Seen.{movedUp, metAt, Matches, Kept, Again, Remembered};
+ghost use Rattle.tokens.specs.Seen.{movedUp, metAt, Matches, Kept, Again, Remembered, seenSize, nextPlace};
 ghost use Rattle.tokens.specs.Walking.{NameEnd, Stepped, Ended, handedOn};
 use charref::CharNumber;
 use charref::Quick;
@@ -175,22 +175,44 @@ fn moved_up(word: u64, shift: u64) -> u64
     word << shift
 }
 
-// What is kept of four references stands side by side in `seen`: four times their bytes as a number, the shift of that number, where
-// the value starts in the output, its length and its openings; after these twenty the place of the next reference.
+// What is kept of so many references stands in `seen`, part by part and side by side: their bytes as a number first, then the parts
+// below, and after all of these the place of the next reference (specs/Seen.antt, `metAt`).
+const PLACES: usize = 4;
 
-// Which of them stands at `at`; 4 where none does.
+// The last of the places: after it comes the first again.
+const LAST_PLACE: usize = 3;
+
+// From here on the shifts of those numbers.
+const SHIFTS: usize = 4;
+
+// Where the values start in the output.
+const STARTS: usize = 8;
+
+// The lengths of the values.
+const COUNTS: usize = 12;
+
+// The openings that the references made.
+const OPENED: usize = 16;
+
+// The place of the next reference.
+const NEXT_PLACE: usize = 20;
+
+// How many numbers `seen` has.
+pub const SEEN_SIZE: usize = 21;
+
+// Which of the references kept stands at `at`; PLACES where none does.
 fn seen_at(text: &[u8], at: usize, seen: &[u64]) -> usize
-    requires { ⌜ (at ≤ length (now text)) × (length (now seen) ≡ 21) ⌝ }
+    requires { ⌜ (at ≤ length (now text)) × (length (now seen) ≡ seenSize) ⌝ }
     requires { ⌜ ((k : ℕ) → k < 4 → getD (now seen) (k + 4) 0 < 64) ⌝ }
     ensures { λ r. ⌜ (r ≤ 4) × (r < 4 → Matches (now (text .entry)) at (metAt (now (seen .entry)) r)) ⌝ }
 {
     if text.len() - at < 8 {
-        return 4;
+        return PLACES;
     }
     let word = validate::word(text, at);
     let mut k: usize = 0;
-    while k < 4 {
-        if moved_up(word, seen[k + 4]) == seen[k] {
+    while k < PLACES {
+        if moved_up(word, seen[k + SHIFTS]) == seen[k] {
             return k;
         }
         k += 1;
@@ -242,18 +264,18 @@ pub fn seen_step(
     ensures { λ r. ⌜ Again (now (text .entry)) at len openings limit (now (seen .entry)) (now (out .entry)) (now (out .exit)) r ⌝ }
 {
     let k = seen_at(text, at, seen);
-    if k < 4 {
-        let count = seen[k + 12] as usize;
-        let made = openings + seen[k + 16];
+    if k < PLACES {
+        let count = seen[k + COUNTS] as usize;
+        let made = openings + seen[k + OPENED];
         if made <= limit {
             if len < out.len() {
                 if out.len() - len < count {
                     return unseen();
                 }
-                put_again(seen[k + 8] as usize, count, len, out);
+                put_again(seen[k + STARTS] as usize, count, len, out);
             }
             return Step::Next {
-                at: at + (8 - (seen[k + 4] / 8) as usize),
+                at: at + (8 - (seen[k + SHIFTS] / 8) as usize),
                 len: count,
                 openings: made,
             };
@@ -273,18 +295,22 @@ pub fn remember(
     seen: &mut [u64],
 )
     requires { ⌜ (1 ≤ width) × (place + width ≤ length (now text)) ⌝ }
-    requires { ⌜ (length (now seen) ≡ 21) × (getD (now seen) 20 0 < 4) ⌝ }
+    requires { ⌜ (length (now seen) ≡ seenSize) × (nextPlace (now seen) < 4) ⌝ }
     ensures { λ _. ⌜ Remembered (now (text .entry)) place width start count opened (now (seen .entry)) (now (seen .exit)) ⌝ }
 {
     if (8 < width) | (text.len() - place < 8) {
         return;
     }
     let shift = 64 - 8 * width as u64;
-    let slot = seen[20] as usize;
+    let slot = seen[NEXT_PLACE] as usize;
     seen[slot] = moved_up(validate::word(text, place), shift);
-    seen[slot + 4] = shift;
-    seen[slot + 8] = start as u64;
-    seen[slot + 12] = count as u64;
-    seen[slot + 16] = opened;
-    seen[20] = if slot == 3 { 0 } else { (slot + 1) as u64 };
+    seen[slot + SHIFTS] = shift;
+    seen[slot + STARTS] = start as u64;
+    seen[slot + COUNTS] = count as u64;
+    seen[slot + OPENED] = opened;
+    seen[NEXT_PLACE] = if slot == LAST_PLACE {
+        0
+    } else {
+        (slot + 1) as u64
+    };
 }
