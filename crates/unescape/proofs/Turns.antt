@@ -6,6 +6,7 @@ use native.Mathlib.Omega.{arith}
 use lib.ListN.{length, getD, replicate}
 use borrow.Author.Tests.{eqb-true}
 use borrow.Rule.Slice.PartMut.{midOf, putMid}
+use Rattle.text.specs.Call.{longestText}
 use Rattle.text.specs.declared.Answer.{Answer}
 use Rattle.text.specs.declared.Answer.the-variants.{Done, Refused}
 use Rattle.entity.specs.Binding.{Bound}
@@ -13,7 +14,7 @@ use Rattle.output.specs.Runs.{Plain}
 use Rattle.output.proofs.Clip.{over-nothing}
 use Rattle.tokens.specs.Outcome.{Outcome, done, produced}
 use Rattle.tokens.specs.Walking.{RunEnd, Walked}
-use Rattle.tokens.specs.Seen.{Kept}
+use Rattle.tokens.specs.Seen.{Kept, nextPlace, seenSize}
 use Rattle.tokens.specs.Memory.{Advanced}
 use Rattle.tokens.specs.declared.Step.{Step}
 use Rattle.tokens.specs.declared.Step.the-variants.{Next, Stopped}
@@ -45,7 +46,7 @@ module _ (bind : List ℕ → Bound) (text : List ℕ) where
       pub going : Going (unescaping bind) text 0 old out seen i len 0
       pub short : len ≤ 65535 * i
 
-    pub ran-start : ((k : ℕ) → getD text k 0 < 256) → Ran old (replicate 21 0) 0 0
+    pub ran-start : ((k : ℕ) → getD text k 0 < 256) → Ran old (replicate seenSize 0) 0 0
     ran-start bytes = record { going = going-start (unescaping bind) text 0 old bytes; short = omega arith }
 
     module _ {out seen : List ℕ} {i len : ℕ} (g : Ran out seen i len) where
@@ -60,7 +61,7 @@ module _ (bind : List ℕ → Bound) (text : List ℕ) where
       ran-end h = progress-end textHead (replaced bind) text 0 old (g .going .progress) h
 
       -- what is kept, for a step after a text that is not too long
-      pub ran-kept : length text ≤ 16777216 → (len ≤ 0x1000000000000) × Kept seen len 0 × (getD seen 20 0 < 4)
+      pub ran-kept : length text ≤ longestText → (len ≤ 0x1000000000000) × Kept seen len 0 × (nextPlace seen < 4)
       ran-kept h = (
         omega (arith, g .short, ran-inside, h),
         memory-kept (unescaping bind) text (g .going .progress .size) (g .going .memory),

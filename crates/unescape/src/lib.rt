@@ -4,19 +4,20 @@ ghost use mathlib.Core.Bool.{true, false};
 ghost use mathlib.Core.List.{List, [], _∷_};
 ghost use Prim.Native.Nat.{ℕ, _+_, _-_, _≤_, _<_};
 ghost use lib.ListN.{length, getD};
-ghost use Rattle.text.specs.Call.{callOf};
+ghost use Rattle.text.specs.Call.{callOf, longestText};
 ghost use Rattle.entity.specs.Table.{ValidTable};
 ghost use Rattle.entity.specs.Binding.{binding, boundTo, Lies};
 ghost use Rattle.tokens.specs.Outcome.{finished};
 ghost use Rattle.output.specs.Runs.{Plain};
 ghost use Rattle.tokens.specs.Walking.{RunEnd, Within, Walked};
 ghost use Rattle.unescape.specs.Unescape.{unescape};
-ghost use Rattle.tokens.specs.Seen.{Kept};
+ghost use Rattle.tokens.specs.Seen.{Kept, nextPlace};
 ghost use Rattle.tokens.specs.Memory.{Memory, Advanced};
 ghost use Rattle.output.specs.Over.{over};
 ghost use Rattle.unescape.specs.Steps.{isAmp, Put, Near, Named, Referred, unescaping};
 use entity::Binding;
 use text::Answer;
+use text::refusals;
 use tokens::Step;
 
 // Is one of the `size` bytes from i on a `&`?
@@ -207,7 +208,7 @@ fn bound_step(
     pool: &[u8],
     out: &mut [u8],
 ) -> Step
-    requires { ⌜ i + 1 + size ≤ 16777216 ⌝ }
+    requires { ⌜ i + 1 + size ≤ longestText ⌝ }
     requires { ⌜ Lies (now pool) bound ⌝ }
     ensures { λ r. ⌜ ((name : List ℕ) → length name ≡ size → Named (boundTo (now (pool .entry)) bound) name i next (now (out .entry)) (now (out .exit)) r) ⌝ }
 {
@@ -229,7 +230,7 @@ fn bound_step(
             }
         }
         Binding::Unknown => Step::Stopped {
-            number: 11,
+            number: refusals::UNRECOGNIZED_ENTITY,
             first: (i + 1) as u64,
             second: (i + 1 + size) as u64,
         },
@@ -238,7 +239,7 @@ fn bound_step(
 
 // The name whose `&` is at i is looked up. Most names are short, and their lookup is compiled into the walk.
 fn name_step(name: &[u8], i: usize, next: usize, list: &[u8], pool: &[u8], out: &mut [u8]) -> Step
-    requires { ⌜ i + 1 + length (now name) ≤ 16777216 ⌝ }
+    requires { ⌜ i + 1 + length (now name) ≤ longestText ⌝ }
     requires { ⌜ ValidTable (now list) (now pool) ⌝ }
     ensures { λ r. ⌜ Named (binding (now (list .entry)) (now (pool .entry)) (now (name .entry))) (now (name .entry)) i next (now (out .entry)) (now (out .exit)) r ⌝ }
 {
@@ -264,7 +265,7 @@ fn name_step(name: &[u8], i: usize, next: usize, list: &[u8], pool: &[u8], out: 
 
 // The reference whose `&` is at i. `out` is the rest of the output.
 fn unescape_step(text: &[u8], i: usize, list: &[u8], pool: &[u8], out: &mut [u8]) -> Step
-    requires { ⌜ length (now text) ≤ 16777216 ⌝ }
+    requires { ⌜ length (now text) ≤ longestText ⌝ }
     requires { ⌜ (i < length (now text)) × (getD (now text) i 0 ≡ 38) ⌝ }
     requires { ⌜ ValidTable (now list) (now pool) ⌝ }
     ensures { λ r. ⌜ Referred (binding (now (list .entry)) (now (pool .entry))) (now (text .entry)) i (now (out .entry)) (now (out .exit)) r ⌝ }
@@ -279,7 +280,7 @@ fn unescape_step(text: &[u8], i: usize, list: &[u8], pool: &[u8], out: &mut [u8]
     let end = tokens::name_end(text, start, true);
     if end == text.len() {
         return Step::Stopped {
-            number: 10,
+            number: refusals::UNTERMINATED_ENTITY,
             first: i as u64,
             second: end as u64,
         };
@@ -311,10 +312,10 @@ fn known_step(
     seen: &mut [u64],
     out: &mut [u8],
 ) -> Step
-    requires { ⌜ length (now text) ≤ 16777216 ⌝ }
+    requires { ⌜ length (now text) ≤ longestText ⌝ }
     requires { ⌜ (i < length (now text)) × (getD (now text) i 0 ≡ 38) ⌝ }
     requires { ⌜ ValidTable (now list) (now pool) ⌝ }
-    requires { ⌜ (len ≤ 0x1000000000000) × Kept (now seen) len 0 × (getD (now seen) 20 0 < 4) ⌝ }
+    requires { ⌜ (len ≤ 0x1000000000000) × Kept (now seen) len 0 × (nextPlace (now seen) < 4) ⌝ }
     ensures { λ r. ⌜ ((value whole : List ℕ) → Memory (unescaping (binding (now (list .entry)) (now (pool .entry)))) (now (text .entry)) (now (seen .entry)) value → now (out .entry) ≡ over value whole → length value ≡ len → Advanced (unescaping (binding (now (list .entry)) (now (pool .entry)))) (now (text .entry)) i 0 value whole (now (seen .exit)) (now (out .exit)) r × Near (now (text .entry)) i r) ⌝ }
 {
     let again = tokens::seen_step(text, i, len, 0, 0, seen, out);
@@ -342,11 +343,11 @@ fn known_step(
 
 // Runs and references in turn. Writes as much of the value as there is room for.
 fn unescape_runs(text: &[u8], list: &[u8], pool: &[u8], out: &mut [u8]) -> Answer
-    requires { ⌜ length (now text) ≤ 16777216 ⌝ }
+    requires { ⌜ length (now text) ≤ longestText ⌝ }
     requires { ⌜ ValidTable (now list) (now pool) ⌝ }
     ensures { λ r. ⌜ Walked (unescape (binding (now (list .entry)) (now (pool .entry))) (now (text .entry))) (now (out .entry)) (now (out .exit)) r ⌝ }
 {
-    let mut seen = [0u64; 21];
+    let mut seen = [0u64; tokens::SEEN_SIZE];
     let mut i: usize = 0;
     let mut len: usize = 0;
     let mut last: usize = 16;
@@ -387,7 +388,7 @@ fn unescape_runs(text: &[u8], list: &[u8], pool: &[u8], out: &mut [u8]) -> Answe
 
 // Counts first: a refusal leaves the output, 19 too.
 fn unescape_long(text: &[u8], list: &[u8], pool: &[u8], out: &mut [u8]) -> Answer
-    requires { ⌜ length (now text) ≤ 16777216 ⌝ }
+    requires { ⌜ length (now text) ≤ longestText ⌝ }
     requires { ⌜ ValidTable (now list) (now pool) ⌝ }
     ensures { λ r. ⌜ callOf r (now (out .exit) ∷ []) ≡ finished (unescape (binding (now (list .entry)) (now (pool .entry))) (now (text .entry))) (now (out .entry)) ⌝ }
 {
@@ -401,7 +402,7 @@ fn unescape_long(text: &[u8], list: &[u8], pool: &[u8], out: &mut [u8]) -> Answe
     };
     if (out.len() as u64) < needed {
         return Answer::Refused {
-            number: 19,
+            number: refusals::NO_ROOM,
             first: needed,
             second: 0,
         };
@@ -411,12 +412,12 @@ fn unescape_long(text: &[u8], list: &[u8], pool: &[u8], out: &mut [u8]) -> Answe
 
 // A text without references is copied at once. A short one's value is held while it is counted: a refusal leaves the output, 19 too.
 pub fn unescape_with(text: &[u8], list: &[u8], pool: &[u8], out: &mut [u8]) -> Answer
-    requires { ⌜ length (now text) ≤ 16777216 ⌝ }
+    requires { ⌜ length (now text) ≤ longestText ⌝ }
     requires { ⌜ ValidTable (now list) (now pool) ⌝ }
     ensures { λ r. ⌜ callOf r (now (out .exit) ∷ []) ≡ finished (unescape (binding (now (list .entry)) (now (pool .entry))) (now (text .entry))) (now (out .entry)) ⌝ }
 {
     if is_whole(text) {
-        return tokens::copied_whole(text, 19, out);
+        return tokens::copied_whole(text, refusals::NO_ROOM, out);
     }
     if 128 < text.len() {
         return unescape_long(text, list, pool, out);
@@ -432,7 +433,7 @@ pub fn unescape_with(text: &[u8], list: &[u8], pool: &[u8], out: &mut [u8]) -> A
     };
     if (out.len() as u64) < len {
         return Answer::Refused {
-            number: 19,
+            number: refusals::NO_ROOM,
             first: len,
             second: 0,
         };
