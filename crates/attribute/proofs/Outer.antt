@@ -6,6 +6,7 @@ use Prim.Native.Nat.{ℕ, _+_, _-_, _*_, _≤_, _<_, min}
 use native.Mathlib.Omega.{arith}
 use lib.ListN.{length, getD, take, drop, replicate}
 use borrow.Rule.Slice.PartMut.{midOf, putMid}
+use Rattle.text.specs.Call.{longestText}
 use Rattle.text.specs.declared.Answer.{Answer}
 use Rattle.text.specs.declared.Answer.the-variants.{Done, Refused}
 use Rattle.eols.specs.Stops.{ruleFor}
@@ -13,7 +14,7 @@ use Rattle.output.specs.Over.{over}
 use Rattle.tokens.specs.Tokens.{tokens}
 use Rattle.tokens.specs.Outcome.{run}
 use Rattle.tokens.specs.Walking.{Walked}
-use Rattle.tokens.specs.Seen.{Kept}
+use Rattle.tokens.specs.Seen.{Kept, nextPlace, seenSize}
 use Rattle.tokens.specs.Memory.{Walk, Memory, Advanced}
 use Rattle.tokens.specs.declared.Step.{Step}
 use Rattle.tokens.specs.declared.Step.the-variants.{Next, Stopped}
@@ -51,7 +52,7 @@ module _ (newer : Bool) (list pool : List ℕ) (limit depth : ℕ) (text : List 
       pub few : made ≤ limit
       pub short : len ≤ 4 * at + 262140 * made
 
-    pub ran-start : ((k : ℕ) → getD text k 0 < 256) → Ran old (replicate 21 0) 0 0 0
+    pub ran-start : ((k : ℕ) → getD text k 0 < 256) → Ran old (replicate seenSize 0) 0 0 0
     ran-start bytes =
         record { going = going-start walks text 0 old bytes; few = omega arith; short = omega arith }
 
@@ -63,7 +64,7 @@ module _ (newer : Bool) (list pool : List ℕ) (limit depth : ℕ) (text : List 
       ran-inside = g .going .progress .inside
 
       -- far from overflow, for a text that is not too long
-      pub ran-room : length text ≤ 16777216 → limit ≤ 1000000 → len ≤ 0x100000000000
+      pub ran-room : length text ≤ longestText → limit ≤ 1000000 → len ≤ 0x100000000000
       ran-room h l = omega (arith, g .short, g .few, ran-inside, h, l)
 
       pub ran-end : length text ≤ at → Told out (Done len made)
@@ -73,7 +74,7 @@ module _ (newer : Bool) (list pool : List ℕ) (limit depth : ℕ) (text : List 
       )
 
       -- what is kept, for a step after a text that is not too long
-      pub ran-kept : length text ≤ 16777216 → limit ≤ 1000000 → (len ≤ 0x1000000000000) × Kept seen len limit × (getD seen 20 0 < 4)
+      pub ran-kept : length text ≤ longestText → limit ≤ 1000000 → (len ≤ 0x1000000000000) × Kept seen len limit × (nextPlace seen < 4)
       ran-kept h l = (
         omega (arith, ran-room h l),
         memory-kept walks text (g .going .progress .size) (g .going .memory),

@@ -4,7 +4,7 @@ ghost use mathlib.Core.Bool.{Bool, true, false};
 ghost use mathlib.Core.List.{List, [], _∷_};
 ghost use Prim.Native.Nat.{ℕ, _+_, _-_, _≤_, _<_};
 ghost use lib.ListN.{length, getD};
-ghost use Rattle.text.specs.Call.{callOf, finish};
+ghost use Rattle.text.specs.Call.{callOf, finish, longestText};
 ghost use Rattle.text.specs.Version.{ruleOf};
 ghost use Rattle.eols.specs.Stops.{ruleFor};
 ghost use Rattle.canonical.specs.Canonical.{canonical};
@@ -14,7 +14,7 @@ ghost use Rattle.tokens.specs.Outcome.{done, finished};
 ghost use Rattle.output.specs.Runs.{Plain};
 ghost use Rattle.tokens.specs.Walking.{RunEnd, Within, Stepped, Walked, Ended, nextAt};
 ghost use Rattle.attribute.specs.Heads.{attributeHead};
-ghost use Rattle.tokens.specs.Seen.{Kept};
+ghost use Rattle.tokens.specs.Seen.{Kept, nextPlace};
 ghost use Rattle.tokens.specs.Memory.{Memory, Advanced};
 ghost use Rattle.output.specs.Over.{over};
 ghost use Rattle.attribute.specs.Walk.{Settings, walk, normalize, readingOf};
@@ -23,13 +23,14 @@ ghost use Rattle.attribute.specs.Checks.{settingsCheck};
 ghost use Rattle.attribute.specs.Steps.{stopByte, outcomeAt, Blank, ampOr, stepFrom, Counted, CountedStep, walking, Passed};
 use entity::Binding;
 use text::Answer;
+use text::refusals;
 use tokens::Step;
 
 // Without branches, so that the block loop runs on vectors.
 fn is_stop(b: u8, newer: bool) -> bool
     ensures { λ r. ⌜ r ≡ stopByte newer b ⌝ }
 {
-    (b == 9) | (b == 10) | (b == 13) | (b == 38) | (newer & ((b == 0xc2) | (b == 0xe2)))
+    (b == b'\t') | (b == b'\n') | (b == b'\r') | (b == b'&') | (newer & ((b == 0xc2) | (b == 0xe2)))
 }
 
 // Is one of the `size` bytes from i on a stop?
@@ -231,14 +232,14 @@ fn normalize_attr_step(
     out: &mut [u8],
 ) -> Step
     requires { ⌜ ValidTable (now list) (now pool) ⌝ }
-    requires { ⌜ (at < length (now text)) × (length (now text) ≤ 16777216) ⌝ }
+    requires { ⌜ (at < length (now text)) × (length (now text) ≤ longestText) ⌝ }
     requires { ⌜ stopByte newer (getD (now text) at 0) ≡ true ⌝ }
     requires { ⌜ (openings ≤ limit) × (limit ≤ 1000000) ⌝ }
     ensures { λ r. ⌜ Stepped (nextAt (attributeHead (ruleFor newer)) (now (text .entry)) at) (outcomeAt (readingOf (ruleFor newer) (now (list .entry)) (now (pool .entry)) limit) (ruleFor newer) depth (now (text .entry)) at openings) (now (out .entry)) (now (out .exit)) r ⌝ }
     ensures { λ r. ⌜ CountedStep (length (now (text .entry))) at openings limit r ⌝ }
 {
     if depth == 0 {
-        return stopped(16, 0, 0);
+        return stopped(refusals::TOO_DEEP, 0, 0);
     }
     if text[at] != b'&' {
         let blank = blank_at(text, at, newer);
@@ -253,7 +254,7 @@ fn normalize_attr_step(
     }
     let end = tokens::name_end(text, from, false);
     if end == text.len() {
-        return stopped(10, at, end);
+        return stopped(refusals::UNTERMINATED_ENTITY, at, end);
     }
     if text[from] == b'#' {
         return tokens::number_step(&text[from + 1..end], end + 1, openings, out);
@@ -261,7 +262,7 @@ fn normalize_attr_step(
     match bound_to(&text[from..end], list, pool) {
         Binding::Text { start, end: last } => {
             if openings == limit {
-                return stopped(17, at, 0);
+                return stopped(refusals::TOO_MANY_OPENINGS, at, 0);
             }
             if is_plain(&pool[start..last], newer) {
                 return tokens::run_step(&pool[start..last], end + 1, openings + 1, out);
@@ -279,7 +280,7 @@ fn normalize_attr_step(
             walked_step(walked, end + 1)
         }
         Binding::Predefined(b) => byte_step(b, end + 1, openings, out),
-        Binding::Unknown => stopped(11, from, end),
+        Binding::Unknown => stopped(refusals::UNRECOGNIZED_ENTITY, from, end),
     }
 }
 
@@ -295,7 +296,7 @@ fn normalize_attr_steps(
     out: &mut [u8],
 ) -> Answer
     requires { ⌜ ValidTable (now list) (now pool) ⌝ }
-    requires { ⌜ length (now text) ≤ 16777216 ⌝ }
+    requires { ⌜ length (now text) ≤ longestText ⌝ }
     requires { ⌜ (openings ≤ limit) × (limit ≤ 1000000) ⌝ }
     ensures { λ r. ⌜ Walked (walk (readingOf (ruleFor newer) (now (list .entry)) (now (pool .entry)) limit) (attributeHead (ruleFor newer)) depth (now (text .entry)) openings) (now (out .entry)) (now (out .exit)) r ⌝ }
     ensures { λ r. ⌜ Counted (length (now (text .entry))) openings limit r ⌝ }
@@ -395,10 +396,10 @@ fn known_step(
     out: &mut [u8],
 ) -> Step
     requires { ⌜ ValidTable (now list) (now pool) ⌝ }
-    requires { ⌜ (at < length (now text)) × (length (now text) ≤ 16777216) ⌝ }
+    requires { ⌜ (at < length (now text)) × (length (now text) ≤ longestText) ⌝ }
     requires { ⌜ getD (now text) at 0 ≡ 38 ⌝ }
     requires { ⌜ (openings ≤ limit) × (limit ≤ 1000000) ⌝ }
-    requires { ⌜ (len ≤ 0x1000000000000) × Kept (now seen) len limit × (getD (now seen) 20 0 < 4) ⌝ }
+    requires { ⌜ (len ≤ 0x1000000000000) × Kept (now seen) len limit × (nextPlace (now seen) < 4) ⌝ }
     ensures { λ r. ⌜ ((value whole : List ℕ) → Memory (walking (readingOf (ruleFor newer) (now (list .entry)) (now (pool .entry)) limit) (ruleFor newer) depth limit) (now (text .entry)) (now (seen .entry)) value → now (out .entry) ≡ over value whole → length value ≡ len → Advanced (walking (readingOf (ruleFor newer) (now (list .entry)) (now (pool .entry)) limit) (ruleFor newer) depth limit) (now (text .entry)) at openings value whole (now (seen .exit)) (now (out .exit)) r × CountedStep (length (now (text .entry))) at openings limit r) ⌝ }
 {
     let again = tokens::seen_step(text, at, len, openings, limit, seen, out);
@@ -443,14 +444,14 @@ fn blank_step(
     openings: u64,
     out: &mut [u8],
 ) -> Step
-    requires { ⌜ (at < length (now text)) × (length (now text) ≤ 16777216) ⌝ }
+    requires { ⌜ (at < length (now text)) × (length (now text) ≤ longestText) ⌝ }
     requires { ⌜ stopByte newer (getD (now text) at 0) ≡ true ⌝ }
     requires { ⌜ (getD (now text) at 0 ≡ 38 → ⊥) ⌝ }
     ensures { λ r. ⌜ ((s : Settings) → Stepped (nextAt (attributeHead (ruleFor newer)) (now (text .entry)) at) (outcomeAt s (ruleFor newer) depth (now (text .entry)) at openings) (now (out .entry)) (now (out .exit)) r) ⌝ }
     ensures { λ r. ⌜ ((limit : ℕ) → openings ≤ limit → CountedStep (length (now (text .entry))) at openings limit r) ⌝ }
 {
     if depth == 0 {
-        return stopped(16, 0, 0);
+        return stopped(refusals::TOO_DEEP, 0, 0);
     }
     let blank = blank_at(text, at, newer);
     byte_step(blank.byte, at + blank.width, openings, out)
@@ -471,10 +472,10 @@ fn outer_step(
     out: &mut [u8],
 ) -> Step
     requires { ⌜ ValidTable (now list) (now pool) ⌝ }
-    requires { ⌜ (at < length (now text)) × (length (now text) ≤ 16777216) ⌝ }
+    requires { ⌜ (at < length (now text)) × (length (now text) ≤ longestText) ⌝ }
     requires { ⌜ stopByte newer (getD (now text) at 0) ≡ true ⌝ }
     requires { ⌜ (openings ≤ limit) × (limit ≤ 1000000) ⌝ }
-    requires { ⌜ (len ≤ 0x1000000000000) × Kept (now seen) len limit × (getD (now seen) 20 0 < 4) ⌝ }
+    requires { ⌜ (len ≤ 0x1000000000000) × Kept (now seen) len limit × (nextPlace (now seen) < 4) ⌝ }
     ensures { λ r. ⌜ ((value whole : List ℕ) → Memory (walking (readingOf (ruleFor newer) (now (list .entry)) (now (pool .entry)) limit) (ruleFor newer) depth limit) (now (text .entry)) (now (seen .entry)) value → now (out .entry) ≡ over value whole → length value ≡ len → Advanced (walking (readingOf (ruleFor newer) (now (list .entry)) (now (pool .entry)) limit) (ruleFor newer) depth limit) (now (text .entry)) at openings value whole (now (seen .exit)) (now (out .exit)) r × CountedStep (length (now (text .entry))) at openings limit r) ⌝ }
 {
     if text[at] == b'&' {
@@ -507,12 +508,12 @@ fn normalize_text(
     out: &mut [u8],
 ) -> Answer
     requires { ⌜ ValidTable (now list) (now pool) ⌝ }
-    requires { ⌜ length (now text) ≤ 16777216 ⌝ }
+    requires { ⌜ length (now text) ≤ longestText ⌝ }
     requires { ⌜ limit ≤ 1000000 ⌝ }
     ensures { λ r. ⌜ Walked (normalize (readingOf (ruleFor newer) (now (list .entry)) (now (pool .entry)) limit) depth (now (text .entry))) (now (out .entry)) (now (out .exit)) r ⌝ }
     ensures { λ r. ⌜ Counted (length (now (text .entry))) 0 limit r ⌝ }
 {
-    let mut seen = [0u64; 21];
+    let mut seen = [0u64; tokens::SEEN_SIZE];
     let mut at: usize = 0;
     let mut len: usize = 0;
     let mut made: u64 = 0;
@@ -577,7 +578,7 @@ fn normalize_into(
     out: &mut [u8],
 ) -> Answer
     requires { ⌜ ValidTable (now list) (now pool) ⌝ }
-    requires { ⌜ length (now text) ≤ 16777216 ⌝ }
+    requires { ⌜ length (now text) ≤ longestText ⌝ }
     requires { ⌜ limit ≤ 1000000 ⌝ }
     ensures { λ r. ⌜ Ended short (normalize (readingOf (ruleFor newer) (now (list .entry)) (now (pool .entry)) limit) depth (now (text .entry))) (now (out .entry)) (now (out .exit)) r ⌝ }
     ensures { λ r. ⌜ Counted (length (now (text .entry))) 0 limit r ⌝ }
@@ -608,7 +609,7 @@ fn normalize_into(
 // As is_plain, for the text of a call, with the last block first: where there is a stop, that mostly ends sooner than the search for
 // the first one. It may overlap with the block before it.
 fn is_whole(text: &[u8], newer: bool) -> bool
-    requires { ⌜ length (now text) ≤ 16777216 ⌝ }
+    requires { ⌜ length (now text) ≤ longestText ⌝ }
     ensures { λ r. ⌜ (r ≡ true → Plain (stopByte newer) (now (text .entry)) 0 (length (now (text .entry)))) ⌝ }
 {
     if any_last(text, newer) {
@@ -630,7 +631,7 @@ fn any_last(text: &[u8], newer: bool) -> bool
 
 // Is the text of a call its own value? A long one of XML 1.1 is searched for stops other than a C2 or E2 that starts no line end.
 fn is_own_value(text: &[u8], newer: bool, depth: u64) -> bool
-    requires { ⌜ length (now text) ≤ 16777216 ⌝ }
+    requires { ⌜ length (now text) ≤ longestText ⌝ }
     ensures { λ r. ⌜ (r ≡ true → Passed (ruleFor newer) depth (now (text .entry)) 0 (length (now (text .entry)))) ⌝ }
 {
     if is_whole(text, newer) {
@@ -648,14 +649,14 @@ pub fn check_settings(version: u8, depth: u64, limit: u64) -> Answer
 {
     if 128 < depth {
         return Answer::Refused {
-            number: 2,
+            number: refusals::DEPTH_TOO_LARGE,
             first: 0,
             second: 0,
         };
     }
     if 1000000 < limit {
         return Answer::Refused {
-            number: 3,
+            number: refusals::LIMIT_TOO_LARGE,
             first: 0,
             second: 0,
         };
@@ -674,15 +675,24 @@ pub fn normalize_attribute_value(
     out: &mut [u8],
 ) -> Answer
     requires { ⌜ ValidTable (now list) (now pool) ⌝ }
-    requires { ⌜ length (now text) ≤ 16777216 ⌝ }
+    requires { ⌜ length (now text) ≤ longestText ⌝ }
     requires { ⌜ limit ≤ 1000000 ⌝ }
     ensures { λ r. ⌜ callOf r (now (out .exit) ∷ []) ≡ finished (normalize (readingOf (ruleOf version) (now (list .entry)) (now (pool .entry)) limit) depth (now (text .entry))) (now (out .entry)) ⌝ }
 {
     let newer = 1 < version;
     if is_own_value(text, newer, depth) {
-        return tokens::copied_whole(text, 19, out);
+        return tokens::copied_whole(text, refusals::NO_ROOM, out);
     }
-    normalize_into(text, newer, depth, limit, list, pool, 19, out)
+    normalize_into(
+        text,
+        newer,
+        depth,
+        limit,
+        list,
+        pool,
+        refusals::NO_ROOM,
+        out,
+    )
 }
 
 // The canonical form of a value that a scratch holds. Where the output has six times its length there is room: no count is needed.
@@ -694,7 +704,7 @@ fn canonical_into(value: &[u8], newer: bool, openings: u64, out: &mut [u8]) -> A
         let length = canonical::canonical_length(value, newer);
         if out.len() < length {
             return Answer::Refused {
-                number: 19,
+                number: refusals::NO_ROOM,
                 first: length as u64,
                 second: 0,
             };
@@ -719,15 +729,24 @@ pub fn canonical_form(
     out: &mut [u8],
 ) -> Answer
     requires { ⌜ ValidTable (now list) (now pool) ⌝ }
-    requires { ⌜ length (now text) ≤ 16777216 ⌝ }
+    requires { ⌜ length (now text) ≤ longestText ⌝ }
     requires { ⌜ limit ≤ 1000000 ⌝ }
     ensures { λ r. ⌜ callOf r (now (scratch .exit) ∷ now (out .exit) ∷ []) ≡ formed (ruleOf version) (normalize (readingOf (ruleOf version) (now (list .entry)) (now (pool .entry)) limit) depth (now (text .entry))) (now (scratch .entry)) (now (out .entry)) ⌝ }
 {
     let newer = 1 < version;
     let filled = if is_own_value(text, newer, depth) {
-        tokens::copied_whole(text, 18, scratch)
+        tokens::copied_whole(text, refusals::NO_SCRATCH, scratch)
     } else {
-        normalize_into(text, newer, depth, limit, list, pool, 18, scratch)
+        normalize_into(
+            text,
+            newer,
+            depth,
+            limit,
+            list,
+            pool,
+            refusals::NO_SCRATCH,
+            scratch,
+        )
     };
     let Answer::Done {
         first: len,
