@@ -13,7 +13,7 @@ use Rattle.output.specs.Over.{over}
 use Rattle.tokens.specs.Tokens.{nameAt, referenceAt}
 use Rattle.tokens.specs.Outcome.{done}
 use Rattle.tokens.specs.Walking.{nextAt, Stepped}
-use Rattle.tokens.specs.Seen.{Shifts, metAt, widthOf, Repeated, Again, Remembered}
+use Rattle.tokens.specs.Seen.{Shifts, metAt, widthOf, Repeated, Remembered}
 use Rattle.tokens.specs.Memory.{Walk, Memory, Advanced}
 use Rattle.tokens.specs.declared.Step.{Step}
 use Rattle.tokens.specs.declared.Step.the-variants.{Next, Stopped}
@@ -69,10 +69,9 @@ module _ (newer : Bool) (list pool : List ℕ) (limit depth : ℕ) (text : List 
       let room : at + 8 ≤ length text = r .met .room in
       (omega (arith, low, to), omega (arith, low, to, room), omega (arith, r .opens), r .within, omega (arith, low, to, small, r .size, r .opens))
 
-  pub known-again : {at len openings : ℕ} {value whole seen old new : List ℕ} {a l m : ℕ} (r : Step) → r ≡ Next a l m → Again text at len openings limit seen old new r
-      → Memory walks text seen value → getD text at 0 ≡ 38 → old ≡ over value whole → length value ≡ len → Goes at openings value whole seen new r
-  known-again (Next a l m) e h mem b o q = (advanced-again walks text mem b o q h, counted-again mem h)
-  known-again (Stopped k first second) e h mem b o q = let z : _≡_ {A = ℕ} 0 1 = cc in absurd (omega arith)
+  pub known-again : {at len openings : ℕ} {value whole seen old new : List ℕ} {a l m : ℕ} → Repeated text at len openings limit seen old new a l m
+      → Memory walks text seen value → getD text at 0 ≡ 38 → old ≡ over value whole → length value ≡ len → Goes at openings value whole seen new (Next a l m)
+  known-again h mem b o q = (advanced-again walks text mem b o q h, counted-again mem h)
 
   -- a step that is not kept
   pub known-once : {at len openings wd : ℕ} {value whole seen out part : List ℕ} {r : Step} → Memory walks text seen value

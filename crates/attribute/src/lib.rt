@@ -24,6 +24,7 @@ ghost use Rattle.attribute.specs.Steps.{stopByte, outcomeAt, Blank, ampO
 use entity::Binding;
 use text::Answer;
 use text::refusals;
+use tokens::Known;
 use tokens::Step;
 
 // Without branches, so that the block loop runs on vectors.
@@ -402,15 +403,18 @@ fn known_step(
     requires { ⌜ (len ≤ 0x1000000000000) × Kept (now seen) len limit × (nextPlace (now seen) < 4) ⌝ }
     ensures { λ r. ⌜ ((value whole : List ℕ) → Memory (walking (readingOf (ruleFor newer) (now (list .entry)) (now (pool .entry)) limit) (ruleFor newer) depth limit) (now (text .entry)) (now (seen .entry)) value → now (out .entry) ≡ over value whole → length value ≡ len → Advanced (walking (readingOf (ruleFor newer) (now (list .entry)) (now (pool .entry)) limit) (ruleFor newer) depth limit) (now (text .entry)) at openings value whole (now (seen .exit)) (now (out .exit)) r × CountedStep (length (now (text .entry))) at openings limit r) ⌝ }
 {
-    let again = tokens::seen_step(text, at, len, openings, limit, seen, out);
-    let Step::Stopped {
-        number: _,
-        first: _,
-        second: _,
-    } = again
-    else {
-        return again;
-    };
+    let known = tokens::seen_step(text, at, len, openings, limit, seen, out);
+    if let Known::Again {
+        at: next,
+        len: more,
+        openings: made,
+    } = known {
+        return Step::Next {
+            at: next,
+            len: more,
+            openings: made,
+        };
+    }
     let rest = output::least(len, out.len());
     let step = normalize_attr_step(
         text,

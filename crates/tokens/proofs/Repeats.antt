@@ -1,5 +1,5 @@
 -- A part of a value written again after it: the laws of `over` for one byte more, and for a buffer that is full. Assumes nothing.
-use mathlib.Core.Path.{_≡_, refl, sym, ap, _∙_}
+use mathlib.Core.Path.{_≡_, refl, sym, ap, subst, _∙_}
 use mathlib.Core.List.{List, [], _∷_, _++_, append-nil, append-assoc}
 use Prim.Native.Nat.{ℕ, zero, suc, _+_, _≤_, _<_}
 use native.Mathlib.Omega.{arith}
@@ -9,9 +9,9 @@ use lib.ListN.{length, getD, set, take, drop, length-append, length-drop}
 use lib.Seq.{length-take-le, take-suc, getD-drop}
 use Rattle.output.specs.Over.{over}
 use Rattle.output.proofs.Clip.{over-nothing, over-byte, length-over}
-use Rattle.tokens.specs.Seen.{Again}
-use Rattle.tokens.specs.declared.Step.{Step}
-use Rattle.tokens.specs.declared.Step.the-variants.{Next, Stopped}
+use Rattle.tokens.specs.Seen.{Repeated, Recalled}
+use Rattle.tokens.specs.declared.Known.{Known}
+use Rattle.tokens.specs.declared.Known.the-variants.{Again, Unseen}
 
 -- the value's own byte, where there is room for it
 pub over-get : (value more whole : List ℕ) (k : ℕ) → k < length value → k < length whole → getD (over (value ++ more) whole) k 0 ≡ getD value k 0
@@ -61,10 +61,11 @@ again-one value whole from at count {out} c n h g e =
     ∙ again-byte value whole from at 0 n f g (e ∙ ap (λ (l : List ℕ). over l whole) (sym (append-nil value)))
     ∙ ap (λ (k : ℕ). over (value ++ take k (drop from value)) whole) z
 
--- a reference that is not kept leaves the output
-pub unwritten : (text : List ℕ) (at len openings limit : ℕ) (seen : List ℕ) {old new : List ℕ} {k first second : ℕ} (r : Step) → r ≡ Stopped k first second
-    → Again text at len openings limit seen old new r → new ≡ old
-unwritten text at len openings limit seen (Next a l m) e h =
-    let z : _≡_ {A = ℕ} 0 1 = cc in
-    absurd (omega arith)
-unwritten text at len openings limit seen (Stopped k first second) e h = h
+-- a reference that is kept is repeated, and one that is not leaves the output
+module _ (text : List ℕ) (at len openings limit : ℕ) (seen : List ℕ) {old new : List ℕ} {r : Known} where
+  pub repeated : {a l m : ℕ} → r ≡ Again a l m → Recalled text at len openings limit seen old new r
+      → Repeated text at len openings limit seen old new a l m
+  repeated e h = subst (Recalled text at len openings limit seen old new) e h
+
+  pub unwritten : r ≡ Unseen → Recalled text at len openings limit seen old new r → new ≡ old
+  unwritten e h = subst (Recalled text at len openings limit seen old new) e h

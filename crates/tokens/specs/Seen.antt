@@ -7,8 +7,8 @@ use Rattle.text.specs.Blocks.{wordAt}
 use Rattle.output.specs.Over.{over}
 use Rattle.tokens.specs.Tokens.{Stop, number, named, unterminated}
 use Rattle.tokens.specs.Outcome.{Outcome, done}
-use Rattle.tokens.specs.declared.Step.{Step}
-use Rattle.tokens.specs.declared.Step.the-variants.{Next, Stopped}
+use Rattle.tokens.specs.declared.Known.{Known}
+use Rattle.tokens.specs.declared.Known.the-variants.{Again, Unseen}
 
 -- a value stays the same at another offset and after other openings, as long as the openings stay within the limit; a `&` that
 -- nothing ends has none
@@ -83,9 +83,9 @@ pub record Repeated (text : List ℕ) (at len openings limit : ℕ) (seen old ne
       → new ≡ over (value ++ take l (drop (metAt seen slot .start) value)) whole
 
 -- or it is not, and nothing is written
-abbrev pub Again : List ℕ → ℕ → ℕ → ℕ → ℕ → List ℕ → List ℕ → List ℕ → Step → Type 0
-Again text at len openings limit seen old new (Next a l m) = Repeated text at len openings limit seen old new a l m
-Again text at len openings limit seen old new (Stopped n f s) = new ≡ old
+abbrev pub Recalled : List ℕ → ℕ → ℕ → ℕ → ℕ → List ℕ → List ℕ → List ℕ → Known → Type 0
+Recalled text at len openings limit seen old new (Again a l m) = Repeated text at len openings limit seen old new a l m
+Recalled text at len openings limit seen old new Unseen = new ≡ old
 
 -- one of the four after a reference was to be kept: as before, or the new one
 pub data Entered (text : List ℕ) (place width : ℕ) (fresh before after : Met) : Type 0 where

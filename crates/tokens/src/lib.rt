@@ -8,7 +8,7 @@ ghost use Rattle.output.specs.Over.{over};
 ghost use Rattle.charref.specs.CharRef.{anyCharacter, encode};
 ghost use Rattle.charref.specs.Reading.{Found};
 ghost use Rattle.tokens.specs.Outcome.{done, numberOutcome};
-ghost use Rattle.tokens.specs.Seen.{movedUp, metAt, Matches, Kept, Again, Remembered, seenSize, nextPlace};
+ghost use Rattle.tokens.specs.Seen.{movedUp, metAt, Matches, Kept, Recalled, Remembered, seenSize, nextPlace};
 ghost use Rattle.tokens.specs.Walking.{NameEnd, Stepped, Ended, handedOn};
 use charref::CharNumber;
 use charref::Quick;
@@ -27,6 +27,16 @@ pub enum Step {
         first: u64,
         second: u64,
     },
+}
+
+// A reference as it was met before: its step again, or nothing is known of it.
+pub enum Known {
+    Again {
+        at: usize,
+        len: usize,
+        openings: u64,
+    },
+    Unseen,
 }
 
 // The `;` that ends the name; the text's length where there is none, and where `inner` says that a `&` before it is none.
@@ -236,19 +246,8 @@ fn put_again(from: usize, count: usize, at: usize, out: &mut [u8])
     }
 }
 
-// The answer where no reference with the same bytes is kept.
-fn unseen() -> Step
-    ensures { λ r. ⌜ r ≡ Step.Stopped 0 0 0 ⌝ }
-{
-    Step::Stopped {
-        number: 0,
-        first: 0,
-        second: 0,
-    }
-}
-
-// The reference at `at`, where one with the same bytes is kept: its value is written again, after the value of `len` bytes. Else the
-// number 0, and nothing is written.
+// The reference at `at`, where one with the same bytes is kept: its value is written again, after the value of `len` bytes. Else
+// nothing is written.
 pub fn seen_step(
     text: &[u8],
     at: usize,
@@ -257,11 +256,11 @@ pub fn seen_step(
     limit: u64,
     seen: &[u64],
     out: &mut [u8],
-) -> Step
+) -> Known
     requires { ⌜ (at ≤ length (now text)) × (len ≤ 0x1000000000000) ⌝ }
     requires { ⌜ Kept (now seen) len limit ⌝ }
     requires { ⌜ (openings ≤ limit) × (limit ≤ 1000000) ⌝ }
-    ensures { λ r. ⌜ Again (now (text .entry)) at len openings limit (now (seen .entry)) (now (out .entry)) (now (out .exit)) r ⌝ }
+    ensures { λ r. ⌜ Recalled (now (text .entry)) at len openings limit (now (seen .entry)) (now (out .entry)) (now (out .exit)) r ⌝ }
 {
     let k = seen_at(text, at, seen);
     if k < PLACES {
@@ -270,18 +269,18 @@ pub fn seen_step(
         if made <= limit {
             if len < out.len() {
                 if out.len() - len < count {
-                    return unseen();
+                    return Known::Unseen;
                 }
                 put_again(seen[k + STARTS] as usize, count, len, out);
             }
-            return Step::Next {
+            return Known::Again {
                 at: at + (8 - (seen[k + SHIFTS] / 8) as usize),
                 len: count,
                 openings: made,
             };
         }
     }
-    unseen()
+    Known::Unseen
 }
 
 // Keeps the reference of `width` bytes at `place` in the place of the one kept longest, where eight bytes hold it.

@@ -9,10 +9,10 @@ use borrow.Rule.Slice.PartMut.{midOf, putMid}
 use Rattle.entity.specs.Binding.{Bound}
 use Rattle.output.specs.Over.{over}
 use Rattle.tokens.specs.Tokens.{nameAt, referenceAt}
-use Rattle.tokens.specs.Seen.{Again, Remembered}
+use Rattle.tokens.specs.Seen.{Repeated, Remembered}
 use Rattle.tokens.specs.Memory.{Memory, Advanced}
 use Rattle.tokens.specs.declared.Step.{Step}
-use Rattle.tokens.specs.declared.Step.the-variants.{Next, Stopped}
+use Rattle.tokens.specs.declared.Step.the-variants.{Next}
 use Rattle.tokens.proofs.Memory.{advanced-again, advanced-once, advanced-kept}
 use Rattle.unescape.specs.Unescape.{textHead}
 use Rattle.unescape.specs.Steps.{Near, Referred, unescaping}
@@ -30,15 +30,12 @@ module _ (bind : List ℕ → Bound) (text : List ℕ) (i len : ℕ) (seen old :
       (value whole : List ℕ) → Memory (unescaping bind) text seen value → old ≡ over value whole → length value ≡ len
       → Advanced (unescaping bind) text i 0 value whole kept new r × Near text i r
 
-  pub known-again : {new : List ℕ} (r : Step) {a l m : ℕ} → r ≡ Next a l m → getD text i 0 ≡ 38 → Again text i len 0 0 seen old new r → Known seen new r
-  known-again (Next a l m) e b s value whole mem o q =
+  pub known-again : {new : List ℕ} {a l m : ℕ} → getD text i 0 ≡ 38 → Repeated text i len 0 0 seen old new a l m → Known seen new (Next a l m)
+  known-again b s value whole mem o q =
       let x = mem .each (s .slot) (s .known) in (
         advanced-again (unescaping bind) text mem b o q s,
         (omega (arith, s .to, x .low), omega (arith, s .to, s .met .room), omega (arith, s .size, x .small), omega (arith, s .within)),
       )
-  known-again (Stopped n f x) e b s value whole mem o q =
-      let z : _≡_ {A = ℕ} 0 1 = cc in
-      absurd (omega arith)
 
   module _ {out part : List ℕ} {wd : ℕ} (same : out ≡ old) (least : wd ≡ min len (length out)) where
     pub known-once : {r : Step} → Referred bind text i (midOf wd (length out - wd) out) part r → Known seen (putMid wd (length out - wd) out part) r

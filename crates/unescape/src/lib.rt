@@ -18,6 +18,7 @@ ghost use Rattle.unescape.specs.Steps.{isAmp, Put, Near, Named, Referred
 use entity::Binding;
 use text::Answer;
 use text::refusals;
+use tokens::Known;
 use tokens::Step;
 
 // Is one of the `size` bytes from i on a `&`?
@@ -318,15 +319,18 @@ fn known_step(
     requires { ⌜ (len ≤ 0x1000000000000) × Kept (now seen) len 0 × (nextPlace (now seen) < 4) ⌝ }
     ensures { λ r. ⌜ ((value whole : List ℕ) → Memory (unescaping (binding (now (list .entry)) (now (pool .entry)))) (now (text .entry)) (now (seen .entry)) value → now (out .entry) ≡ over value whole → length value ≡ len → Advanced (unescaping (binding (now (list .entry)) (now (pool .entry)))) (now (text .entry)) i 0 value whole (now (seen .exit)) (now (out .exit)) r × Near (now (text .entry)) i r) ⌝ }
 {
-    let again = tokens::seen_step(text, i, len, 0, 0, seen, out);
-    let Step::Stopped {
-        number: _,
-        first: _,
-        second: _,
-    } = again
-    else {
-        return again;
-    };
+    let known = tokens::seen_step(text, i, len, 0, 0, seen, out);
+    if let Known::Again {
+        at,
+        len: more,
+        openings,
+    } = known {
+        return Step::Next {
+            at,
+            len: more,
+            openings,
+        };
+    }
     let rest = output::least(len, out.len());
     let step = unescape_step(text, i, list, pool, &mut out[rest..]);
     let Step::Next {

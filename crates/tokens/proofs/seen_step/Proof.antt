@@ -37,11 +37,8 @@ add-made-2 c = omega (arith, c .before .before .before .before .before .before .
 sub-if4 : tie.Need-sub-if4
 sub-if4 c = search needs
 
-unseen-requires : tie.Need-unseen-requires
-unseen-requires c κs = search needs
-
 returns : tie.Need-returns
-returns c = rw (c .unseen .ensures) refl
+returns c = refl
 
 add-put-again : tie.Need-add-put-again
 add-put-again c = search needs
@@ -98,11 +95,11 @@ returns-2 c =
           (c .before .if3 .came);
     }
 
-unseen-requires-2 : tie.Need-unseen-requires-2
-unseen-requires-2 c κs = search needs
-
 returns-3 : tie.Need-returns-3
-returns-3 c = rw (c .unseen2 .ensures) refl
+returns-3 c = refl
+
+returns-4 : tie.Need-returns-4
+returns-4 c = refl
 
 pub seen-step-spec : {M : Type 1} → statement M
 seen-step-spec =
@@ -117,7 +114,6 @@ seen-step-spec =
     shared-slice-read-made
     add-made-2
     sub-if4
-    unseen-requires
     returns
     add-put-again
     mul-put-again
@@ -130,5 +126,5 @@ seen-step-spec =
     add-t35
     same-length
     returns-2
-    unseen-requires-2
-    returns-3)
+    returns-3
+    returns-4)
