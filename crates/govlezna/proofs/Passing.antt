@@ -4,7 +4,7 @@ use mathlib.Core.List.{List}
 use Prim.Native.Nat.{ℕ, _≤_}
 use native.Mathlib.Omega.{arith}
 use lib.ListN.{length}
-use Rattle.text.specs.Call.{andThen, lengthCheck, utf8Check}
+use Rattle.text.specs.Call.{andThen, longestText, lengthCheck, utf8Check}
 use Rattle.text.specs.declared.Answer.{Answer}
 use Rattle.text.specs.declared.Answer.the-variants.{Done, Refused}
 use Rattle.text.proofs.Call.{checked-length}
@@ -31,7 +31,7 @@ module _ (text list pool : List ℕ) (others : Answer) {r : Answer} {first secon
   front : Passes (andThen (lengthCheck text) others)
   front = both (andThen (lengthCheck text) others) (tableCheck list pool) (let q : andThen (andThen (lengthCheck text) others) (tableCheck list pool) ≡ Done first second = cc in q) .0
 
-  pub passed-length : length text ≤ 16777216
+  pub passed-length : length text ≤ longestText
   passed-length = checked-length text others (front .is)
 
   passed-others : Passes others
