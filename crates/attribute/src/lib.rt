@@ -285,7 +285,7 @@ fn normalize_attr_step(
     }
 }
 
-// The walk over a text, outer or replacement: runs between stops are copied, each stop is handed to the single step.
+// The walk over a replacement text: runs between stops are copied, each stop is handed to the single step.
 fn normalize_attr_steps(
     text: &[u8],
     newer: bool,
