@@ -31,8 +31,9 @@ module _ (pool : List ℕ) (start : ℕ) (name : List ℕ) where
   pub agree-none : Agree pool start name 0
   agree-none = record { fits = zero-le; agree = below-none (λ k. getD pool (start + k) 0 ≡ getD name k 0) }
 
-  pub agree-more : (i : ℕ) → Agree pool start name i → i < length name → getD pool (start + i) 0 ≡ getD name i 0 → Agree pool start name (i + 1)
-  agree-more i a h e = record { fits = omega arith; agree = below-more (λ k. getD pool (start + k) 0 ≡ getD name k 0) i (a .agree) e }
+  -- one more; how many these are is asked by itself, so that a wrong number is refused as one
+  pub agree-more : (i : ℕ) {j : ℕ} → Agree pool start name i → i < length name → getD pool (start + i) 0 ≡ getD name i 0 → j ≡ i + 1 → Agree pool start name j
+  agree-more i a h e is = rw is (record { fits = omega arith; agree = below-more (λ k. getD pool (start + k) 0 ≡ getD name k 0) i (a .agree) e })
 
   -- eight more, by one word
   pub agree-word : (i : ℕ) → Agree pool start name i → i + 8 ≤ length name → ((k : ℕ) → getD pool k 0 < 0x100) → ((k : ℕ) → getD name k 0 < 0x100)
@@ -48,10 +49,11 @@ module _ (pool : List ℕ) (start : ℕ) (name : List ℕ) where
           rw (p1, p2) at (word-bytes pool name (start + i) i ps ns e (k - i) (omega arith))
 
   module _ (n : ℕ) where
-    pub same-all : start + n ≤ length pool → n ≡ length name → Agree pool start name n → sameBytes (part pool start n) name ≡ true
-    same-all h l a =
+    pub same-all : {i : ℕ} → start + n ≤ length pool → n ≡ length name → Agree pool start name i → n ≤ i → sameBytes (part pool start n) name ≡ true
+    same-all {i} h l a to =
         let s = part-length pool start n h in
-        let q : part pool start n ≡ name = ext-getD 0 (part pool start n) name (s ∙ l) (λ i k. part-at pool start n i (rw s at k) ∙ a .agree i (rw s at k)) in
+        let at-byte : (k : ℕ) → k < n → getD (part pool start n) k 0 ≡ getD name k 0 = λ k q. part-at pool start n k q ∙ a .agree k (omega arith) in
+        let q : part pool start n ≡ name = ext-getD 0 (part pool start n) name (s ∙ l) (λ k m. at-byte k (rw s at m)) in
         rw q (equal-same name)
 
     differ : (part pool start n ≡ name → ⊥) → sameBytes (part pool start n) name ≡ false

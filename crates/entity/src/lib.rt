@@ -287,7 +287,8 @@ fn same_words(pool: &[u8], start: usize, name: &[u8]) -> usize
     i
 }
 
-// The text of the first command whose name is `name`, else one of the five, else nothing.
+// The text of the first command whose name is `name`, else one of the five, else nothing. A command's starts and lengths are decoded
+// once, before the bytes of its name are compared.
 pub fn resolve_entity(list: &[u8], pool: &[u8], name: &[u8]) -> Binding
     requires { ⌜ ValidTable (now list) (now pool) ⌝ }
     ensures { λ r. ⌜ boundTo (now (pool .entry)) r ≡ binding (now (list .entry)) (now (pool .entry)) (now (name .entry)) ⌝ }
@@ -308,10 +309,11 @@ pub fn resolve_entity(list: &[u8], pool: &[u8], name: &[u8]) -> Binding
             at += 12;
             continue 'commands;
         }
+        let text = text_at(list, at);
         let mut i = same_words(pool, start, name);
         'bytes: loop {
             if i == length {
-                break 'commands text_at(list, at);
+                break 'commands text;
             }
             if pool[start + i] != name[i] {
                 break 'bytes;
@@ -322,35 +324,34 @@ pub fn resolve_entity(list: &[u8], pool: &[u8], name: &[u8]) -> Binding
     }
 }
 
-// Are these bytes of the pool the name?
-fn same_name(pool: &[u8], start: usize, name: &[u8]) -> bool
-    requires { ⌜ start + length (now name) ≤ length (now pool) ⌝ }
-    ensures { λ r. ⌜ r ≡ sameBytes (part (now (pool .entry)) start (length (now (name .entry)))) (now (name .entry)) ⌝ }
-{
-    let mut i: usize = 0;
-    while i < name.len() {
-        if pool[start + i] != name[i] {
-            return false;
-        }
-        i += 1;
-    }
-    true
-}
-
-// What `resolve_entity` answers, for a short name: small enough to be compiled into each walk.
+// The same for a short name, whose end is not worth a test of its own: small enough to be compiled into each walk.
 pub fn resolve_short(list: &[u8], pool: &[u8], name: &[u8]) -> Binding
     requires { ⌜ ValidTable (now list) (now pool) ⌝ }
     ensures { λ r. ⌜ boundTo (now (pool .entry)) r ≡ binding (now (list .entry)) (now (pool .entry)) (now (name .entry)) ⌝ }
     ensures { λ r. ⌜ Lies (now (pool .entry)) r ⌝ }
 {
     let mut at: usize = 0;
-    while list[at] == 1 {
-        if wide(list[at + 5]) == name.len() {
-            if same_name(pool, u32_at(list, at + 1), name) {
-                return text_at(list, at);
+    'commands: loop {
+        if list[at] != 1 {
+            break 'commands resolve_xml_entity(name);
+        }
+        let length = wide(list[at + 5]);
+        if length != name.len() {
+            at += 12;
+            continue 'commands;
+        }
+        let from = u32_at(list, at + 1);
+        let bound = text_at(list, at);
+        let mut k: usize = 0;
+        'bytes: loop {
+            if k == length {
+                break 'commands bound;
             }
+            if pool[from + k] != name[k] {
+                break 'bytes;
+            }
+            k += 1;
         }
         at += 12;
     }
-    resolve_xml_entity(name)
 }

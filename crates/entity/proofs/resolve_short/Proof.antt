@@ -1,93 +1,202 @@
-use mathlib.Core.Path.{refl, sym, _∙_}
-use mathlib.Core.Logic.{⊎-elim}
+-- `resolve_short`: as `resolve_entity`, with the bytes of a name compared from the first one on.
+use mathlib.Core.Path.{refl, _∙_}
 use native.Mathlib.Omega.{arith}
-use lib.ListN.{length}
-use Prim.Native.Nat.{_+_, _-_}
 use borrow.Author.Needs.{needs}
+use lib.ListN.{length}
+use Prim.Native.Nat.{_+_, _-_, _≤_}
 use Rattle.entity.specs.Table.{littleEndian}
-use Rattle.entity.proofs.Lookup.{Here, begin, in-list, over, command, on, hit, differ-length}
+use Rattle.entity.specs.Steps.{Agree}
+use Rattle.entity.proofs.Lookup.{Here, begin, in-list, over, Command, command, on, hit, agree-none, agree-more, same-all, differ-length, differ-at}
 use Rattle.entity.proofs.resolve_short.Statement.{statement}
 use Rattle.entity.proofs.resolve_short.Tie as tie
 
-abbrev Inv-loop : tie.InvT-loop
-Inv-loop list pool name at₀ at = Here list pool name at
+abbrev Inv-bytes : tie.InvT-bytes
+Inv-bytes list pool name at n from bound k₀ k = Agree pool from name k
 
-abbrev μ-loop : tie.MeasureT-loop
-μ-loop list pool name at₀ at = length list - at
+abbrev μ-bytes : tie.MeasureT-bytes
+μ-bytes list pool name at n from bound k₀ k = length name - k
 
-loop-holds : tie.Need-loop-holds Inv-loop μ-loop
-loop-holds c = begin (c .before .before .before .args .list .now) (c .before .before .before .args .pool .now) (c .before .before .before .args .name .now) (c .before .before .before .pre)
+abbrev Inv-commands : tie.InvT-commands
+Inv-commands list pool name at₀ at = Here list pool name at
 
-shared-slice-read-if1 : tie.Need-shared-slice-read-if1 Inv-loop μ-loop
-shared-slice-read-if1 c = in-list (c .before .loop .inv)
+abbrev μ-commands : tie.MeasureT-commands
+μ-commands list pool name at₀ at = length list - at
 
-add-wide : tie.Need-add-wide Inv-loop μ-loop
-add-wide c = let k = command (c .before .before .loop .inv) (c .if1 .taken) in omega arith
+-- places: a command 1, one whose name is as long, and a byte that is compared
+abbrev One : Type 0
+One = tie.Else1 Inv-bytes μ-bytes Inv-commands μ-commands
 
-shared-slice-read-wide : tie.Need-shared-slice-read-wide Inv-loop μ-loop
-shared-slice-read-wide c = let k = command (c .before .before .before .loop .inv) (c .before .if1 .taken) in omega arith
+abbrev Long : Type 0
+Long = tie.Else2 Inv-bytes μ-bytes Inv-commands μ-commands
 
-wide-requires : tie.Need-wide-requires Inv-loop μ-loop
-wide-requires c κs = search needs
+abbrev Byte : Type 0
+Byte = tie.Else3 Inv-bytes μ-bytes Inv-commands μ-commands
 
-add-u32-at : tie.Need-add-u32-at Inv-loop μ-loop
-add-u32-at c = let k = command (c .before .before .before .before .before .loop .inv) (c .before .before .before .if1 .taken) in omega arith
+abbrev entry : One → tie.Start Inv-bytes μ-bytes Inv-commands μ-commands
+entry c = c .before .before .before .before .before .before
 
-u32-at-requires : tie.Need-u32-at-requires Inv-loop μ-loop
-u32-at-requires c κs = let k = command (c .before .before .before .before .before .loop .inv) (c .before .before .before .if1 .taken) in omega arith
+abbrev turn : One → tie.At-commands Inv-bytes μ-bytes Inv-commands μ-commands
+turn c = c .before .before
 
-same-name-requires : tie.Need-same-name-requires Inv-loop μ-loop
-same-name-requires c κs = let k = command (c .before .before .before .before .before .before .loop .inv) (c .before .before .before .before .if1 .taken) in omega arith
+abbrev one : Long → One
+one c = c .before .before .before
 
-text-at-requires : tie.Need-text-at-requires Inv-loop μ-loop
-text-at-requires c κs = let k = command (c .before .before .before .before .before .before .before .before .loop .inv) (c .before .before .before .before .before .before .if1 .taken) in omega arith
+abbrev long : Byte → Long
+long c = c .before .before .before .before
 
-returns : tie.Need-returns Inv-loop μ-loop
-returns c =
-    hit (c .before .before .before .before .before .before .before .before .before .loop .inv) (c .before .before .before .before .before .before .before .if1 .taken) (c .before .before .before .u32-at .ensures .0) (sym (c .before .before .before .before .if2 .taken) ∙ c .before .before .before .before .before .wide .ensures .0)
-    (sym (c .before .before .same-name .ensures) ∙ c .before .if3 .taken) (c .text-at .result) (c .text-at .ensures)
+abbrev byte : tie.Else4 Inv-bytes μ-bytes Inv-commands μ-commands → Byte
+byte c = c .before .before .before
 
-add-at : tie.Need-add-at Inv-loop μ-loop
-add-at c = let k = command (c .before .before .before .before .before .loop .inv) (c .before .before .before .if1 .taken) in omega arith
+-- the command's operands are in the list, name and text in the pool
+known : (c : One) → Command (entry c .args .list .now) (entry c .args .pool .now) (turn c .commands .at)
+known c = command (turn c .commands .inv) (c .if1 .left)
 
-loop-less : tie.Need-loop-less Inv-loop μ-loop
-loop-less c = let k = command (c .before .before .before .before .before .loop .inv) (c .before .before .before .if1 .taken) in omega arith
+-- the name's bytes are in the pool
+inside : (c : tie.After-u32-at Inv-bytes μ-bytes Inv-commands μ-commands)
+    → c .u32-at .result + length (entry (one (c .before)) .args .name .now) ≤ length (entry (one (c .before)) .args .pool .now)
+inside c = let k = known (one (c .before)) in omega arith
 
-loop-again : tie.Need-loop-again Inv-loop μ-loop
-loop-again c =
-    let k = command (c .before .before .before .before .before .loop .inv) (c .before .before .before .if1 .taken) in
-    ⊎-elim
-    (λ w. on (c .before .before .before .before .before .loop .inv) (c .before .before .before .if1 .taken) (w .1 .ensures .0) (sym (w .0 .taken) ∙ c .before .wide .ensures .0) (sym (w .2 .ensures) ∙ w .3 .left))
-    (λ w.
-    on (c .before .before .before .before .before .loop .inv) (c .before .before .before .if1 .taken) refl (c .before .wide .ensures .0)
-    (differ-length (c .before .before .before .before .before .before .before .before .before .args .pool .now) (littleEndian (c .before .before .before .before .before .before .before .before .before .args .list .now) (c .before .before .before .before .before .loop .at + 1) 4) (c .before .before .before .before .before .before .before .before .before .args .name .now) (c .before .wide .result) (omega arith) (w .left)))
-    (c .if2 .came)
+commands-holds : tie.Need-commands-holds Inv-bytes μ-bytes Inv-commands μ-commands
+commands-holds c =
+    let asked = c .before .before .before in
+    begin (asked .args .list .now) (asked .args .pool .now) (asked .args .name .now) (asked .pre)
 
-resolve-xml-entity-requires : tie.Need-resolve-xml-entity-requires Inv-loop μ-loop
+shared-slice-read-if1 : tie.Need-shared-slice-read-if1 Inv-bytes μ-bytes Inv-commands μ-commands
+shared-slice-read-if1 c = in-list (c .before .commands .inv)
+
+resolve-xml-entity-requires :
+    tie.Need-resolve-xml-entity-requires Inv-bytes μ-bytes Inv-commands μ-commands
 resolve-xml-entity-requires c κs = search needs
 
-returns-2 : tie.Need-returns-2 Inv-loop μ-loop
+add-wide : tie.Need-add-wide Inv-bytes μ-bytes Inv-commands μ-commands
+add-wide c = let k = known c in omega arith
+
+shared-slice-read-wide : tie.Need-shared-slice-read-wide Inv-bytes μ-bytes Inv-commands μ-commands
+shared-slice-read-wide c = let k = known (c .before) in omega arith
+
+wide-requires : tie.Need-wide-requires Inv-bytes μ-bytes Inv-commands μ-commands
+wide-requires c κs = search needs
+
+-- a name of another length
+add-at : tie.Need-add-at Inv-bytes μ-bytes Inv-commands μ-commands
+add-at c = let k = known (c .before .before .before) in omega arith
+
+commands-less : tie.Need-commands-less Inv-bytes μ-bytes Inv-commands μ-commands
+commands-less c = let k = known (c .before .before .before) in omega arith
+
+commands-again : tie.Need-commands-again Inv-bytes μ-bytes Inv-commands μ-commands
+commands-again c =
+    let o = c .before .before .before in
+    let k = known o in
+    let asked = entry o .args in
+    let start = littleEndian (asked .list .now) (turn o .commands .at + 1) 4 in
+    on (turn o .commands .inv) (o .if1 .left) refl (c .before .wide .ensures .0)
+    (differ-length (asked .pool .now) start (asked .name .now) (c .before .wide .result) (omega arith) (c .if2 .taken))
+
+add-u32-at : tie.Need-add-u32-at Inv-bytes μ-bytes Inv-commands μ-commands
+add-u32-at c = let k = known (one c) in omega arith
+
+u32-at-requires : tie.Need-u32-at-requires Inv-bytes μ-bytes Inv-commands μ-commands
+u32-at-requires c κs = let k = known (one c) in omega arith
+
+text-at-requires : tie.Need-text-at-requires Inv-bytes μ-bytes Inv-commands μ-commands
+text-at-requires c κs = let k = known (one (c .before)) in omega arith
+
+bytes-holds : tie.Need-bytes-holds Inv-bytes μ-bytes Inv-commands μ-commands
+bytes-holds c =
+    let asked = entry (one (c .before .before)) .args in
+    agree-none (asked .pool .now) (c .before .u32-at .result) (asked .name .now)
+
+add-if4 : tie.Need-add-if4 Inv-bytes μ-bytes Inv-commands μ-commands
+add-if4 c = omega (arith, inside (c .before .before .before), c .before .bytes .inv .fits)
+
+shared-slice-read-if4 : tie.Need-shared-slice-read-if4 Inv-bytes μ-bytes Inv-commands μ-commands
+shared-slice-read-if4 c = omega (arith, inside (c .before .before .before .before), c .before .before .bytes .inv .fits)
+
+shared-slice-read-if4-2 :
+    tie.Need-shared-slice-read-if4-2 Inv-bytes μ-bytes Inv-commands μ-commands
+shared-slice-read-if4-2 c = omega (arith, c .before .before .before .bytes .inv .fits)
+
+add-k : tie.Need-add-k Inv-bytes μ-bytes Inv-commands μ-commands
+add-k c = omega (arith, byte c .before .bytes .inv .fits)
+
+bytes-less : tie.Need-bytes-less Inv-bytes μ-bytes Inv-commands μ-commands
+bytes-less c = omega (arith, byte c .before .bytes .inv .fits)
+
+bytes-again : tie.Need-bytes-again Inv-bytes μ-bytes Inv-commands μ-commands
+bytes-again c =
+    let b = byte c in
+    let asked = entry (one (long b)) .args in
+    let l = b .before .bytes in
+    agree-more (asked .pool .now) (b .before .before .before .u32-at .result) (asked .name .now) (l .k) (l .inv) (omega (arith, l .inv .fits)) (c .if4 .left) (omega arith)
+
+-- a byte that differs
+add-at-2 : tie.Need-add-at-2 Inv-bytes μ-bytes Inv-commands μ-commands
+add-at-2 c = let k = known (one (long (c .before .before .before))) in omega arith
+
+commands-less-2 : tie.Need-commands-less-2 Inv-bytes μ-bytes Inv-commands μ-commands
+commands-less-2 c = let k = known (one (long (c .before .before .before))) in omega arith
+
+commands-again-2 : tie.Need-commands-again-2 Inv-bytes μ-bytes Inv-commands μ-commands
+commands-again-2 c =
+    let b = c .before .before .before in
+    let o = one (long b) in
+    let asked = entry o .args in
+    let start = b .before .before .before .u32-at in
+    let size = long b .before .wide in
+    on (turn o .commands .inv) (o .if1 .left) (start .ensures .0) (size .ensures .0)
+    (differ-at (asked .pool .now) (start .result) (asked .name .now) (size .result) (b .before .bytes .k) (omega (arith, b .before .bytes .inv .fits)) (c .if4 .taken))
+
+-- no command has the name
+returns : tie.Need-returns Inv-bytes μ-bytes Inv-commands μ-commands
+returns c =
+    let at = c .before .before .before in
+    let pool = at .before .before .before .before .args .pool .now in
+    (c .resolve-xml-entity .ensures .0 pool ∙ over (at .commands .inv) (c .before .if1 .taken), c .resolve-xml-entity .ensures .1 pool)
+
+-- this command has it
+returns-2 : tie.Need-returns-2 Inv-bytes μ-bytes Inv-commands μ-commands
 returns-2 c =
-    (c .resolve-xml-entity .ensures .0 (c .before .before .before .before .before .before .before .args .pool .now) ∙ over (c .before .before .before .loop .inv) (c .before .if1 .left), c .resolve-xml-entity .ensures .1 (c .before .before .before .before .before .before .before .args .pool .now))
+    let found = c .before .before in
+    let l = found .before .before in
+    let o = one l in
+    let asked = entry o .args in
+    let start = found .before .u32-at in
+    let size = l .before .wide in
+    let k = known o in
+    hit (turn o .commands .inv) (o .if1 .left) (start .ensures .0) (size .ensures .0)
+    (same-all (asked .pool .now) (start .result) (asked .name .now) (size .result) (omega arith) (l .if2 .left) (c .before .bytes .inv) (omega arith))
+    (found .text-at .result) (found .text-at .ensures)
 
 pub resolve-short-spec : {M : Type 1} → statement M
 resolve-short-spec =
     tie.close
     (tie.spec
-    Inv-loop
-    μ-loop
-    loop-holds
+    Inv-bytes
+    μ-bytes
+    Inv-commands
+    μ-commands
+    commands-holds
     shared-slice-read-if1
+    resolve-xml-entity-requires
     add-wide
     shared-slice-read-wide
     wide-requires
+    add-at
+    commands-less
+    commands-again
     add-u32-at
     u32-at-requires
-    same-name-requires
     text-at-requires
+    bytes-holds
+    add-if4
+    shared-slice-read-if4
+    shared-slice-read-if4-2
+    add-k
+    bytes-less
+    bytes-again
+    add-at-2
+    commands-less-2
+    commands-again-2
     returns
-    add-at
-    loop-less
-    loop-again
-    resolve-xml-entity-requires
     returns-2)
