@@ -1,0 +1,2 @@
+pub mod Smooth
+pub mod Spaces
