@@ -6,3 +6,4 @@ pub mod Blocks
 pub mod Characters
 pub mod Call
 pub mod Words
+pub mod Printable

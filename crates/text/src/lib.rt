@@ -3,6 +3,7 @@ ghost use mathlib.Core.Path.{_≡_};
 ghost use Rattle.text.specs.Call.{lengthCheck, versionCheck, utf8Check, textCheck, argumentCheck};
 
 pub mod refusals;
+pub mod simple;
 pub mod validate;
 
 // The longest text that a call takes, in bytes.
