@@ -1,5 +1,6 @@
 -- Where a run ends: a test of bytes over a part of a text (`any-none`, `plain-any`, `first-stop`), runs without halts (`suspects-smooth`,
--- `smooth-join`), and the halt at their end (`older-at`, `halt-join`). Assumes nothing.
+-- `smooth-join`), and the halt at their end (`older-at`, `halt-join`). A text that stands for itself has no stop (`simple-plain`).
+-- Assumes nothing.
 use mathlib.Core.Path.{_≡_, refl, sym, ap, _∙_}
 use mathlib.Core.Bool.{Bool, true, false, not, _&&_, _||_, true≢false}
 use mathlib.Core.List.{List, [], _∷_, _++_}
@@ -13,13 +14,15 @@ use lib.Seq.{length-take-le, take-suc, getD-take, getD-drop}
 use borrow.Author.Count.{below-none, below-more}
 use borrow.Author.Tests.{ne-eqb, leb-true, ltb-true, ltb-false}
 use Rattle.text.specs.Bytes.{pick, within, begins}
+use Rattle.text.specs.Simple.{special, Simple}
 use Rattle.text.specs.Version.{xml11}
 use Rattle.text.proofs.Bytes.{and-left, and-right, and-true, or-left, or-right}
+use Rattle.text.proofs.Printable.{not-control, not-above, not-amp}
 use Rattle.eols.specs.LineEnds.{lineEnd}
 use Rattle.eols.proofs.LineEnds.{at-head}
 use Rattle.output.specs.Runs.{Plain, Ends, eitherByte}
 use Rattle.output.proofs.Runs.{plain-of, plain-none, plain-join, plain-byte, plain-both}
-use Rattle.halts.specs.Halts.{halts, Smooth, HaltAt, suspectByte, anyStop}
+use Rattle.halts.specs.Halts.{halts, Smooth, HaltAt, suspectByte, anyStop, stopByte}
 
 -- ---- a test of bytes over a part of a text
 
@@ -324,3 +327,20 @@ module _ (t : List ℕ) (i : ℕ) where
             let q : i + (m - i) ≡ m = omega arith in
             rw q at (p .clear e (m - i) (omega (arith, p .within)));
       }
+
+-- ---- a text that stands for itself has no stop
+
+no-stop : (newer : Bool) (b : ℕ) → (b ≡ 9 → ⊥) → (b ≡ 10 → ⊥) → (b ≡ 13 → ⊥) → (b ≡ 38 → ⊥) → (b ≡ 0xC2 → ⊥) → (b ≡ 0xE2 → ⊥) → stopByte newer b ≡ false
+no-stop false b tab lf cr amp two three = rw (ne-eqb b 9 tab, ne-eqb b 10 lf, ne-eqb b 13 cr, ne-eqb b 38 amp)
+no-stop true b tab lf cr amp two three =
+    rw (ne-eqb b 9 tab, ne-eqb b 10 lf, ne-eqb b 13 cr, ne-eqb b 38 amp, ne-eqb b 0xC2 two, ne-eqb b 0xE2 three)
+
+simple-stop : (newer : Bool) (b : ℕ) → special b ≡ false → stopByte newer b ≡ false
+simple-stop newer b e =
+    let low : 32 ≤ b = not-control {b = b} e in
+    let high : b ≤ 126 = not-above {b = b} e in
+    no-stop newer b (λ q. omega (arith, q, low)) (λ q. omega (arith, q, low)) (λ q. omega (arith, q, low)) (not-amp {b = b} e)
+    (λ q. omega (arith, q, high)) (λ q. omega (arith, q, high))
+
+pub simple-plain : (newer : Bool) (t : List ℕ) → Simple t → Plain (stopByte newer) t 0 (length t)
+simple-plain newer t s = record { from = zero-le; to = le-refl (length t); none = λ k g l. simple-stop newer (getD t k 0) (s .each k g l) }
