@@ -4,5 +4,6 @@ pub mod Parts
 pub mod Words
 pub mod Lookup
 pub mod Predefined
+pub mod Referents
 pub mod Tables
 mod Examples

@@ -4,17 +4,29 @@ ghost use Prim.Native.Nat.{ℕ, _+_, _<_, _≤_};
 ghost use mathlib.Core.Bool.{true, false, _||_, not};
 ghost use mathlib.Core.List.{List, [], _∷_};
 ghost use lib.Dec.{eqb};
-ghost use lib.ListN.{length, drop};
+ghost use lib.ListN.{length, getD, drop};
 ghost use Rattle.text.specs.Bytes.{sameBytes};
 ghost use Rattle.text.specs.Utf8.{wellFormed};
 ghost use Rattle.text.specs.Call.{passed};
 ghost use Rattle.text.specs.Blocks.{Ascii};
 ghost use Rattle.entity.specs.Table.{littleEndian, part, inside, declarationCheck, tableCheck, ValidTable};
 ghost use Rattle.entity.specs.Binding.{predefinedOf, binding, boundTo, Lies};
+ghost use Rattle.entity.specs.Commands.{commandName, Refers};
 ghost use Rattle.entity.specs.Steps.{commandCheck, lastCheck, TextAt, Agree};
 use text::Answer;
 use text::refusals;
 use text::validate;
+
+// What a name refers to: a command of the table with its text's start and end in the pool, a predefined byte, or nothing.
+pub enum Referent {
+    Text {
+        command: usize,
+        start: usize,
+        end: usize,
+    },
+    Predefined(u8),
+    Unknown,
+}
 
 // What a name is bound to: a text of the table as start and end in the pool, a predefined byte, or nothing.
 pub enum Binding {
@@ -287,17 +299,62 @@ fn same_words(pool: &[u8], start: usize, name: &[u8]) -> usize
     i
 }
 
-// The text of the first command whose name is `name`, else one of the five, else nothing. A command's starts and lengths are decoded
-// once, before the bytes of its name are compared.
-pub fn resolve_entity(list: &[u8], pool: &[u8], name: &[u8]) -> Binding
+// What a name refers to that the table does not define.
+fn plain_referent(name: &[u8]) -> Referent
+    ensures { λ r. ⌜ ((list pool : List ℕ) → predefinedOf (now (name .entry)) ≡ binding list pool (now (name .entry)) → Refers list pool (now (name .entry)) r) ⌝ }
+{
+    match resolve_xml_entity(name) {
+        Binding::Predefined(b) => Referent::Predefined(b),
+        Binding::Text { start: _, end: _ } => Referent::Unknown,
+        Binding::Unknown => Referent::Unknown,
+    }
+}
+
+// Where the text of the command 1 at `at` starts, and its length.
+pub fn text_start(list: &[u8], at: usize) -> usize
+    requires { ⌜ at + 12 ≤ length (now list) ⌝ }
+    ensures { λ r. ⌜ (r ≡ littleEndian (now (list .entry)) (at + 6) 4) × (r < 0x100000000) ⌝ }
+{
+    u32_at(list, at + 6)
+}
+
+pub fn text_length(list: &[u8], at: usize) -> usize
+    requires { ⌜ at + 12 ≤ length (now list) ⌝ }
+    ensures { λ r. ⌜ (r ≡ littleEndian (now (list .entry)) (at + 10) 2) × (r < 0x10000) ⌝ }
+{
+    u16_at(list, at + 10)
+}
+
+// Is this the name of the command 1 at `at`?
+pub fn is_named(list: &[u8], pool: &[u8], at: usize, name: &[u8]) -> bool
+    requires { ⌜ at + 12 ≤ length (now list) ⌝ }
+    requires { ⌜ littleEndian (now list) (at + 1) 4 + getD (now list) (at + 5) 0 ≤ length (now pool) ⌝ }
+    ensures { λ r. ⌜ r ≡ sameBytes (commandName (now (list .entry)) (now (pool .entry)) at) (now (name .entry)) ⌝ }
+{
+    if wide(list[at + 5]) != name.len() {
+        return false;
+    }
+    let start = u32_at(list, at + 1);
+    let mut i = same_words(pool, start, name);
+    while i < name.len() {
+        if pool[start + i] != name[i] {
+            return false;
+        }
+        i += 1;
+    }
+    true
+}
+
+// What a name refers to: the first command that has it, else one of the five, else nothing. A command's text is decoded once,
+// outside the loop over the bytes.
+pub fn find_entity(list: &[u8], pool: &[u8], name: &[u8]) -> Referent
     requires { ⌜ ValidTable (now list) (now pool) ⌝ }
-    ensures { λ r. ⌜ boundTo (now (pool .entry)) r ≡ binding (now (list .entry)) (now (pool .entry)) (now (name .entry)) ⌝ }
-    ensures { λ r. ⌜ Lies (now (pool .entry)) r ⌝ }
+    ensures { λ r. ⌜ Refers (now (list .entry)) (now (pool .entry)) (now (name .entry)) r ⌝ }
 {
     let mut at: usize = 0;
     'commands: loop {
         if list[at] != 1 {
-            break 'commands resolve_xml_entity(name);
+            break 'commands plain_referent(name);
         }
         let length = wide(list[at + 5]);
         if length != name.len() {
@@ -309,11 +366,16 @@ pub fn resolve_entity(list: &[u8], pool: &[u8], name: &[u8]) -> Binding
             at += 12;
             continue 'commands;
         }
-        let text = text_at(list, at);
+        let text = text_start(list, at);
+        let end = text + text_length(list, at);
         let mut i = same_words(pool, start, name);
         'bytes: loop {
             if i == length {
-                break 'commands text;
+                break 'commands Referent::Text {
+                    command: at,
+                    start: text,
+                    end,
+                };
             }
             if pool[start + i] != name[i] {
                 break 'bytes;
@@ -321,6 +383,23 @@ pub fn resolve_entity(list: &[u8], pool: &[u8], name: &[u8]) -> Binding
             i += 1;
         }
         at += 12;
+    }
+}
+
+// The text of the first command whose name is `name`, else one of the five, else nothing.
+pub fn resolve_entity(list: &[u8], pool: &[u8], name: &[u8]) -> Binding
+    requires { ⌜ ValidTable (now list) (now pool) ⌝ }
+    ensures { λ r. ⌜ boundTo (now (pool .entry)) r ≡ binding (now (list .entry)) (now (pool .entry)) (now (name .entry)) ⌝ }
+    ensures { λ r. ⌜ Lies (now (pool .entry)) r ⌝ }
+{
+    match find_entity(list, pool, name) {
+        Referent::Text {
+            command: _,
+            start,
+            end,
+        } => Binding::Text { start, end },
+        Referent::Predefined(b) => Binding::Predefined(b),
+        Referent::Unknown => Binding::Unknown,
     }
 }
 

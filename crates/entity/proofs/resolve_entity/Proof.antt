@@ -1,233 +1,49 @@
--- `resolve_entity`: the answer from the command that it stands at is the answer (`Here`), and of a command whose name has the length and
--- the end that are asked for, the first i bytes agree (`Agree`); where that is all of them, it is the command (`hit`).
-use mathlib.Core.Path.{refl, sym, _∙_}
-use native.Mathlib.Omega.{arith}
+use mathlib.Core.Path.{sym, subst, _∙_}
+use Rattle.entity.specs.Commands.{Refers}
+use Rattle.entity.proofs.Referents.{refers-resolved}
 use borrow.Author.Needs.{needs}
-use lib.ListN.{length}
-use Prim.Native.Nat.{_+_, _-_, _≤_}
-use Rattle.entity.specs.Table.{littleEndian}
-use Rattle.entity.specs.Steps.{Agree}
-use Rattle.entity.proofs.Lookup.{Here, begin, in-list, over, Command, command, on, hit, agree-more, same-all, differ-length, differ-at}
 use Rattle.entity.proofs.resolve_entity.Statement.{statement}
 use Rattle.entity.proofs.resolve_entity.Tie as tie
+use Rattle.entity.proofs.resolve_entity.Reads as reads
+use Rattle.entity.proofs.resolve_entity.Lts as lts
+use Rattle.entity.proofs.find_entity.Reads as find-entity-reads
 
-abbrev Inv-bytes : tie.InvT-bytes
-Inv-bytes list pool name at n start text i₀ i = Agree pool start name i
+-- src/lib.rt:387:11
+find-entity-requires : tie.Need-find-entity-requires
+find-entity-requires c κs = search needs
 
-abbrev μ-bytes : tie.MeasureT-bytes
-μ-bytes list pool name at n start text i₀ i = length name - i
+-- src/lib.rt:390:13
+enum-known-start : tie.Need-enum-known-start
+enum-known-start c = search needs
 
-abbrev Inv-commands : tie.InvT-commands
-Inv-commands list pool name at₀ at = Here list pool name at
+-- src/lib.rt:393:30
+enum-known-b : tie.Need-enum-known-b
+enum-known-b c = search needs
 
-abbrev μ-commands : tie.MeasureT-commands
-μ-commands list pool name at₀ at = length list - at
+-- src/lib.rt:394:30
+enum-told : tie.Need-enum-told
+enum-told c = search needs
 
--- places: a command 1, one whose name is as long, one whose name ends alike, and a byte that is compared
-abbrev One : Type 0
-One = tie.Else1 Inv-bytes μ-bytes Inv-commands μ-commands
+-- src/lib.rt:382:1
+returns : tie.Need-returns
+returns c = refers-resolved (c .before .before .before .before .before .before .before .args .list .now) (c .before .before .before .before .before .before .before .args .pool .now) (c .before .before .before .before .before .before .before .args .name .now) (c .before .before .before .find-entity .result) (c .before .before .before .find-entity .ensures) (c .before .start .given .1)
 
-abbrev Long : Type 0
-Long = tie.Else2 Inv-bytes μ-bytes Inv-commands μ-commands
+-- src/lib.rt:382:1
+returns-2 : tie.Need-returns-2
+returns-2 c = refers-resolved (c .before .before .before .before .before .before .before .args .list .now) (c .before .before .before .before .before .before .before .args .pool .now) (c .before .before .before .before .before .before .before .args .name .now) (c .before .before .before .find-entity .result) (c .before .before .before .find-entity .ensures) (c .before .b .given .1)
 
-abbrev Alike : Type 0
-Alike = tie.Else3 Inv-bytes μ-bytes Inv-commands μ-commands
-
-abbrev Byte : Type 0
-Byte = tie.Else4 Inv-bytes μ-bytes Inv-commands μ-commands
-
-abbrev entry : One → tie.Start Inv-bytes μ-bytes Inv-commands μ-commands
-entry c = c .before .before .before .before .before .before
-
-abbrev turn : One → tie.At-commands Inv-bytes μ-bytes Inv-commands μ-commands
-turn c = c .before .before
-
-abbrev one : Long → One
-one c = c .before .before .before
-
-abbrev long : Alike → Long
-long c = c .before .before .before
-
-abbrev alike : Byte → Alike
-alike c = c .before .before .before .before
-
-abbrev byte : tie.Else5 Inv-bytes μ-bytes Inv-commands μ-commands → Byte
-byte c = c .before .before .before
-
--- the command's operands are in the list, name and text in the pool
-known : (c : One) → Command (entry c .args .list .now) (entry c .args .pool .now) (turn c .commands .at)
-known c = command (turn c .commands .inv) (c .if1 .left)
-
--- the name's bytes are in the pool
-inside : (c : tie.After-u32-at Inv-bytes μ-bytes Inv-commands μ-commands)
-    → c .u32-at .result + length (entry (one (c .before)) .args .name .now) ≤ length (entry (one (c .before)) .args .pool .now)
-inside c = let k = known (one (c .before)) in omega arith
-
-commands-holds : tie.Need-commands-holds Inv-bytes μ-bytes Inv-commands μ-commands
-commands-holds c =
-    let asked = c .before .before .before in
-    begin (asked .args .list .now) (asked .args .pool .now) (asked .args .name .now) (asked .pre)
-
-shared-slice-read-if1 : tie.Need-shared-slice-read-if1 Inv-bytes μ-bytes Inv-commands μ-commands
-shared-slice-read-if1 c = in-list (c .before .commands .inv)
-
-resolve-xml-entity-requires :
-    tie.Need-resolve-xml-entity-requires Inv-bytes μ-bytes Inv-commands μ-commands
-resolve-xml-entity-requires c κs = search needs
-
-add-wide : tie.Need-add-wide Inv-bytes μ-bytes Inv-commands μ-commands
-add-wide c = let k = known c in omega arith
-
-shared-slice-read-wide : tie.Need-shared-slice-read-wide Inv-bytes μ-bytes Inv-commands μ-commands
-shared-slice-read-wide c = let k = known (c .before) in omega arith
-
-wide-requires : tie.Need-wide-requires Inv-bytes μ-bytes Inv-commands μ-commands
-wide-requires c κs = search needs
-
--- a name of another length
-add-at : tie.Need-add-at Inv-bytes μ-bytes Inv-commands μ-commands
-add-at c = let k = known (c .before .before .before) in omega arith
-
-commands-less : tie.Need-commands-less Inv-bytes μ-bytes Inv-commands μ-commands
-commands-less c = let k = known (c .before .before .before) in omega arith
-
-commands-again : tie.Need-commands-again Inv-bytes μ-bytes Inv-commands μ-commands
-commands-again c =
-    let o = c .before .before .before in
-    let k = known o in
-    let asked = entry o .args in
-    let start = littleEndian (asked .list .now) (turn o .commands .at + 1) 4 in
-    on (turn o .commands .inv) (o .if1 .left) refl (c .before .wide .ensures .0)
-    (differ-length (asked .pool .now) start (asked .name .now) (c .before .wide .result) (omega arith) (c .if2 .taken))
-
-add-u32-at : tie.Need-add-u32-at Inv-bytes μ-bytes Inv-commands μ-commands
-add-u32-at c = let k = known (one c) in omega arith
-
-u32-at-requires : tie.Need-u32-at-requires Inv-bytes μ-bytes Inv-commands μ-commands
-u32-at-requires c κs = let k = known (one c) in omega arith
-
-ends-differ-requires : tie.Need-ends-differ-requires Inv-bytes μ-bytes Inv-commands μ-commands
-ends-differ-requires c κs = inside c
-
--- a name that ends in another way
-add-at-2 : tie.Need-add-at-2 Inv-bytes μ-bytes Inv-commands μ-commands
-add-at-2 c = let k = known (one (c .before .before .before)) in omega arith
-
-commands-less-2 : tie.Need-commands-less-2 Inv-bytes μ-bytes Inv-commands μ-commands
-commands-less-2 c = let k = known (one (c .before .before .before)) in omega arith
-
-commands-again-2 : tie.Need-commands-again-2 Inv-bytes μ-bytes Inv-commands μ-commands
-commands-again-2 c =
-    let l = c .before .before .before in
-    let o = one l in
-    on (turn o .commands .inv) (o .if1 .left) (c .before .before .u32-at .ensures .0) (sym (l .if2 .left) ∙ l .before .wide .ensures .0)
-    (c .before .ends-differ .ensures (c .if3 .taken))
-
-text-at-requires : tie.Need-text-at-requires Inv-bytes μ-bytes Inv-commands μ-commands
-text-at-requires c κs = let k = known (one (long c)) in omega arith
-
-same-words-requires : tie.Need-same-words-requires Inv-bytes μ-bytes Inv-commands μ-commands
-same-words-requires c κs = inside (c .before .before .before)
-
-bytes-holds : tie.Need-bytes-holds Inv-bytes μ-bytes Inv-commands μ-commands
-bytes-holds c = c .same-words .ensures
-
-add-if5 : tie.Need-add-if5 Inv-bytes μ-bytes Inv-commands μ-commands
-add-if5 c = omega (arith, inside (alike c .before .before), c .before .bytes .inv .fits)
-
-shared-slice-read-if5 : tie.Need-shared-slice-read-if5 Inv-bytes μ-bytes Inv-commands μ-commands
-shared-slice-read-if5 c = omega (arith, inside (alike (c .before) .before .before), c .before .before .bytes .inv .fits)
-
-shared-slice-read-if5-2 :
-    tie.Need-shared-slice-read-if5-2 Inv-bytes μ-bytes Inv-commands μ-commands
-shared-slice-read-if5-2 c = omega (arith, c .before .before .before .bytes .inv .fits)
-
-add-i : tie.Need-add-i Inv-bytes μ-bytes Inv-commands μ-commands
-add-i c = omega (arith, byte c .before .bytes .inv .fits)
-
-bytes-less : tie.Need-bytes-less Inv-bytes μ-bytes Inv-commands μ-commands
-bytes-less c = omega (arith, byte c .before .bytes .inv .fits)
-
-bytes-again : tie.Need-bytes-again Inv-bytes μ-bytes Inv-commands μ-commands
-bytes-again c =
-    let b = byte c in
-    let asked = entry (one (long (alike b))) .args in
-    let l = b .before .bytes in
-    agree-more (asked .pool .now) (alike b .before .before .u32-at .result) (asked .name .now) (l .i) (l .inv) (omega (arith, l .inv .fits)) (c .if5 .left) (omega arith)
-
--- a byte that differs
-add-at-3 : tie.Need-add-at-3 Inv-bytes μ-bytes Inv-commands μ-commands
-add-at-3 c = let k = known (one (long (alike (c .before .before .before)))) in omega arith
-
-commands-less-3 : tie.Need-commands-less-3 Inv-bytes μ-bytes Inv-commands μ-commands
-commands-less-3 c = let k = known (one (long (alike (c .before .before .before)))) in omega arith
-
-commands-again-3 : tie.Need-commands-again-3 Inv-bytes μ-bytes Inv-commands μ-commands
-commands-again-3 c =
-    let b = c .before .before .before in
-    let l = long (alike b) in
-    let o = one l in
-    let asked = entry o .args in
-    let start = alike b .before .before .u32-at in
-    let size = l .before .wide in
-    on (turn o .commands .inv) (o .if1 .left) (start .ensures .0) (size .ensures .0)
-    (differ-at (asked .pool .now) (start .result) (asked .name .now) (size .result) (b .before .bytes .i) (omega (arith, b .before .bytes .inv .fits)) (c .if5 .taken))
-
--- no command has the name
-returns : tie.Need-returns Inv-bytes μ-bytes Inv-commands μ-commands
-returns c =
-    let at = c .before .before .before in
-    let pool = at .before .before .before .before .args .pool .now in
-    (c .resolve-xml-entity .ensures .0 pool ∙ over (at .commands .inv) (c .before .if1 .taken), c .resolve-xml-entity .ensures .1 pool)
-
--- this command has it
-returns-2 : tie.Need-returns-2 Inv-bytes μ-bytes Inv-commands μ-commands
-returns-2 c =
-    let a = c .before .before .before .before in
-    let l = long a in
-    let o = one l in
-    let asked = entry o .args in
-    let start = a .before .before .u32-at in
-    let size = l .before .wide in
-    let k = known o in
-    hit (turn o .commands .inv) (o .if1 .left) (start .ensures .0) (size .ensures .0)
-    (same-all (asked .pool .now) (start .result) (asked .name .now) (size .result) (omega arith) (l .if2 .left) (c .before .bytes .inv) (omega arith))
-    (c .before .before .before .text-at .result) (c .before .before .before .text-at .ensures)
+-- src/lib.rt:382:1
+returns-3 : tie.Need-returns-3
+returns-3 c = refers-resolved (c .before .before .before .before .before .before .args .list .now) (c .before .before .before .before .before .before .args .pool .now) (c .before .before .before .before .before .before .args .name .now) (c .before .before .find-entity .result) (c .before .before .find-entity .ensures) (c .enum-told .given .1)
 
 pub resolve-entity-spec : {M : Type 1} → statement M
 resolve-entity-spec =
     tie.close
     (tie.spec
-    Inv-bytes
-    μ-bytes
-    Inv-commands
-    μ-commands
-    commands-holds
-    shared-slice-read-if1
-    resolve-xml-entity-requires
-    add-wide
-    shared-slice-read-wide
-    wide-requires
-    add-at
-    commands-less
-    commands-again
-    add-u32-at
-    u32-at-requires
-    ends-differ-requires
-    add-at-2
-    commands-less-2
-    commands-again-2
-    text-at-requires
-    same-words-requires
-    bytes-holds
-    add-if5
-    shared-slice-read-if5
-    shared-slice-read-if5-2
-    add-i
-    bytes-less
-    bytes-again
-    add-at-3
-    commands-less-3
-    commands-again-3
+    find-entity-requires
+    enum-known-start
+    enum-known-b
+    enum-told
     returns
-    returns-2)
+    returns-2
+    returns-3)
