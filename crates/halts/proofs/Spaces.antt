@@ -1,47 +1,51 @@
 -- Copies of runs with blanks as spaces: a byte (`gains-spaced`), the start of a run that is laid (`laying-next`, `laying-all`), and pieces, which
 -- may overlap with what is laid already (`laying-store`, `stored-all`). Assumes nothing.
-use mathlib.Core.Path.{_≡_, refl, sym, ap, _∙_}
+use mathlib.Core.Path.{_≡_, refl, sym, ap, ap₂, _∙_}
 use mathlib.Core.Bool.{Bool, true, false, _||_}
 use mathlib.Core.List.{List, [], _∷_}
 use Prim.Native.Nat.{ℕ, zero, suc, _+_, _≤_, _<_, zero-le, max}
 use native.Mathlib.Omega.{arith}
 use native.Mathlib.Nat.{not-suc-le-zero}
-use lib.Dec.{eqb, ltb}
+use lib.Dec.{eqb, leb, ltb}
 use lib.ListN.{length, take, drop, getD, set, length-set, length-take, List·getD-append}
 use lib.Seq.{take-all, getD-take, set-getD, getD-set-same, getD-set-other}
 use borrow.Author.Count.{below-more}
-use borrow.Author.Tests.{eqb-true, ltb-true, ltb-false}
+use borrow.Author.Tests.{eqb-true, leb-true, ltb-true, ltb-false}
 use Rattle.text.specs.Bytes.{pick}
 use Rattle.text.specs.Call.{laid}
 use Rattle.output.proofs.Laid.{laid-next}
 use Rattle.halts.specs.Halts.{spaced, blanksSpaced, Laying, PieceLaid}
 
--- ---- a byte
+-- ---- a byte, by what is added to it
 
--- what is added makes spaces of TAB and LF
-pub gains-spaced : (b : ℕ) → b + pick (eqb b 9) 23 0 + pick (eqb b 10) 22 0 ≡ spaced b
-gains-spaced b = go (eqb b 9) refl (eqb b 10) refl
-  where
-    go : (t : Bool) → eqb b 9 ≡ t → (l : Bool) → eqb b 10 ≡ l → b + pick t 23 0 + pick l 22 0 ≡ pick (t || l) 32 b
-    go true p true q = absurd (omega (arith, eqb-true b 9 p, eqb-true b 10 q))
-    go true p false q = omega (arith, eqb-true b 9 p)
-    go false p true q = omega (arith, eqb-true b 10 q)
-    go false p false q = omega arith
+module _ (b g h : ℕ) {x y : ℕ} (e : x ≡ pick (eqb b 9) g 0) (f : y ≡ pick (eqb b 10) h 0) where
+  -- TAB and LF become spaces
+  pub gains-spaced : 9 + g ≡ 32 → 10 + h ≡ 32 → b + x + y ≡ spaced b
+  gains-spaced tab lf = ap₂ (λ (m n : ℕ). b + m + n) e f ∙ go (eqb b 9) refl (eqb b 10) refl
+    where
+      go : (t : Bool) → eqb b 9 ≡ t → (l : Bool) → eqb b 10 ≡ l → b + pick t g 0 + pick l h 0 ≡ pick (t || l) 32 b
+      go true p true q = absurd (omega (arith, eqb-true b 9 p, eqb-true b 10 q))
+      go true p false q = omega (arith, eqb-true b 9 p, tab)
+      go false p true q = omega (arith, eqb-true b 10 q, lf)
+      go false p false q = omega arith
 
--- no sum leaves the byte
-pub first-gain : (b : ℕ) → b ≤ 255 → b + pick (eqb b 9) 23 0 ≤ 255
-first-gain b h = go (eqb b 9) refl
-  where
-    go : (t : Bool) → eqb b 9 ≡ t → b + pick t 23 0 ≤ 255
-    go true p = omega (arith, eqb-true b 9 p)
-    go false p = omega (arith, h)
+  -- no sum leaves the byte
+  pub gains-fit : leb g 246 ≡ true → leb h 245 ≡ true → b ≤ 255 → b + x + y ≤ 255
+  gains-fit tab lf fits = omega (arith, e, f, go (eqb b 9) refl (eqb b 10) refl)
+    where
+      go : (t : Bool) → eqb b 9 ≡ t → (l : Bool) → eqb b 10 ≡ l → b + pick t g 0 + pick l h 0 ≤ 255
+      go true p true q = absurd (omega (arith, eqb-true b 9 p, eqb-true b 10 q))
+      go true p false q = omega (arith, eqb-true b 9 p, leb-true g 246 tab)
+      go false p true q = omega (arith, eqb-true b 10 q, leb-true h 245 lf)
+      go false p false q = omega (arith, fits)
 
-pub both-gains : (b : ℕ) → b ≤ 255 → b + pick (eqb b 9) 23 0 + pick (eqb b 10) 22 0 ≤ 255
-both-gains b h = rw (gains-spaced b) (go (eqb b 9 || eqb b 10))
+-- the first sum neither
+pub gain-fits : (b g : ℕ) {x : ℕ} → x ≡ pick (eqb b 9) g 0 → leb g 246 ≡ true → b ≤ 255 → b + x ≤ 255
+gain-fits b g e tab fits = omega (arith, e, go (eqb b 9) refl)
   where
-    go : (t : Bool) → pick t 32 b ≤ 255
-    go true = omega arith
-    go false = h
+    go : (t : Bool) → eqb b 9 ≡ t → b + pick t g 0 ≤ 255
+    go true p = omega (arith, eqb-true b 9 p, leb-true g 246 tab)
+    go false p = omega (arith, fits)
 
 -- ---- a run
 
