@@ -231,7 +231,7 @@ fn seen_at(text: &[u8], at: usize, seen: &[u64]) -> usize
 }
 
 // Writes the `count` bytes at `from` again at `at`.
-fn put_again(from: usize, count: usize, at: usize, out: &mut [u8])
+pub fn put_again(from: usize, count: usize, at: usize, out: &mut [u8])
     requires { ⌜ (from + count ≤ at) × (at + count ≤ length (now out)) ⌝ }
     ensures { λ _. ⌜ (length (now (out .exit)) ≡ length (now (out .entry))) × ((value whole : List ℕ) → now (out .entry) ≡ over value whole → length value ≡ at → now (out .exit) ≡ over (value ++ take count (drop from value)) whole) ⌝ }
 {

@@ -1,0 +1,439 @@
+-- One level of a walk with the memory of all levels: from the level's start (`came-start`) by tokens (`came-token`, `came-stop`), texts that
+-- are had again (`came-taken`) or kept (`came-kept`) and openings (`came-opens`, `opened-next`) to its end (`came-end`, `finishes-end`); the
+-- step over the walk of the text that it opens (`opened-walked`, `opened-plain`); and that no sum overflows (`came-room`, `opens-lent`).
+-- Assumes nothing.
+use mathlib.Core.Path.{_≡_, refl, sym, ap, subst, _∙_}
+use mathlib.Core.Logic.{_≢_}
+use mathlib.Core.Bool.{true, false}
+use mathlib.Core.List.{List, [], _∷_, _++_, append-nil, append-assoc}
+use Prim.Native.Nat.{ℕ, zero, suc, _+_, _-_, _*_, _≤_, _<_, min}
+use native.Mathlib.Omega.{arith}
+use native.Mathlib.Nat.{le-refl}
+use lib.ListN.{length, getD, take, drop, length-append, length-take}
+use borrow.Rule.Slice.PartMut.{midOf, putMid}
+use Rattle.text.specs.Bytes.{sameBytes}
+use Rattle.text.specs.declared.Answer.{Answer}
+use Rattle.text.specs.declared.Answer.the-variants.{Done, Refused}
+use Rattle.entity.specs.Table.{littleEndian, part}
+use Rattle.entity.specs.Binding.{text, predefined, predefinedOf, binding}
+use Rattle.entity.specs.Commands.{commandName, commandText, Defines}
+use Rattle.entity.proofs.Referents.{defines-binding}
+use Rattle.output.specs.Over.{over}
+use Rattle.tokens.specs.Tokens.{named, Token, stop, Heads, tokenOf, tokens}
+use Rattle.tokens.specs.Outcome.{Outcome, done, refused, prepend, followed, run, produced, answerOf}
+use Rattle.tokens.specs.Walking.{headAt, nextAt, outcomeOf, stepOf}
+use Rattle.tokens.specs.declared.Step.{Step}
+use Rattle.tokens.specs.declared.Step.the-variants.{Next, Stopped}
+use Rattle.tokens.proofs.Openings.{openingsOf}
+use Rattle.tokens.proofs.Progress.{run-at, run-over, prepend-none, prepend-prepend, went, halted}
+use Rattle.attribute.specs.Walk.{Settings, walk}
+use Rattle.attribute.specs.Steps.{stopAnswer, stepFrom}
+use Rattle.memory.specs.Slots.{opening, Slot, Stands, slotAt, Memory, Kept, Noted}
+use Rattle.memory.specs.Levels.{Level, innerLevel, left, Fitted, Adds, Came, Whole, Refuses, Opens, Finishes, Opened, Taken, Lent}
+use Rattle.memory.specs.declared.Reading.{Reading}
+use Rattle.memory.specs.declared.Place.{Place}
+use Rattle.memory.proofs.Slots.{opening-one, opening-within, opening-stop, stands-opened, stands-size, again-stop, part-of-level}
+use Rattle.memory.proofs.Keeping.{memory-zeros, memory-more, memory-kept, memory-noted}
+use Rattle.memory.proofs.Fitted.{fitted-start, fitted-level, fitted-full, fitted-again}
+
+-- ---- how long values are
+
+-- what is made of a replacement text has at most its bytes and 65,535 for each opening
+abbrev pub Brief : Settings → Type 0
+Brief s = (depth n : ℕ) (t : List ℕ) → length (produced (walk s (s .inner) depth t n)) + 65535 * n ≤ length t + 65535 * openingsOf (walk s (s .inner) depth t n)
+
+pub text-short : {list pool : List ℕ} {c : ℕ} → Defines list pool c → length (commandText list pool c) ≤ 65535
+unfolding part
+text-short {list} {pool} {c} d =
+    let n = length-take (littleEndian list (c + 10) 2) (drop (littleEndian list (c + 6) 4) pool) in
+    omega (arith, n, d .short)
+
+-- so an opening gives at most 65,535 bytes for each that it makes
+pub opening-brief : (s : Settings) → Brief s → (depth m made : ℕ) (t value : List ℕ) → length t ≤ 65535 → opening s depth t m ≡ done value made
+    → length value + 65535 * m ≤ 65535 * made
+opening-brief s brief depth m made t value h e =
+    let b : length value + 65535 * (m + 1) ≤ length t + 65535 * made =
+    subst (λ (o : Outcome). length (produced o) + 65535 * (m + 1) ≤ length t + 65535 * openingsOf o) e (brief (depth - 1) (m + 1) t) in
+    omega (arith, b, h)
+
+pub stands-brief : (s : Settings) → Brief s → {t v : List ℕ} {x : Slot} → length t ≤ 65535 → Stands s t v x → x .count ≤ 65535 * x .opened
+stands-brief s brief {t} {v} {x} h k =
+    let b = opening-brief s brief (x .depth) 0 (0 + x .opened) t (take (x .count) (drop (x .place) v)) h (k .again (x .depth) 0 (le-refl _) (omega (arith, k .few))) in
+    omega (arith, b, stands-size s t k)
+
+-- ---- the contract of `again`, by the code's cases
+
+-- `writes`, where the buffer is full
+pub taken-full : (place count len base : ℕ) {old : List ℕ} → length old ≤ len
+    → (v value whole : List ℕ) → length v ≡ base → length value ≡ len → place + count ≤ base + len → Fitted value whole old
+    → Fitted (value ++ take count (drop place (v ++ value))) whole old
+taken-full place count len base h v value whole b n inside f = fitted-full f (take count (drop place (v ++ value))) (omega (arith, n, h))
+
+-- where the part is the level's own, and fits
+pub taken-again : (place count len base : ℕ) {old new : List ℕ} → base ≤ place → len + count ≤ length old → length new ≡ length old
+    → ((x w : List ℕ) → old ≡ over x w → length x ≡ len → new ≡ over (x ++ take count (drop (place - base) x)) w)
+    → (v value whole : List ℕ) → length v ≡ base → length value ≡ len → place + count ≤ base + len → Fitted value whole old
+    → Fitted (value ++ take count (drop place (v ++ value))) whole new
+taken-again place count len base {old} {new} h room size says v value whole b n inside f =
+    subst (λ (x : List ℕ). Fitted (value ++ x) whole new) (part-of-level v value base place count b h)
+    (fitted-again f (place - base) count n (omega (arith, h, inside)) room size says)
+
+-- ---- a level
+
+walk-run-any : (s : Settings) (at : Heads) (depth : ℕ) (t : List ℕ) (n : ℕ) → walk s at depth t n ≡ run (stopAnswer s depth) (tokens at 0 0 t) n
+unfolding walk stopAnswer
+walk-run-any s at zero t n = refl
+walk-run-any s at (suc depth) t n = refl
+
+pub walk-left : (l : Level) (n : ℕ) → walk (l .settings) (l .at) (l .depth) (l .text) n ≡ left l 0 n
+walk-left l n = walk-run-any (l .settings) (l .at) (l .depth) (l .text) n
+
+-- a place, by its numbers
+abbrev pub placeOf : ℕ → ℕ → ℕ → Place
+placeOf at len openings = record { at = at; len = len; openings = openings }
+
+module _ (l : Level) where
+  abbrev S : Settings
+  S = l .settings
+
+  abbrev given : ℕ → ℕ → Outcome
+  given i n = outcomeOf (stopAnswer S (l .depth)) (tokenOf (headAt (l .at) (l .text) i)) n
+
+  -- the token at an offset, and then the rest
+  pub left-at : (i n : ℕ) {j : ℕ} → i < length (l .text) → nextAt (l .at) (l .text) i ≡ j → left l i n ≡ followed (given i n) (λ m. left l j m)
+  left-at i n h q = run-at (l .at) (stopAnswer S (l .depth)) (l .text) i n h ∙ ap (λ (k : ℕ). followed (given i n) (λ m. left l k m)) q
+
+  pub left-done : (i n j now : ℕ) (more : List ℕ) → i < length (l .text) → nextAt (l .at) (l .text) i ≡ j → given i n ≡ done more now
+      → left l i n ≡ prepend more (left l j now)
+  left-done i n j now more h q e = left-at i n h q ∙ ap (λ (o : Outcome). followed o (λ m. left l j m)) e
+
+  pub left-refused : (i n made number first second : ℕ) (before : List ℕ) → i < length (l .text) → given i n ≡ refused before made number first second
+      → left l i n ≡ refused before made number first second
+  left-refused i n made number first second before h e = left-at i n h refl ∙ ap (λ (o : Outcome). followed o (λ m. left l (nextAt (l .at) (l .text) i) m)) e
+
+  module _ (v whole : List ℕ) (begun : ℕ) where
+    -- at the level's start
+    pub came-start : {words : List ℕ} → Memory S (l .list) (l .pool) v words → begun ≤ S .limit → Came l v whole begun whole words 0 0 begun
+    came-start {words} m h =
+        record {
+          value = [];
+          size = refl;
+          outcome = sym (prepend-none (left l 0 begun));
+          fitted = fitted-start whole;
+          memory = subst (λ (x : List ℕ). Memory S (l .list) (l .pool) x words) (sym (append-nil v)) m;
+          inside = omega arith;
+          more = le-refl _;
+          within = h;
+          counted = omega arith;
+        }
+
+    module _ {out words : List ℕ} {i len made : ℕ} (c : Came l v whole begun out words i len made) where
+      -- on to a later offset, with more of the value
+      pub came-on : (more : List ℕ) {new after : List ℕ} {j size now : ℕ} → left l i made ≡ prepend more (left l j now) → length more ≡ size
+          → Fitted (c .value ++ more) whole new → Memory S (l .list) (l .pool) ((v ++ c .value) ++ more) after
+          → j ≤ length (l .text) → made ≤ now → now ≤ S .limit → size + 4 * i + 262140 * made ≤ 4 * j + 262140 * now
+          → Came l v whole begun new after j (len + size) now
+      came-on more {new} {after} {j} {size} {now} e n f m h g w b =
+          record {
+            value = c .value ++ more;
+            size = rw (length-append, c .size, n);
+            outcome = c .outcome ∙ ap (prepend (c .value)) e ∙ prepend-prepend (c .value) more (left l j now);
+            fitted = f;
+            memory = subst (λ (x : List ℕ). Memory S (l .list) (l .pool) x after) (append-assoc v (c .value) more) m;
+            inside = h;
+            more = omega (arith, c .more, g);
+            within = w;
+            counted = omega (arith, c .counted, b);
+          }
+
+      -- the same where nothing is kept
+      pub came-past : (more : List ℕ) {new : List ℕ} {j size now : ℕ} → left l i made ≡ prepend more (left l j now) → length more ≡ size
+          → Fitted (c .value ++ more) whole new → j ≤ length (l .text) → made ≤ now → now ≤ S .limit → size + 4 * i + 262140 * made ≤ 4 * j + 262140 * now
+          → Came l v whole begun new words j (len + size) now
+      came-past more e n f h g w b = came-on more e n f (memory-more S (l .list) (l .pool) (c .memory) more) h g w b
+
+      -- the same place with another memory
+      pub came-memory : {after : List ℕ} → Memory S (l .list) (l .pool) (v ++ c .value) after → Came l v whole begun out after i len made
+      came-memory {after} m =
+          record {
+            value = c .value;
+            size = c .size;
+            outcome = c .outcome;
+            fitted = c .fitted;
+            memory = m;
+            inside = c .inside;
+            more = c .more;
+            within = c .within;
+            counted = c .counted;
+          }
+
+      -- after it was noted that the table does not define a predefined name
+      pub came-noted : (name : List ℕ) {b : ℕ} {after : List ℕ} → sameBytes name (97 ∷ 109 ∷ 112 ∷ []) ≡ false → predefinedOf name ≡ predefined (b ∷ [])
+          → binding (l .list) (l .pool) name ≡ predefined (b ∷ []) → Noted words b after → Came l v whole begun out after i len made
+      came-noted name amp p found k = came-memory (memory-noted S (l .list) (l .pool) (c .memory) name amp p found k)
+
+      -- with the first memory of a walk that had none
+      pub came-zeros : (after : List ℕ) → (length after ≢ 0 → length after ≡ 84) → ((k : ℕ) → getD after k 0 ≡ 0) → Came l v whole begun out after i len made
+      came-zeros after size zeros = came-memory (memory-zeros S (l .list) (l .pool) (v ++ c .value) after size zeros)
+
+      pub came-end : length (l .text) ≤ i → Whole l v whole begun out words len made
+      came-end h =
+          record {
+            value = c .value;
+            size = c .size;
+            outcome =
+                c .outcome
+                ∙ ap (prepend (c .value)) (run-over (l .at) (stopAnswer S (l .depth)) (l .text) i made h)
+                ∙ ap (λ (x : List ℕ). done x made) (append-nil (c .value));
+            fitted = c .fitted;
+            memory = c .memory;
+            more = c .more;
+            within = c .within;
+            counted = omega (arith, c .counted, c .inside);
+          }
+
+      pub came-refused : {number first second : ℕ} (before : List ℕ) (m : ℕ) → left l i made ≡ refused before m number first second → Refuses l begun number first second
+      came-refused before m e = record { before = c .value ++ before; made = m; outcome = c .outcome ∙ ap (prepend (c .value)) e }
+
+      -- one token that makes no opening, or is refused
+      pub came-token : (more : List ℕ) {new : List ℕ} {j : ℕ} → i < length (l .text) → nextAt (l .at) (l .text) i ≡ j → j ≤ length (l .text)
+          → given i made ≡ done more made → length more + 4 * i ≤ 4 * j → Adds more len out new
+          → Came l v whole begun new words j (len + length more) made
+      came-token more {new} {j} h q to e b f =
+          came-past more (left-done i made j made more h q e) refl (f .fits (c .value) whole (c .size) (c .fitted)) to (le-refl _) (c .within) (omega (arith, b))
+
+      pub came-stop : {number first second : ℕ} (before : List ℕ) (m : ℕ) → i < length (l .text) → given i made ≡ refused before m number first second
+          → Refuses l begun number first second
+      came-stop {number} {first} {second} before m h e = came-refused before m (left-refused i made m number first second before h e)
+
+      -- ---- a reference to a command
+
+      module _ (deep : l .depth ≢ 0) {command : ℕ} (name : List ℕ) {j : ℕ} (inside : i < length (l .text)) (on : i < j) (to : j ≤ length (l .text))
+          (next : nextAt (l .at) (l .text) i ≡ j) (is : tokenOf (headAt (l .at) (l .text) i) ≡ stop (named i name))
+          (amp : sameBytes name (97 ∷ 109 ∷ 112 ∷ []) ≡ false) (bind : S .bind name ≡ binding (l .list) (l .pool) name)
+          (d : Defines (l .list) (l .pool) command) (same : sameBytes (commandName (l .list) (l .pool) command) name ≡ true) where
+        abbrev t : List ℕ
+        t = commandText (l .list) (l .pool) command
+
+        bound : S .bind name ≡ text t
+        bound = bind ∙ defines-binding d name same
+
+        -- refusal 17 aside it is opened
+        pub came-opens : {slot : ℕ} → slot < 16 → made ≢ S .limit → Opens l v whole begun out words i j command slot len made
+        came-opens k room =
+            record {
+              came = c;
+              on = on;
+              inside = to;
+              is =
+                  left-at i made inside next
+                  ∙ ap (λ (x : Token). followed (outcomeOf (stopAnswer S (l .depth)) x made) (λ m. left l j m)) is
+                  ∙ ap (λ (o : Outcome). followed o (λ m. left l j m)) (opening-stop S t (l .depth) made deep room i name amp bound);
+              defines = d;
+              known = k;
+              room = omega (arith, room, c .within);
+            }
+
+        -- what a slot says is its value; the bytes are in the whole call's value
+        pub came-again : Brief S → {new : List ℕ} (slot : ℕ) → slot < 16 → getD words slot 0 ≡ command + 1 → slotAt words slot .depth ≤ l .depth
+            → made + slotAt words slot .opened ≤ S .limit
+            → Fitted (c .value ++ take (slotAt words slot .count) (drop (slotAt words slot .place) (v ++ c .value))) whole new
+            → Came l v whole begun new words j (len + slotAt words slot .count) (made + slotAt words slot .opened)
+        came-again brief slot k e enough few f =
+            let x = slotAt words slot in
+            let st = c .memory .stands slot command k e in
+            let small = stands-brief S brief (text-short d) st in
+            came-past (take (x .count) (drop (x .place) (v ++ c .value)))
+            (left-done i made j (made + x .opened) (take (x .count) (drop (x .place) (v ++ c .value))) inside next
+            (ap (λ (y : Token). outcomeOf (stopAnswer S (l .depth)) y made) is ∙ again-stop S t st (l .depth) made deep enough few i name amp bound))
+            (stands-size S t st) f to (omega arith) few (omega (arith, small, on))
+
+        -- so by the contract of `again`, whose reading and place are those of the level
+        pub came-taken : Brief S → {new : List ℕ} {slot count now : ℕ} (r : Reading) (p : Place) → slot < 16 → length v ≡ r .base → r .depth ≡ l .depth
+            → r .limit ≡ S .limit → p .len ≡ len → p .openings ≡ made → Taken command slot r p words out new count now
+            → Came l v whole begun new words j (len + count) now
+        came-taken brief {new} {slot} {count} {now} r p k at-base deep-is limit-is len-is made-is x =
+            let st = c .memory .stands slot command k (x .is) in
+            let e = x .size in
+            let o : now ≡ made + slotAt words slot .opened = omega (arith, x .opens, made-is) in
+            let size : length (c .value) ≡ p .len = omega (arith, c .size, len-is) in
+            let room : slotAt words slot .place + count ≤ r .base + p .len =
+            omega (arith, st .inside, e, length-append v (c .value), at-base, size) in
+            let f = x .writes v (c .value) whole at-base size room (c .fitted) in
+            subst (λ (n : ℕ). Came l v whole begun new words j (len + n) now) (sym e)
+            (subst (λ (n : ℕ). Came l v whole begun new words j (len + slotAt words slot .count) n) (sym o)
+            (came-again brief slot k (x .is) (omega (arith, x .enough, deep-is)) (omega (arith, o, x .within, limit-is))
+            (subst (λ (n : ℕ). Fitted (c .value ++ take n (drop (slotAt words slot .place) (v ++ c .value))) whole new) e f)))
+
+        -- a text whose opening is known is its value, and may be kept with a depth at which that holds
+        pub came-kept : Brief S → {new after : List ℕ} (value : List ℕ) (now : ℕ) → made < S .limit → opening S (l .depth) t made ≡ done value now
+            → Fitted (c .value ++ value) whole new → Memory S (l .list) (l .pool) ((v ++ c .value) ++ value) after
+            → Came l v whole begun new after j (len + length value) now
+        came-kept brief value now room e f m =
+            let small = opening-brief S brief (l .depth) made now t value (text-short d) e in
+            let one = opening-one S t (l .depth) made now value e in
+            came-on value
+            (left-done i made j now value inside next
+            (ap (λ (y : Token). outcomeOf (stopAnswer S (l .depth)) y made) is
+            ∙ opening-stop S t (l .depth) made deep (λ q. omega (arith, q, room)) i name amp bound ∙ e))
+            refl f m to (omega (arith, one)) (opening-within S t (l .depth) made now value room e) (omega (arith, small, one, on))
+
+    -- ---- an opening, and what is kept of it
+
+    module _ {out words : List ℕ} {at next command slot len made base : ℕ}
+        (o : Opens l v whole begun out words at next command slot len made) (at-base : length v ≡ base) where
+      abbrev sofar : List ℕ
+      sofar = o .came .value
+
+      -- the step is called with these
+      pub opens-memory : Memory S (l .list) (l .pool) (v ++ sofar) words
+      opens-memory = o .came .memory
+
+      pub opens-place : length (v ++ sofar) ≡ base + len
+      opens-place = rw (length-append, at-base, o .came .size)
+
+      module _ {w : ℕ} {part after : List ℕ} (least : w ≡ min len (length out)) where
+        pub opened-next : Brief S → {a more now : ℕ} {last : List ℕ}
+            → Opened S (l .list) (l .pool) (l .depth) command next made (v ++ sofar) (midOf w (length out - w) out) part after (Next a more now)
+            → Kept after slot command (record { depth = l .depth; place = base + len; count = more; opened = now - made }) last
+            → (a ≡ next) × Came l v whole begun (putMid w (length out - w) out part) last next (len + more) now
+        opened-next brief {a} {more} {now} {last} p kept =
+            let t = commandText (l .list) (l .pool) command in
+            let op = opening S (l .depth) t made in
+            let g = went next op [] (over (produced op) []) a more now (record { answers = p .answers; writes = refl }) in
+            let one = opening-one S t (l .depth) made now (g .value) (g .whole) in
+            let top = opening-within S t (l .depth) made now (g .value) (o .room) (g .whole) in
+            let small = opening-brief S brief (l .depth) made now t (g .value) (text-short (o .defines)) (g .whole) in
+            let x : Slot = record { depth = l .depth; place = base + len; count = more; opened = now - made } in
+            let st : Stands S t ((v ++ sofar) ++ g .value) x =
+            stands-opened S t (v ++ sofar) (g .value) (g .whole) (o .room) (sym opens-place) (sym (g .size)) refl in (
+              g .to,
+              came-on (o .came) (g .value)
+                  (o .is ∙ ap (λ (y : Outcome). followed y (λ n. left l next n)) (g .whole))
+                  (g .size)
+                  (fitted-level (o .came .fitted) (g .value) (o .came .size) least (p .fitted (g .value) now (g .whole)))
+                  (memory-kept S (l .list) (l .pool) (p .keeps (g .value) now (g .whole)) (o .known) (o .defines) st kept)
+                  (o .inside) (omega (arith, one)) top (omega (arith, small, g .size, one, o .on)),
+            )
+
+        -- where the step goes on, and how much it made
+        pub opened-counts : Brief S → {a more now : ℕ}
+            → Opened S (l .list) (l .pool) (l .depth) command next made (v ++ sofar) (midOf w (length out - w) out) part after (Next a more now)
+            → (a ≡ next) × (made < now) × (now ≤ S .limit) × (more + 65535 * made ≤ 65535 * now)
+        opened-counts brief {a} {more} {now} p =
+            let t = commandText (l .list) (l .pool) command in
+            let op = opening S (l .depth) t made in
+            let g = went next op [] (over (produced op) []) a more now (record { answers = p .answers; writes = refl }) in
+            let one = opening-one S t (l .depth) made now (g .value) (g .whole) in
+            let top = opening-within S t (l .depth) made now (g .value) (o .room) (g .whole) in
+            let small = opening-brief S brief (l .depth) made now t (g .value) (text-short (o .defines)) (g .whole) in
+            (g .to, omega (arith, one), top, omega (arith, small, g .size))
+
+        pub opened-stopped : {number first second : ℕ}
+            → Opened S (l .list) (l .pool) (l .depth) command next made (v ++ sofar) (midOf w (length out - w) out) part after (Stopped number first second)
+            → Refuses l begun number first second
+        opened-stopped {number} {first} {second} p =
+            let op = opening S (l .depth) (commandText (l .list) (l .pool) command) made in
+            let g = halted next op [] (over (produced op) []) number first second (record { answers = p .answers; writes = refl }) in
+            came-refused (o .came) (g .before) (g .openings) (o .is ∙ ap (λ (y : Outcome). followed y (λ n. left l next n)) (g .whole))
+
+    -- ---- the level's answer
+
+    pub finishes-end : {out words : List ℕ} {len made : ℕ} → Whole l v whole begun out words len made → Finishes l v whole begun out words (Done len made)
+    finishes-end {out} {words} {len} {made} e =
+        record {
+          answers = sym (ap answerOf (e .outcome) ∙ ap (λ (n : ℕ). Done n made) (e .size));
+          made = λ value openings q. same value openings q;
+        }
+      where
+        same : (value : List ℕ) (openings : ℕ) → left l 0 begun ≡ done value openings → Whole l v whole begun out words (length value) openings
+        same value openings q =
+            let z : done (e .value) made ≡ done value openings = sym (e .outcome) ∙ q in
+            let a : e .value ≡ value = cc in
+            let b : made ≡ openings = cc in
+            let n : len ≡ length value = sym (e .size) ∙ ap length a in
+            subst (λ (k : ℕ). Whole l v whole begun out words k openings) n (subst (Whole l v whole begun out words len) b e)
+
+    pub finishes-refused : {out words : List ℕ} {number first second : ℕ} → Refuses l begun number first second
+        → Finishes l v whole begun out words (Refused number first second)
+    finishes-refused {out} {words} {number} {first} {second} e =
+        record {
+          answers = sym (ap answerOf (e .outcome));
+          made = λ value openings q. absurd (no value openings q);
+        }
+      where
+        no : (value : List ℕ) (openings : ℕ) → left l 0 begun ≡ done value openings → ⊥
+        no value openings q =
+            let z : refused (e .before) (e .made) number first second ≡ done value openings = sym (e .outcome) ∙ q in
+            let k : _≡_ {A = ℕ} 0 1 = cc in
+            omega (arith, k)
+
+-- ---- the step over the walk of the text that it opens
+
+module _ (s : Settings) (list pool : List ℕ) (depth command next openings : ℕ) (v old new words : List ℕ) where
+  abbrev inner : Level
+  inner = innerLevel s list pool depth command
+
+  pub opening-left : opening s depth (commandText list pool command) openings ≡ left inner 0 (openings + 1)
+  opening-left = walk-left inner (openings + 1)
+
+  pub opened-walked : {r : Answer} → Finishes inner v old (openings + 1) new words r → Opened s list pool depth command next openings v old new words (stepFrom next r)
+  opened-walked {r} f =
+      record {
+        answers = ap (stepFrom next) (f .answers) ∙ told (left inner 0 (openings + 1)) ∙ ap (stepOf next) (sym opening-left);
+        fitted = λ value made e. same value made e .0;
+        keeps = λ value made e. same value made e .1;
+      }
+    where
+      told : (o : Outcome) → stepFrom next (answerOf o) ≡ stepOf next o
+      told (done value made) = refl
+      told (refused before made number first second) = refl
+
+      same : (value : List ℕ) (made : ℕ) → opening s depth (commandText list pool command) openings ≡ done value made → Fitted value old new × Memory s list pool (v ++ value) words
+      same value made e =
+          let q = sym opening-left ∙ e in
+          let w = f .made value made q in
+          let z : done (w .value) made ≡ done value made = sym (w .outcome) ∙ q in
+          let a : w .value ≡ value = cc in
+          (subst (λ (x : List ℕ). Fitted x old new) a (w .fitted), subst (λ (x : List ℕ). Memory s list pool (v ++ x) words) a (w .memory))
+
+  -- a text whose walk keeps nothing, as at depth 1
+  pub opened-plain : {r : Step} (o : Outcome) → opening s depth (commandText list pool command) openings ≡ o → r ≡ stepOf next o
+      → ((value : List ℕ) (made : ℕ) → o ≡ done value made → Fitted value old new) → Memory s list pool v words
+      → Opened s list pool depth command next openings v old new words r
+  opened-plain o e a f m =
+      record {
+        answers = a ∙ ap (stepOf next) (sym e);
+        fitted = λ value made q. f value made (sym e ∙ q);
+        keeps = λ value made q. memory-more s list pool m value;
+      }
+
+-- ---- no sum overflows
+
+module _ (l : Level) (v whole : List ℕ) (begun base : ℕ) (room : base + 4 * length (l .text) ≤ 67108864 + 262140 * begun) where
+  pub came-room : {out words : List ℕ} {i len made : ℕ} → Came l v whole begun out words i len made → base + len ≤ 67108864 + 262140 * made
+  came-room c = omega (arith, room, c .counted, c .inside)
+
+  -- the level of an opened text has its room
+  pub inner-room : {out words : List ℕ} {at next command slot len made : ℕ} → Opens l v whole begun out words at next command slot len made
+      → base + len + 4 * length (commandText (l .list) (l .pool) command) ≤ 67108864 + 262140 * (made + 1)
+  inner-room o = omega (arith, came-room (o .came), text-short (o .defines))
+
+  -- so the step, and the walk of its text, are asked what they need
+  pub opens-lent : {out words : List ℕ} {at next command slot len made : ℕ} → Opens l v whole begun out words at next command slot len made → length v ≡ base
+      → (lent : List ℕ) → Lent (innerLevel (l .settings) (l .list) (l .pool) (l .depth) command) (base + len) lent words (placeOf 0 0 (made + 1))
+  opens-lent {out} {words} {at} {next} {command} {slot} {len} {made} o at-base lent =
+      let inner = innerLevel (l .settings) (l .list) (l .pool) (l .depth) command in
+      let x = v ++ o .came .value in
+      record {
+        v = x;
+        whole = lent;
+        begun = made + 1;
+        size = opens-place l v whole begun o at-base;
+        came = came-start inner x lent (made + 1) (o .came .memory) (omega (arith, o .room));
+        room = inner-room o;
+      }
+
+  -- what is asked at a later place of the level
+  pub lent-on : {out words : List ℕ} {i len made : ℕ} → length v ≡ base → Came l v whole begun out words i len made → Lent l base out words (placeOf i len made)
+  lent-on at-base c = record { v = v; whole = whole; begun = begun; size = at-base; came = c; room = room }

@@ -1,0 +1,70 @@
+-- One memory for all levels of a walk: what its words say. Terms in which code is proved; no promise of a call rests on them.
+-- Assumes nothing.
+use Prim.Native.Nat.{ℕ, _+_, _-_, _≤_, _<_}
+use mathlib.Core.Path.{_≡_}
+use mathlib.Core.Logic.{_≢_}
+use mathlib.Core.List.{List, [], _∷_}
+use lib.Dec.{eqb}
+use lib.ListN.{length, getD, set, take, drop}
+use Rattle.text.specs.Bytes.{pick}
+use Rattle.entity.specs.Commands.{commandText, Defines, Unhidden}
+use Rattle.tokens.specs.Outcome.{Outcome, done}
+use Rattle.attribute.specs.Walk.{Settings, walk}
+
+-- a text opened at a depth that is not used up, after so many openings: it is walked with the depth one less, one opening more
+abbrev pub opening : Settings → ℕ → List ℕ → ℕ → Outcome
+opening s depth t openings = walk s (s .inner) (depth - 1) t (openings + 1)
+
+-- ---- a slot
+
+-- a depth that is enough for the text, where its value starts in the whole call's value, its length, the openings that it takes
+pub record Slot : Type 0 where
+  pub depth : ℕ
+  pub place : ℕ
+  pub count : ℕ
+  pub opened : ℕ
+
+abbrev pub slotOf : ℕ → ℕ → ℕ → ℕ → Slot
+slotOf depth place count opened = record { depth = depth; place = place; count = count; opened = opened }
+
+-- what a slot says of the text `t`, where `v` is the whole call's value so far
+pub record Stands (s : Settings) (t v : List ℕ) (x : Slot) : Type 0 where
+  pub inside : x .place + x .count ≤ length v
+  pub few : x .opened ≤ s .limit
+  pub again : (e m : ℕ) → x .depth ≤ e → m + x .opened ≤ s .limit → opening s e t m ≡ done (take (x .count) (drop (x .place) v)) (m + x .opened)
+
+-- ---- the words: 16 slots side by side, the offset of the command and 1 first; then a word for each of lt, gt, apos, quot
+
+abbrev pub slotAt : List ℕ → ℕ → Slot
+slotAt words k = record { depth = getD words (k + 16) 0; place = getD words (k + 32) 0; count = getD words (k + 48) 0; opened = getD words (k + 64) 0 }
+
+-- where it is kept that the table does not define `<`, `>`, `'`, else `"`
+abbrev pub plainWord : ℕ → ℕ
+plainWord b = pick (eqb b 60) 80 (pick (eqb b 62) 81 (pick (eqb b 39) 82 83))
+
+-- what the words say of the table alone; `amp` never comes to the memory, and would share the word of `quot`
+pub record Trusts (list pool words : List ℕ) : Type 0 where
+  pub size : length words ≢ 0 → length words ≡ 84
+  pub defines : (k c : ℕ) → k < 16 → getD words k 0 ≡ c + 1 → Defines list pool c
+  pub plain : (b : ℕ) → b ≢ 38 → getD words (plainWord b) 0 ≢ 0 → Unhidden list pool b
+
+-- a memory of no words keeps nothing
+pub record Memory (s : Settings) (list pool v words : List ℕ) : Type 0 where
+  pub size : length words ≢ 0 → length words ≡ 84
+  pub defines : (k c : ℕ) → k < 16 → getD words k 0 ≡ c + 1 → Defines list pool c
+  pub stands : (k c : ℕ) → k < 16 → getD words k 0 ≡ c + 1 → Stands s (commandText list pool c) v (slotAt words k)
+  pub plain : (b : ℕ) → b ≢ 38 → getD words (plainWord b) 0 ≢ 0 → Unhidden list pool b
+
+-- the words after a text was kept in the slot `k`, store by store
+abbrev pub keptIn : List ℕ → ℕ → ℕ → Slot → List ℕ
+keptIn words k c x = set (set (set (set (set words k (c + 1)) (k + 16) (x .depth)) (k + 32) (x .place)) (k + 48) (x .count)) (k + 64) (x .opened)
+
+-- a memory of no words keeps nothing
+pub record Kept (old : List ℕ) (slot command : ℕ) (x : Slot) (new : List ℕ) : Type 0 where
+  pub none : length old ≡ 0 → new ≡ old
+  pub enters : length old ≢ 0 → new ≡ keptIn old slot command x
+
+-- the words after it was found that the table does not define the name of the byte
+pub record Noted (old : List ℕ) (b : ℕ) (new : List ℕ) : Type 0 where
+  pub none : length old ≡ 0 → new ≡ old
+  pub enters : length old ≢ 0 → new ≡ set old (plainWord b) 1
