@@ -1,0 +1,314 @@
+-- What becomes of a halt, return by return: a text of the table (`halt-limit`, `halt-again`, `halt-leaf`, `halt-opens`), other names
+-- (`halt-predefined`, `halt-unknown`), characters and refusals (`halt-char`, `halt-refused`), line ends (`halt-blank`). Assumes nothing.
+use mathlib.Core.Path.{_≡_, refl, sym, ap, subst, _∙_}
+use mathlib.Core.Logic.{_≢_}
+use mathlib.Core.Bool.{Bool, true, false, true≢false, _&&_, _||_}
+use mathlib.Core.List.{List, [], _∷_}
+use Prim.Native.Nat.{ℕ, _+_, _-_, _≤_, _<_}
+use native.Mathlib.Omega.{arith}
+use native.Mathlib.Nat.{le-refl}
+use lib.Dec.{eqb, ltb}
+use lib.ListN.{length, getD, set, take, drop, length-take}
+use lib.Seq.{take-all}
+use borrow.Author.Tests.{eq-eqb, eqb-true, ne-eqb, ltb-true, ltb-false}
+use Rattle.text.specs.Bytes.{pick, begins}
+use Rattle.charref.specs.CharRef.{anyCharacter, encode}
+use Rattle.charref.proofs.Encoding.{encode-at-most}
+use Rattle.eols.specs.LineEnds.{lineEnd}
+use Rattle.eols.specs.Stops.{ruleFor}
+use Rattle.eols.proofs.LineEnds.{at-head, cr-lf, cr-nel, cr-alone10, cr-alone11}
+use Rattle.halts.specs.Halts.{halts, Smooth, blanksSpaced}
+use Rattle.text.specs.declared.Answer.the-variants.{Done, Refused}
+use Rattle.entity.specs.Table.{littleEndian, part, declarations, ValidTable}
+use Rattle.entity.proofs.Commands.{long-list}
+use Rattle.entity.specs.Binding.{text, predefined, unknown, predefinedOf, binding, boundTo}
+use Rattle.entity.specs.Commands.{commandText, RefersTo}
+use Rattle.entity.proofs.Referents.{defines-binding}
+use Rattle.tokens.specs.Tokens.{named, stop, Token, Heads, tokenOf}
+use Rattle.tokens.specs.Outcome.{done, refused}
+use Rattle.tokens.specs.Walking.{headAt, outcomeOf}
+use Rattle.attribute.specs.Walk.{Settings, answer, opened, walk}
+use Rattle.attribute.specs.Heads.{attributeHead}
+use Rattle.attribute.specs.Steps.{stopAnswer, Blank}
+use Rattle.attribute.proofs.Single.{stop-deeper, at-unknown, at-predefined, walk-predefined}
+use Rattle.attribute.proofs.Stops.{blank-line}
+use Rattle.memory.specs.Slots.{slotOf, Kept, Noted}
+use Rattle.memory.specs.Levels.{ruleBy, settingsOf, Level, levelOf, Adds, Came, Taken}
+use Rattle.memory.specs.declared.Reading.{Reading}
+use Rattle.memory.specs.declared.Place.{Place}
+use Rattle.memory.proofs.Fitted.{adds-byte}
+use Rattle.memory.proofs.Levels.{left-done, came-on, came-stop, came-token}
+use Rattle.memory.proofs.Keeping.{memory-more, kept-length, noted-length, memory-noted}
+use Rattle.memory.proofs.Readings.{call-bind, call-inner, call-limit, call-legal, token-named, next-named, read-opens, read-taken, came-leaf, came-blank}
+use Rattle.flat.specs.Between.{ForChar, ForName, nameOf, Answers, HaltKeeps, Referred}
+use Rattle.flat.specs.declared.Halted.the-variants.{Next, Opening, Stopped}
+
+-- ---- a reference to the text of a command
+
+module _ (r : Reading) (t list pool : List ℕ) (p : Place) {command next : ℕ} {value : List ℕ} (k : Referred r t list pool p command next value) where
+  abbrev l : Level
+  l = levelOf r list pool t
+
+  abbrev S : Settings
+  S = settingsOf r list pool
+
+  limit-is : S .limit ≡ r .limit
+  limit-is = call-limit (ruleBy (r .inner)) list pool (r .limit)
+
+  bound : S .bind (k .name) ≡ text (commandText list pool command)
+  bound = call-bind (ruleBy (r .inner)) list pool (r .limit) (k .name) ∙ defines-binding (k .defines) (k .name) (k .same)
+
+  at-limit : p .openings ≡ r .limit → outcomeOf (stopAnswer S (r .depth)) (tokenOf (headAt (attributeHead (ruleBy (r .how))) t (p .at))) (p .openings) ≡ refused [] (p .openings) 17 (p .at) 0
+  unfolding answer opened
+  at-limit q =
+      ap (λ (x : Token). outcomeOf (stopAnswer S (r .depth)) x (p .openings)) (k .is)
+      ∙ stop-deeper S (r .depth) (k .deep) (stop (named (p .at) (k .name))) (p .openings)
+      ∙ rw (k .no-amp, bound, eq-eqb (p .openings) (S .limit) (q ∙ sym limit-is))
+
+  module _ {slot : ℕ} (known : slot < 16) (old seen : List ℕ) where
+    -- refusal 17
+    pub halt-limit : p .openings ≡ r .limit → HaltKeeps l (r .base) p old seen old seen (Stopped 17 (p .at) 0)
+    halt-limit q =
+        record {
+          past = tt;
+          buffer = refl;
+          words = refl;
+          goes = λ v whole begun e c. came-stop l v whole begun c [] (p .openings) (k .inside) (at-limit q);
+        }
+
+    -- what is kept of it
+    pub halt-again : {new : List ℕ} {count made : ℕ} → Taken command slot r p seen old new count made
+        → HaltKeeps l (r .base) p old seen new seen (Next next count made)
+    halt-again x =
+        record {
+          past = (k .on, k .to);
+          buffer = x .buffer;
+          words = refl;
+          goes = λ v whole begun e c.
+              read-taken r list pool t (k .deep) v whole begun c (k .bytes) e (k .name) (k .inside) (k .on) (k .to) (k .next-is) (k .is) (k .no-amp) (k .defines) (k .same)
+              p known refl refl x;
+        }
+
+    module _ (room : p .openings ≢ r .limit) where
+      pub halt-opens : HaltKeeps l (r .base) p old seen old seen (Opening next command slot)
+      halt-opens =
+          record {
+            past = (k .on, k .to);
+            buffer = refl;
+            words = refl;
+            goes = λ v whole begun e c.
+                read-opens r list pool t (k .deep) v whole begun c (k .bytes) e (k .name) (k .inside) (k .on) (k .to) (k .next-is) (k .is) (k .no-amp) (k .defines) (k .same)
+                known room;
+          }
+
+      -- a text without halts is copied, and kept
+      pub halt-leaf : r .depth ≢ 1 → Smooth (eqb (r .inner) 1) value 0 (length value) → {new after : List ℕ}
+          → Adds (blanksSpaced (take (length value - 0) (drop 0 value))) (p .len) old new → Kept seen slot command (slotOf 2 (r .base + p .len) (length value) 1) after
+          → HaltKeeps l (r .base) p old seen new after (Next next (length value) (p .openings + 1))
+      halt-leaf two smooth {new} {after} adds kept =
+          let all : take (length value - 0) (drop 0 value) ≡ value = take-all (length value - 0) value (omega arith) in
+          let e = k .text-is in
+          record {
+            past = (k .on, k .to);
+            buffer = adds .buffer;
+            words = kept-length kept;
+            goes = λ v whole begun b c.
+                subst (λ (n : ℕ). Came l v whole begun new after next (p .len + n) (p .openings + 1)) (sym (ap length e))
+                (came-leaf r list pool t (k .deep) v whole begun c (k .bytes) b (k .name) (k .inside) (k .on) (k .to) (k .next-is) (k .is) (k .no-amp) (k .defines) (k .same)
+                two (omega (arith, room, limit-is, c .within)) (subst (λ (x : List ℕ). Smooth (eqb (r .inner) 1) x 0 (length x)) e smooth) known
+                (subst (λ (x : List ℕ). Adds (blanksSpaced x) (p .len) old new) (all ∙ e) adds)
+                (subst (λ (n : ℕ). Kept seen slot command (slotOf 2 (r .base + p .len) n 1) after) (ap length e) kept));
+          }
+
+-- ---- other references
+
+-- what a lookup found, as what is known of the reference
+pub referred : (r : Reading) (t list pool : List ℕ) (p : Place) {end command start last : ℕ} → r .depth ≢ 0 → ((k : ℕ) → getD list k 0 < 0x100)
+    → ForName t (p .at) end → RefersTo list pool (nameOf t (p .at) end) command start last
+    → Referred r t list pool p command (end + 1) (take (last - start) (drop start pool))
+unfolding part
+referred r t list pool p {end} {command} {start} {last} deep bytes f k =
+    let n : littleEndian list (command + 10) 2 ≡ last - start = omega (arith, k .ends) in
+    record {
+      name = nameOf t (p .at) end;
+      deep = deep;
+      bytes = bytes;
+      inside = omega (arith, f .ends .from, f .inside);
+      on = omega (arith, f .ends .from);
+      to = omega (arith, f .inside);
+      next-is = next-named (eqb (r .how) 1) t (p .at) end (f .amp) (f .ends) (f .inside) (f .no-number);
+      is = token-named (eqb (r .how) 1) t (p .at) end (f .amp) (f .ends) (f .inside) (f .no-number);
+      no-amp = f .no-amp;
+      defines = k .defines;
+      same = k .same;
+      text-is = sym (ap (λ (m : ℕ). take m (drop (littleEndian list (command + 6) 4) pool)) n ∙ ap (λ (m : ℕ). take (last - start) (drop m pool)) (sym (k .starts)));
+    }
+
+module _ (r : Reading) (t list pool : List ℕ) (p : Place) (deep : r .depth ≢ 0) (old seen : List ℕ) where
+  abbrev level : Level
+  level = levelOf r list pool t
+
+  abbrev reads : Settings
+  reads = settingsOf r list pool
+
+  legal : reads .legal ≡ anyCharacter
+  legal = call-legal (ruleBy (r .inner)) list pool (r .limit)
+
+  -- a reference that stands for a character
+  pub halt-char : {c next more : ℕ} → ForChar t (p .at) c next → {new : List ℕ} → more ≡ length (encode c) → Adds (encode c) (p .len) old new
+      → HaltKeeps level (r .base) p old seen new seen (Next next more (p .openings))
+  halt-char {c} {next} {more} f {new} n adds =
+      record {
+        past = (omega (arith, f .on), f .to);
+        buffer = adds .buffer;
+        words = refl;
+        goes = λ v whole begun e k.
+            subst (λ (m : ℕ). Came level v whole begun new seen next (p .len + m) (p .openings)) (sym n)
+            (came-token level v whole begun k (encode c) (omega (arith, f .on, f .to)) (f .next-is (eqb (r .how) 1)) (f .to)
+            (f .given (eqb (r .how) 1) reads legal (r .depth) deep (p .openings)) (omega (arith, encode-at-most c, f .on))
+            adds);
+      }
+
+  -- one that is refused
+  pub halt-refused : {number first second : ℕ} → p .at < length t → Answers t (p .at) (λ n. refused [] n number first second)
+      → HaltKeeps level (r .base) p old seen old seen (Stopped number first second)
+  halt-refused inside f =
+      record {
+        past = tt;
+        buffer = refl;
+        words = refl;
+        goes = λ v whole begun e k. came-stop level v whole begun k [] (p .openings) inside (f (eqb (r .how) 1) reads legal (r .depth) deep (p .openings));
+      }
+
+  module _ {end : ℕ} (f : ForName t (p .at) end) where
+    abbrev name : List ℕ
+    name = nameOf t (p .at) end
+
+    inside : p .at < length t
+    inside = omega (arith, f .ends .from, f .inside)
+
+    bind : reads .bind name ≡ binding list pool name
+    bind = call-bind (ruleBy (r .inner)) list pool (r .limit) name
+
+    -- refusal 11
+    pub halt-unknown : binding list pool name ≡ unknown → HaltKeeps level (r .base) p old seen old seen (Stopped 11 (p .at + 1) end)
+    unfolding boundTo
+    halt-unknown e =
+        record {
+          past = tt;
+          buffer = refl;
+          words = refl;
+          goes = λ v whole begun b k.
+              came-stop level v whole begun k [] (p .openings) inside
+              (at-unknown (eqb (r .how) 1) reads legal (r .depth) deep t (p .at) (p .openings) end (f .amp) (f .ends) (f .inside) (f .no-number) (binding list pool name) bind pool
+              (rw (f .no-amp, e)));
+        }
+
+    -- a predefined name; that the table does not define it is kept
+    pub halt-predefined : {b : ℕ} → predefinedOf name ≡ predefined (b ∷ []) → binding list pool name ≡ predefined (b ∷ []) → {new after : List ℕ}
+        → new ≡ set old (p .len) b → Noted seen b after → HaltKeeps level (r .base) p old seen new after (Next (end + 1) 1 (p .openings))
+    unfolding boundTo
+    halt-predefined {b} plain e {new} {after} w noted =
+        record {
+          past = (omega (arith, f .ends .from), omega (arith, f .inside));
+          buffer = adds .buffer;
+          words = noted-length noted;
+          goes = λ v whole begun x k.
+              came-on level v whole begun k (b ∷ [])
+              (left-done level (p .at) (p .openings) (end + 1) (p .openings) (b ∷ []) inside
+              (next-named (eqb (r .how) 1) t (p .at) end (f .amp) (f .ends) (f .inside) (f .no-number)) (given (p .openings))) refl
+              (adds .fits (k .value) whole (k .size) (k .fitted))
+              (memory-noted reads list pool (memory-more reads list pool (k .memory) (b ∷ [])) name (f .no-amp) plain e noted)
+              (omega (arith, f .inside)) (le-refl _) (k .within) (omega (arith, f .ends .from));
+        }
+      where
+        adds : Adds (b ∷ []) (p .len) old new
+        adds = subst (Adds (b ∷ []) (p .len) old) (sym w) (adds-byte b (p .len) old)
+
+        itself : (n : ℕ) → walk reads (reads .inner) (r .depth - 1) (b ∷ []) n ≡ done (b ∷ []) n
+        itself n =
+            ap (λ (h : Heads). walk reads h (r .depth - 1) (b ∷ []) n) (call-inner (ruleBy (r .inner)) list pool (r .limit))
+            ∙ walk-predefined reads (eqb (r .inner) 1) list pool name (r .depth - 1) b n (f .no-amp) e
+
+        given : (n : ℕ) → outcomeOf (stopAnswer reads (r .depth)) (tokenOf (headAt (attributeHead (ruleBy (r .how))) t (p .at))) n ≡ done (b ∷ []) n
+        given n =
+            at-predefined (eqb (r .how) 1) reads legal (r .depth) deep t (p .at) n end (f .amp) (f .ends) (f .inside) (f .no-number) (binding list pool name) bind pool b
+            (rw (f .no-amp, e)) (λ x y. itself n)
+
+-- ---- line ends
+
+-- a CR is a line end
+line-cr : (newer : Bool) (b : ℕ) (bs : List ℕ) → b ≡ 13 → lineEnd (ruleFor newer) (b ∷ bs) ≢ 0
+line-cr newer b bs e z = go newer (begins (10 ∷ []) bs) refl (begins (0xC2 ∷ 0x85 ∷ []) bs) refl z
+  where
+    go : (n x : Bool) → begins (10 ∷ []) bs ≡ x → (y : Bool) → begins (0xC2 ∷ 0x85 ∷ []) bs ≡ y → lineEnd (ruleFor n) (b ∷ bs) ≡ 0 → ⊥
+    go n true p y q k = omega (arith, k, cr-lf b bs n e p)
+    go false false p y q k = omega (arith, k, cr-alone10 b bs e p)
+    go true false p true q k = omega (arith, k, cr-nel b bs e p q)
+    go true false p false q k = omega (arith, k, cr-alone11 b bs e p q)
+
+some-of : (a b c d e f : Bool) → (e || f) ≡ true → _≢_ {A = ℕ} (pick a 2 (pick b 3 (pick c 1 (pick d 1 (pick e 2 (pick f 3 0)))))) 0
+some-of true b c d e f h z = omega (arith, z)
+some-of false true c d e f h z = omega (arith, z)
+some-of false false true d e f h z = omega (arith, z)
+some-of false false false true e f h z = omega (arith, z)
+some-of false false false false true f h z = omega (arith, z)
+some-of false false false false false true h z = omega (arith, z)
+some-of false false false false false false h z = true≢false (sym h)
+
+-- a halt other than `&` is one
+halt-line : (newer : Bool) (b : ℕ) (bs : List ℕ) → halts newer (b ∷ bs) ≡ true → b ≢ 38 → lineEnd (ruleFor newer) (b ∷ bs) ≢ 0
+unfolding lineEnd
+halt-line newer b bs h amp = go newer (eqb b 13) refl (rw (ne-eqb b 38 amp) at h)
+  where
+    go : (n x : Bool) → eqb b 13 ≡ x → (x || (n && (begins (0xC2 ∷ 0x85 ∷ []) (b ∷ bs) || begins (0xE2 ∷ 0x80 ∷ 0xA8 ∷ []) (b ∷ bs)))) ≡ true → lineEnd (ruleFor n) (b ∷ bs) ≢ 0
+    go n true e k = line-cr n b bs (eqb-true b 13 e)
+    go false false e k = absurd (true≢false (sym k))
+    go true false e k =
+        some-of (begins (13 ∷ 10 ∷ []) (b ∷ bs)) (begins (13 ∷ 0xC2 ∷ 0x85 ∷ []) (b ∷ bs)) (begins (13 ∷ []) (b ∷ bs)) (begins (10 ∷ []) (b ∷ bs))
+        (begins (0xC2 ∷ 0x85 ∷ []) (b ∷ bs)) (begins (0xE2 ∷ 0x80 ∷ 0xA8 ∷ []) (b ∷ bs)) k
+
+-- and no TAB
+halt-no-tab : (newer : Bool) (b : ℕ) (bs : List ℕ) → halts newer (b ∷ bs) ≡ true → b ≢ 9
+halt-no-tab newer b bs h e = go newer (subst (λ (x : ℕ). halts newer (x ∷ bs) ≡ true) e h)
+  where
+    go : (n : Bool) → halts n (9 ∷ bs) ≡ true → ⊥
+    go true k = true≢false (sym k)
+    go false k = true≢false (sym k)
+
+module _ (r : Reading) (t list pool : List ℕ) (p : Place) (deep : r .depth ≢ 0) (old seen : List ℕ) (inside : p .at < length t)
+    (h : halts (eqb (r .how) 1) (drop (p .at) t) ≡ true) (amp : getD t (p .at) 0 ≢ 38) {w : ℕ} (e : w ≡ lineEnd (ruleFor (eqb (r .how) 1)) (drop (p .at) t)) where
+  here : halts (eqb (r .how) 1) (getD t (p .at) 0 ∷ drop (p .at + 1) t) ≡ true
+  here = subst (λ (x : List ℕ). halts (eqb (r .how) 1) x ≡ true) (at-head t (p .at) inside) h
+
+  pub halt-width : Blank (ruleBy (r .how)) t (p .at) (record { byte = 32; width = w })
+  halt-width =
+      blank-line (eqb (r .how) 1) t (p .at) inside amp (halt-no-tab (eqb (r .how) 1) (getD t (p .at) 0) (drop (p .at + 1) t) here) e
+      (λ z. halt-line (eqb (r .how) 1) (getD t (p .at) 0) (drop (p .at + 1) t) here amp (sym (ap (lineEnd (ruleFor (eqb (r .how) 1))) (at-head t (p .at) inside)) ∙ sym e ∙ z))
+
+  -- a space for it
+  pub halt-blank : {new : List ℕ} → new ≡ set old (p .len) 32 → HaltKeeps (levelOf r list pool t) (r .base) p old seen new seen (Next (p .at + w) 1 (p .openings))
+  halt-blank {new} q =
+      let adds = subst (Adds (32 ∷ []) (p .len) old) (sym q) (adds-byte 32 (p .len) old) in
+      record {
+        past = (omega (arith, halt-width .some), halt-width .inside);
+        buffer = adds .buffer;
+        words = refl;
+        goes = λ v whole begun b c. came-blank r list pool t deep v whole begun c (record { byte = 32; width = w }) inside halt-width adds;
+      }
+
+-- ---- a table
+
+-- a text of the table is short
+pub refers-part : {list pool name : List ℕ} {command start last : ℕ} → RefersTo list pool name command start last → length (take (last - start) (drop start pool)) ≤ 65535
+refers-part {list} {pool} {name} {command} {start} {last} k = omega (arith, length-take (last - start) (drop start pool), k .ends, k .defines .short)
+
+pub valid-short : (list pool : List ℕ) → ValidTable list pool → length list ≤ 49153
+valid-short list pool e = go (ltb 49153 (length list)) refl
+  where
+    go : (x : Bool) → ltb 49153 (length list) ≡ x → length list ≤ 49153
+    go true q =
+        let z : Refused 6 0 0 ≡ Done (length (declarations list)) 0 = long-list list pool (ltb-true 49153 (length list) q) ∙ e in
+        let k : _≡_ {A = ℕ} 0 1 = cc in
+        absurd (omega (arith, k))
+    go false q = ltb-false 49153 (length list) q

@@ -1,0 +1,4 @@
+pub mod References
+pub mod Writing
+pub mod Halting
+pub mod Going

@@ -1,0 +1,126 @@
+-- What a reference means (`means-none`, `means-number`, `means-quick`, `means-amp`, `means-name`), by the places at which the code tells.
+-- Assumes nothing.
+use mathlib.Core.Path.{_≡_, refl, sym, ap, subst, _∙_}
+use mathlib.Core.Logic.{_≢_, inl, inr}
+use mathlib.Core.Bool.{Bool, true, false, true≢false}
+use mathlib.Core.List.{List, [], _∷_}
+use Prim.Native.Nat.{ℕ, _+_, _-_, _≤_, _<_}
+use native.Mathlib.Omega.{arith}
+use lib.Dec.{eqb}
+use lib.ListN.{length, getD, take, drop}
+use borrow.Author.Tests.{eqb-true, eqb-false}
+use types.Run.{OneOf}
+use denote.Enum.Declared.{tagOf}
+use Rattle.text.specs.Bytes.{sameBytes}
+use Rattle.text.specs.Version.{xml10}
+use Rattle.charref.specs.CharRef.{charNumber, anyCharacter, numberAnswer}
+use Rattle.charref.specs.Reading.{Found}
+use Rattle.charref.specs.declared.Quick.{Quick}
+use Rattle.charref.specs.declared.CharNumber.{CharNumber}
+use Rattle.charref.specs.declared.CharNumber.the-variants.{Char, UnexpectedSign, InvalidNumber, InvalidCodepoint, IllegalCharacter}
+use Rattle.charref.proofs.CharNumber.{the-type}
+use Rattle.charref.proofs.Encoding.{encode-1}
+use Rattle.charref.proofs.Numbers.{charNumber-character}
+use Rattle.eols.specs.Stops.{ruleFor}
+use Rattle.entity.specs.Binding.{Bound, boundTo}
+use Rattle.entity.specs.declared.Binding.the-variants.{Predefined}
+use Rattle.tokens.specs.Outcome.{done, numbered, numberOutcome}
+use Rattle.tokens.specs.Walking.{NameEnd, nextAt}
+use Rattle.tokens.proofs.Names.{closed-reference}
+use Rattle.tokens.proofs.Numbers.{number-done}
+use Rattle.attribute.specs.Heads.{attributeHead}
+use Rattle.attribute.specs.Walk.{Settings, readingOf}
+use Rattle.attribute.specs.Steps.{ampOr}
+use Rattle.attribute.proofs.Single.{at-none, at-number, at-predefined, next-offset}
+use Rattle.memory.proofs.Readings.{call-legal}
+use Rattle.flat.specs.Between.{Answers, nameOf, Means, handedTo, NumberMeans}
+use Rattle.flat.specs.declared.Meaning.{Meaning}
+use Rattle.flat.specs.declared.Meaning.the-variants.{Refused, Name}
+use Rattle.flat.specs.declared.Meaning.the-variants.{Char as Character}
+
+-- ---- a number
+
+pub number-char : (digits : List ℕ) (next : ℕ) {c : ℕ} → charNumber anyCharacter digits ≡ Char c → NumberMeans digits next (Character c next)
+number-char digits next {c} e = (refl, charNumber-character digits c e .most, λ n. number-done digits n e)
+
+-- every case but the first is a refusal
+handed-on : (n : CharNumber) → OneOf (1 ∷ 2 ∷ 3 ∷ 4 ∷ []) (tagOf the-type n) → (digits : List ℕ) (next : ℕ) → charNumber anyCharacter digits ≡ n
+    → NumberMeans digits next (handedTo (numberAnswer n))
+unfolding numberAnswer numberOutcome numbered
+handed-on (Char c) (inl e) digits next q = absurd (omega arith)
+handed-on (Char c) (inr (inl e)) digits next q = absurd (omega arith)
+handed-on (Char c) (inr (inr (inl e))) digits next q = absurd (omega arith)
+handed-on (Char c) (inr (inr (inr e))) digits next q = absurd (omega arith)
+handed-on UnexpectedSign k digits next q = λ n. rw q
+handed-on InvalidNumber k digits next q = λ n. rw q
+handed-on (InvalidCodepoint v) k digits next q = λ n. rw q
+handed-on IllegalCharacter k digits next q = λ n. rw q
+
+pub number-refused : (digits : List ℕ) (next : ℕ) {n : CharNumber} {r : Meaning} → charNumber anyCharacter digits ≡ n → OneOf (1 ∷ 2 ∷ 3 ∷ 4 ∷ []) (tagOf the-type n)
+    → r ≡ handedTo (numberAnswer n) → NumberMeans digits next r
+number-refused digits next {n} e k q = rw q (handed-on n k digits next e)
+
+-- ---- the reference whose `&` is at an offset
+
+module _ (t : List ℕ) (at : ℕ) (amp : getD t at 0 ≡ 38) {end : ℕ} (e : NameEnd false t (at + 1) end) where
+  pub means-none : end ≡ length t → Means t at (Refused 10 at end)
+  means-none q = λ newer s legal depth deep n. at-none newer s legal depth deep t at n end amp e q
+
+  module _ (h : end < length t) where
+    goes-to : (newer : Bool) → nextAt (attributeHead (ruleFor newer)) t at ≡ end + 1
+    goes-to newer =
+        let s : Settings = readingOf xml10 [] [] 0 in
+        next-offset newer s (call-legal xml10 [] [] 0) 1 (λ z. omega (arith, z)) t at 0 end amp e h
+
+    pub means-number : getD t (at + 1) 0 ≡ 35 → (r : Meaning) → NumberMeans (take (end - (at + 1 + 1)) (drop (at + 1 + 1) t)) (end + 1) r → Means t at r
+    means-number b (Character c after) m =
+        let to = m .0 in
+        record {
+          small = m .1;
+          on = omega (arith, to, e .from);
+          to = omega (arith, to, h);
+          next-is = λ newer. goes-to newer ∙ sym to;
+          given = λ newer s legal depth deep n. at-number newer s legal depth deep t at n end amp e h b ∙ m .2 n;
+        }
+    means-number b (Name x) m = absurd m
+    means-number b (Refused number first second) m = λ newer s legal depth deep n. at-number newer s legal depth deep t at n end amp e h b ∙ m n
+
+    module _ (b : getD t (at + 1) 0 ≢ 35) where
+      pub means-amp : sameBytes (nameOf t at end) (97 ∷ 109 ∷ 112 ∷ []) ≡ true → Means t at (Character 38 (end + 1))
+      unfolding boundTo
+      means-amp q =
+          record {
+            small = omega arith;
+            on = omega (arith, e .from);
+            to = omega (arith, h);
+            next-is = goes-to;
+            given = λ newer s legal depth deep n. given-amp newer s legal depth deep n ∙ ap (λ (x : List ℕ). done x n) (sym (encode-1 38 (omega arith)));
+          }
+        where
+          is-amp : (bound : Bound) → boundTo [] (Predefined 38) ≡ ampOr (nameOf t at end) bound
+          is-amp bound = rw q
+
+          given-amp : Answers t at (λ n. done (38 ∷ []) n)
+          given-amp newer s legal depth deep n =
+              at-predefined newer s legal depth deep t at n end amp e h b (s .bind (nameOf t at end)) refl [] 38 (is-amp (s .bind (nameOf t at end)))
+              (λ f g. absurd (true≢false (sym q ∙ f)))
+
+      pub means-name : sameBytes (nameOf t at end) (97 ∷ 109 ∷ 112 ∷ []) ≡ false → Means t at (Name end)
+      means-name q = record { amp = amp; ends = e; inside = h; no-number = b; no-amp = q }
+
+-- digits that end at the `;` by themselves
+pub means-quick : (t : List ℕ) (at : ℕ) → getD t at 0 ≡ 38 → (q : Quick) → getD t (at + 1) 0 ≡ 35 → Found t (at + 1 + 1) q → Means t at (Character (q .c) (q .end + 1))
+means-quick t at amp q b f =
+    let e = closed-reference false t b (f .closed) in
+    means-number t at amp e (f .closed .inside) b (Character (q .c) (q .end + 1))
+    (number-char (take (q .end - (at + 1 + 1)) (drop (at + 1 + 1) t)) (q .end + 1) (f .character))
+
+-- a name that begins with `#` has its end behind it
+pub past-hash : (t : List ℕ) (from end : ℕ) → NameEnd false t from end → end < length t → getD t from 0 ≡ 35 → from + 1 ≤ end
+past-hash t from end e h b = go (eqb end from) refl
+  where
+    go : (x : Bool) → eqb end from ≡ x → from + 1 ≤ end
+    go true q =
+        let z : getD t from 0 ≡ 59 = subst (λ (k : ℕ). getD t k 0 ≡ 59) (eqb-true end from q) (e .semicolon h) in
+        absurd (omega (arith, z, b))
+    go false q = omega (arith, eqb-false end from q, e .from)

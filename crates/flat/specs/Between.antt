@@ -1,0 +1,109 @@
+-- Between two openings: what a reference means, and what becomes of a halt. Terms in which code is proved. Assumes nothing.
+use Prim.Native.Nat.{ℕ, _+_, _-_, _*_, _≤_, _<_}
+use mathlib.Core.Path.{_≡_}
+use mathlib.Core.Logic.{_≢_}
+use mathlib.Core.Bool.{Bool, true, false}
+use mathlib.Core.List.{List, [], _∷_}
+use lib.ListN.{length, getD, take, drop}
+use Rattle.text.specs.Bytes.{sameBytes}
+use Rattle.text.specs.declared.Answer.{Answer}
+use Rattle.text.specs.declared.Answer.the-variants.{Done}
+use Rattle.text.specs.declared.Answer.the-variants.{Refused as Refusal}
+use Rattle.charref.specs.CharRef.{anyCharacter, encode}
+use Rattle.eols.specs.Stops.{ruleFor}
+use Rattle.entity.specs.Commands.{commandName, commandText, Defines}
+use Rattle.tokens.specs.Tokens.{named, stop, tokenOf}
+use Rattle.tokens.specs.Outcome.{Outcome, done, refused, numberOutcome}
+use Rattle.tokens.specs.Walking.{NameEnd, headAt, nextAt}
+use Rattle.attribute.specs.Heads.{attributeHead}
+use Rattle.attribute.specs.Walk.{Settings}
+use Rattle.attribute.specs.Steps.{outcomeAt}
+use Rattle.memory.specs.Levels.{ruleBy, Level, Came, Refuses, Opens}
+use Rattle.memory.specs.declared.Reading.{Reading}
+use Rattle.memory.specs.declared.Place.{Place}
+use Rattle.flat.specs.declared.Meaning.{Meaning}
+use Rattle.flat.specs.declared.Meaning.the-variants.{Char, Name, Refused}
+use Rattle.flat.specs.declared.Halted.{Halted}
+use Rattle.flat.specs.declared.Halted.the-variants.{Next, Opening, Paused, Stopped}
+
+-- ---- references
+
+-- the outcome of the `&` at an offset, under any rule, in every lenient reading and at every depth that is not used up
+abbrev pub Answers : List ℕ → ℕ → (ℕ → Outcome) → Type 0
+Answers text at outcome =
+    (newer : Bool) (s : Settings) → s .legal ≡ anyCharacter → (depth : ℕ) → depth ≢ 0 → (n : ℕ) → outcomeAt s (ruleFor newer) depth text at n ≡ outcome n
+
+-- the `&` at an offset stands for a character; what comes after it starts at `next`
+pub record ForChar (text : List ℕ) (at c next : ℕ) : Type 0 where
+  pub small : c ≤ 1114111
+  pub on : at + 2 ≤ next
+  pub to : next ≤ length text
+  pub next-is : (newer : Bool) → nextAt (attributeHead (ruleFor newer)) text at ≡ next
+  pub given : Answers text at (λ n. done (encode c) n)
+
+-- the name between `&` and `;`
+abbrev pub nameOf : List ℕ → ℕ → ℕ → List ℕ
+nameOf text at end = take (end - (at + 1)) (drop (at + 1) text)
+
+-- the `&` at an offset starts a reference to a name other than `amp`, up to the `;` at `end`
+pub record ForName (text : List ℕ) (at end : ℕ) : Type 0 where
+  pub amp : getD text at 0 ≡ 38
+  pub ends : NameEnd false text (at + 1) end
+  pub inside : end < length text
+  pub no-number : getD text (at + 1) 0 ≢ 35
+  pub no-amp : sameBytes (nameOf text at end) (97 ∷ 109 ∷ 112 ∷ []) ≡ false
+
+-- what a reference means besides a text
+abbrev pub Means : List ℕ → ℕ → Meaning → Type 0
+Means text at (Char c next) = ForChar text at c next
+Means text at (Name end) = ForName text at end
+Means text at (Refused number first second) = Answers text at (λ n. refused [] n number first second)
+
+-- Character numbers: the refusal passed upward as it came; of a character nothing is passed on
+abbrev pub handedTo : Answer → Meaning
+handedTo (Done first second) = Refused 0 first second
+handedTo (Refusal number first second) = Refused number first second
+
+-- a character number, with the text after `#`
+abbrev pub NumberMeans : List ℕ → ℕ → Meaning → Type 0
+NumberMeans digits next (Char c after) = (after ≡ next) × (c ≤ 1114111) × ((n : ℕ) → numberOutcome anyCharacter digits n ≡ done (encode c) n)
+NumberMeans digits next (Name end) = ⊥
+NumberMeans digits next (Refused number first second) = (n : ℕ) → numberOutcome anyCharacter digits n ≡ refused [] n number first second
+
+-- ---- a halt
+
+-- how far a halt goes; it pauses for want of a memory alone
+abbrev pub Past : ℕ → ℕ → List ℕ → Halted → Type 0
+Past size at seen (Next next len made) = (at < next) × (next ≤ size)
+Past size at seen (Opening next command slot) = (at < next) × (next ≤ size)
+Past size at seen Paused = length seen ≡ 0
+Past size at seen (Stopped number first second) = Unit {0}
+
+-- where a level stands after the halt at a place
+abbrev pub Goes : Level → List ℕ → List ℕ → ℕ → List ℕ → List ℕ → Place → Halted → Type 0
+Goes l v whole begun out words p (Next next len made) = Came l v whole begun out words next (p .len + len) made
+Goes l v whole begun out words p (Opening next command slot) = Opens l v whole begun out words (p .at) next command slot (p .len) (p .openings)
+Goes l v whole begun out words p Paused = Came l v whole begun out words (p .at) (p .len) (p .openings)
+Goes l v whole begun out words p (Stopped number first second) = Refuses l begun number first second
+
+-- of the steps at a halt
+pub record HaltKeeps (l : Level) (base : ℕ) (p : Place) (old seen new kept : List ℕ) (r : Halted) : Type 0 where
+  pub past : Past (length (l .text)) (p .at) seen r
+  pub buffer : length new ≡ length old
+  pub words : length kept ≡ length seen
+  pub goes : (v whole : List ℕ) (begun : ℕ) → length v ≡ base → Came l v whole begun old seen (p .at) (p .len) (p .openings) → Goes l v whole begun new kept p r
+
+-- what is known of a reference whose name is bound to the text of a command, before the text is had again, copied or opened
+pub record Referred (r : Reading) (text list pool : List ℕ) (p : Place) (command next : ℕ) (value : List ℕ) : Type 0 where
+  pub name : List ℕ
+  pub deep : r .depth ≢ 0
+  pub bytes : (k : ℕ) → getD list k 0 < 0x100
+  pub inside : p .at < length text
+  pub on : p .at < next
+  pub to : next ≤ length text
+  pub next-is : nextAt (attributeHead (ruleBy (r .how))) text (p .at) ≡ next
+  pub is : tokenOf (headAt (attributeHead (ruleBy (r .how))) text (p .at)) ≡ stop (named (p .at) name)
+  pub no-amp : sameBytes name (97 ∷ 109 ∷ 112 ∷ []) ≡ false
+  pub defines : Defines list pool command
+  pub same : sameBytes (commandName list pool command) name ≡ true
+  pub text-is : value ≡ commandText list pool command

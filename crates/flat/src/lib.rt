@@ -1,0 +1,424 @@
+// The walk between two openings: runs, line ends, characters, predefined names, texts that are kept, and short texts without halts.
+// Nothing here calls itself. A run is written byte by byte, TAB and LF as spaces; it ends at a halt (crate halts), and `halt_step` says
+// what becomes of that. What fits in the output is written, else nothing: a walk that counts lends a short one.
+ghost use mathlib.Core.Path.{_≡_};
+ghost use mathlib.Core.Logic.{_≢_};
+ghost use mathlib.Core.Bool.{true, false};
+ghost use mathlib.Core.List.{List};
+ghost use Prim.Native.Nat.{ℕ, _+_, _-_, _≤_, _<_};
+ghost use lib.Dec.{eqb};
+ghost use lib.ListN.{length, getD, take, drop};
+ghost use Rattle.charref.specs.CharRef.{encode};
+ghost use Rattle.halts.specs.Halts.{halts, Smooth, HaltAt, blanksSpaced};
+ghost use Rattle.entity.specs.Table.{ValidTable};
+ghost use Rattle.memory.specs.Levels.{Adds, Bounds, Lent, FlatKeeps, levelOf};
+ghost use Rattle.flat.specs.Between.{Means, ForName, handedTo, NumberMeans, HaltKeeps, Referred};
+use charref::CharNumber;
+use entity::Referent;
+use memory::Had;
+use memory::Place;
+use memory::Reached;
+use memory::Reading;
+use text::Answer;
+use text::refusals;
+
+// What a reference means besides a text: a character, or a refusal; or its name ends at `end`, and the table is asked.
+enum Meaning {
+    Char {
+        c: u32,
+        next: usize,
+    },
+    Name {
+        end: usize,
+    },
+    Refused {
+        number: u32,
+        first: u64,
+        second: u64,
+    },
+}
+
+// What became of a halt: the offset after it with the bytes added and the openings so far; a text to open; a pause for want of a
+// memory; or a refusal.
+enum Halted {
+    Next {
+        at: usize,
+        len: usize,
+        openings: u64,
+    },
+    Opening {
+        next: usize,
+        command: usize,
+        slot: usize,
+    },
+    Paused,
+    Stopped {
+        number: u32,
+        first: u64,
+        second: u64,
+    },
+}
+
+// ---- writing after the `len` bytes of this level's value
+
+// A run, its blanks as spaces.
+fn write_run(text: &[u8], from: usize, to: usize, len: usize, out: &mut [u8])
+    requires { ⌜ (from ≤ to) × (to ≤ length (now text)) × (length (now text) ≤ 16777216) × (len ≤ 0x1000000000000) ⌝ }
+    ensures { λ _. ⌜ Adds (blanksSpaced (take (to - from) (drop from (now (text .entry))))) len (now (out .entry)) (now (out .exit)) ⌝ }
+{
+    let n = to - from;
+    if n != 0 {
+        if len + n <= out.len() {
+            halts::put_spaced(&text[from..to], &mut out[len..]);
+        }
+    }
+}
+
+// A character above ASCII.
+fn write_wide(c: u32, len: usize, out: &mut [u8]) -> usize
+    requires { ⌜ (c ≤ 1114111) × (len ≤ 0x1000000000000) ⌝ }
+    ensures { λ r. ⌜ (r ≡ length (encode c)) × Adds (encode c) len (now (out .entry)) (now (out .exit)) ⌝ }
+{
+    let size = charref::utf8_length(c);
+    if len + size <= out.len() {
+        charref::encode_utf8(c, &mut out[len..]);
+    }
+    size
+}
+
+// A character. Most are ASCII.
+fn write_char(c: u32, len: usize, out: &mut [u8]) -> usize
+    requires { ⌜ (c ≤ 1114111) × (len ≤ 0x1000000000000) ⌝ }
+    ensures { λ r. ⌜ (r ≡ length (encode c)) × Adds (encode c) len (now (out .entry)) (now (out .exit)) ⌝ }
+{
+    if c < 0x80 {
+        output::put_byte(c as u8, len, out);
+        return 1;
+    }
+    write_wide(c, len, out)
+}
+
+// ---- references
+
+// A number's refusal, handed on.
+fn handed(a: Answer) -> Meaning
+    ensures { λ r. ⌜ r ≡ handedTo a ⌝ }
+{
+    match a {
+        Answer::Done { first, second } => Meaning::Refused {
+            number: 0,
+            first,
+            second,
+        },
+        Answer::Refused {
+            number,
+            first,
+            second,
+        } => Meaning::Refused {
+            number,
+            first,
+            second,
+        },
+    }
+}
+
+// A character reference with the text after `#`; what comes after it starts at `next`.
+fn number_meaning(digits: &[u8], next: usize) -> Meaning
+    ensures { λ r. ⌜ NumberMeans (now (digits .entry)) next r ⌝ }
+{
+    let n = charref::parse_number(digits);
+    let CharNumber::Char(c) = n else {
+        return handed(charref::answer_of(n));
+    };
+    Meaning::Char { c, next }
+}
+
+// The reference whose `&` is at `at`. Digits end at the `;` by themselves, so that most numbers need no search for it.
+fn read_reference(text: &[u8], at: usize) -> Meaning
+    requires { ⌜ (at < length (now text)) × (length (now text) ≤ 16777216) × (getD (now text) at 0 ≡ 38) ⌝ }
+    ensures { λ r. ⌜ Means (now (text .entry)) at r ⌝ }
+{
+    let from = at + 1;
+    let quick = tokens::quick_reference(text, from);
+    let c = quick.c;
+    if c != 0 {
+        return Meaning::Char {
+            c,
+            next: quick.end + 1,
+        };
+    }
+    let end = tokens::name_end(text, from, false);
+    if end == text.len() {
+        return Meaning::Refused {
+            number: refusals::UNTERMINATED_ENTITY,
+            first: at as u64,
+            second: end as u64,
+        };
+    }
+    if text[from] == b'#' {
+        return number_meaning(&text[from + 1..end], end + 1);
+    }
+    if entity::is_three(&text[from..end], b'a', b'm', b'p') {
+        return Meaning::Char {
+            c: 38,
+            next: end + 1,
+        };
+    }
+    Meaning::Name { end }
+}
+
+// ---- halts
+
+// Is it a short text without halts? It is copied where it is referred to, and needs no opening of its own.
+fn is_leaf(text: &[u8], newer: bool) -> bool
+    ensures { λ r. ⌜ (r ≡ true → Smooth newer (now (text .entry)) 0 (length (now (text .entry)))) ⌝ }
+{
+    if 64 < text.len() {
+        return false;
+    }
+    halts::next_halt(text, 0, newer) == text.len()
+}
+
+// A reference to the text of a command: kept, short and without halts, or one to open.
+fn text_step(
+    command: usize,
+    slot: usize,
+    value: &[u8],
+    next: usize,
+    place: Place,
+    reading: Reading,
+    seen: &mut [u64],
+    out: &mut [u8],
+) -> Halted
+    requires { ⌜ (command < 49153) × (slot < 16) × (length (now value) ≤ 65535) ⌝ }
+    requires { ⌜ (place .openings ≤ reading .limit) × (reading .limit ≤ 1000000) × (reading .base + place .len ≤ 0x1000000000000) ⌝ }
+    requires { ⌜ Bounds command slot (reading .limit) (reading .base + place .len) (now seen) ⌝ }
+    ensures { λ r. ⌜ ((text list pool : List ℕ) → Referred reading text list pool place command next (now (value .entry)) → HaltKeeps (levelOf reading list pool text) (reading .base) place (now (out .entry)) (now (seen .entry)) (now (out .exit)) (now (seen .exit)) r) ⌝ }
+{
+    if place.openings == reading.limit {
+        return Halted::Stopped {
+            number: refusals::TOO_MANY_OPENINGS,
+            first: place.at as u64,
+            second: 0,
+        };
+    }
+    if let Had::Again {
+        len: more,
+        openings: made,
+    } = memory::again(command, slot, reading, place, seen, out) {
+        return Halted::Next {
+            at: next,
+            len: more,
+            openings: made,
+        };
+    }
+    if reading.depth != 1 {
+        if is_leaf(value, reading.inner == 1) {
+            let n = value.len();
+            write_run(value, 0, n, place.len, out);
+            memory::keep(command, slot, 2, reading.base + place.len, n, 1, seen);
+            return Halted::Next {
+                at: next,
+                len: n,
+                openings: place.openings + 1,
+            };
+        }
+    }
+    Halted::Opening {
+        next,
+        command,
+        slot,
+    }
+}
+
+// A reference to a name, which ends at `end`: predefined, unknown, or a text of the table.
+fn named_step(
+    text: &[u8],
+    end: usize,
+    place: Place,
+    reading: Reading,
+    list: &[u8],
+    pool: &[u8],
+    seen: &mut [u64],
+    out: &mut [u8],
+) -> Halted
+    requires { ⌜ ValidTable (now list) (now pool) ⌝ }
+    requires { ⌜ (reading .depth ≢ 0) × (reading .limit ≤ 1000000) × (length (now text) ≤ 16777216) ⌝ }
+    requires { ⌜ ForName (now text) (place .at) end ⌝ }
+    requires { ⌜ Lent (levelOf reading (now list) (now pool) (now text)) (reading .base) (now out) (now seen) place ⌝ }
+    ensures { λ r. ⌜ HaltKeeps (levelOf reading (now (list .entry)) (now (pool .entry)) (now (text .entry))) (reading .base) place (now (out .entry)) (now (seen .entry)) (now (out .exit)) (now (seen .exit)) r ⌝ }
+{
+    let from = place.at + 1;
+    let slot = memory::slot_of(&text[from..end]);
+    match memory::refers_to(&text[from..end], slot, seen, list, pool) {
+        Referent::Text {
+            command,
+            start,
+            end: last,
+        } => text_step(
+            command,
+            slot,
+            &pool[start..last],
+            end + 1,
+            place,
+            reading,
+            seen,
+            out,
+        ),
+        Referent::Predefined(b) => {
+            memory::keep_plain(b, seen);
+            output::put_byte(b, place.len, out);
+            Halted::Next {
+                at: end + 1,
+                len: 1,
+                openings: place.openings,
+            }
+        }
+        Referent::Unknown => Halted::Stopped {
+            number: refusals::UNRECOGNIZED_ENTITY,
+            first: from as u64,
+            second: end as u64,
+        },
+    }
+}
+
+// The halt at a place. Without a memory the table is asked a few times, and a big one never.
+fn halt_step(
+    text: &[u8],
+    place: Place,
+    met: u64,
+    reading: Reading,
+    list: &[u8],
+    pool: &[u8],
+    seen: &mut [u64],
+    out: &mut [u8],
+) -> Halted
+    requires { ⌜ ValidTable (now list) (now pool) ⌝ }
+    requires { ⌜ (reading .depth ≢ 0) × (reading .limit ≤ 1000000) × (length (now text) ≤ 16777216) ⌝ }
+    requires { ⌜ (place .at < length (now text)) × (halts (eqb (reading .how) 1) (drop (place .at) (now text)) ≡ true) ⌝ }
+    requires { ⌜ Lent (levelOf reading (now list) (now pool) (now text)) (reading .base) (now out) (now seen) place ⌝ }
+    ensures { λ r. ⌜ HaltKeeps (levelOf reading (now (list .entry)) (now (pool .entry)) (now (text .entry))) (reading .base) place (now (out .entry)) (now (seen .entry)) (now (out .exit)) (now (seen .exit)) r ⌝ }
+{
+    let at = place.at;
+    let len = place.len;
+    if text[at] != b'&' {
+        let width = eols::eol_width(text, at, reading.how == 1);
+        output::put_byte(32, len, out);
+        return Halted::Next {
+            at: at + width,
+            len: 1,
+            openings: place.openings,
+        };
+    }
+    match read_reference(text, at) {
+        Meaning::Char { c, next } => {
+            let more = write_char(c, len, out);
+            Halted::Next {
+                at: next,
+                len: more,
+                openings: place.openings,
+            }
+        }
+        Meaning::Name { end } => {
+            if seen.len() == 0 {
+                if (16 <= met) | (128 <= list.len()) {
+                    return Halted::Paused;
+                }
+            }
+            named_step(text, end, place, reading, list, pool, seen, out)
+        }
+        Meaning::Refused {
+            number,
+            first,
+            second,
+        } => Halted::Stopped {
+            number,
+            first,
+            second,
+        },
+    }
+}
+
+// From a place on, whose next halt is at `first`, up to a text that has to be opened. The depth is not used up.
+pub fn normalize_flat(
+    text: &[u8],
+    place: Place,
+    first: usize,
+    reading: Reading,
+    list: &[u8],
+    pool: &[u8],
+    seen: &mut [u64],
+    out: &mut [u8],
+) -> Reached
+    requires { ⌜ ValidTable (now list) (now pool) ⌝ }
+    requires { ⌜ (reading .depth ≢ 0) × (reading .limit ≤ 1000000) × (length (now text) ≤ 16777216) ⌝ }
+    requires { ⌜ HaltAt (eqb (reading .how) 1) (now text) (place .at) first ⌝ }
+    requires { ⌜ Lent (levelOf reading (now list) (now pool) (now text)) (reading .base) (now out) (now seen) place ⌝ }
+    ensures { λ r. ⌜ FlatKeeps (levelOf reading (now (list .entry)) (now (pool .entry)) (now (text .entry))) (reading .base) place (now (out .entry)) (now (seen .entry)) (now (out .exit)) (now (seen .exit)) r ⌝ }
+{
+    let mut at = place.at;
+    let mut end = first;
+    let mut len = place.len;
+    let mut made = place.openings;
+    let mut met: u64 = 0;
+    loop {
+        write_run(text, at, end, len, out);
+        len += end - at;
+        if end == text.len() {
+            return Reached::End {
+                len,
+                openings: made,
+            };
+        }
+        let here = Place {
+            at: end,
+            len,
+            openings: made,
+        };
+        match halt_step(text, here, met, reading, list, pool, seen, out) {
+            Halted::Next {
+                at: next,
+                len: more,
+                openings: now_made,
+            } => {
+                at = next;
+                len += more;
+                made = now_made;
+            }
+            Halted::Opening {
+                next,
+                command,
+                slot,
+            } => {
+                return Reached::Opening {
+                    at: end,
+                    next,
+                    command,
+                    slot,
+                    len,
+                    openings: made,
+                };
+            }
+            Halted::Paused => {
+                return Reached::Paused {
+                    at: end,
+                    len,
+                    openings: made,
+                };
+            }
+            Halted::Stopped {
+                number,
+                first: a,
+                second,
+            } => {
+                return Reached::Stopped {
+                    number,
+                    first: a,
+                    second,
+                };
+            }
+        }
+        met += 1;
+        end = halts::next_halt(text, at, reading.how == 1);
+    }
+}
