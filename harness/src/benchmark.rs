@@ -17,6 +17,8 @@ use std::hint::black_box;
 use std::str::{from_utf8, from_utf8_unchecked};
 use std::time::{Duration, Instant};
 
+pub use entities::{ours, rust_canonical, rust_normalize, Ours, TableRule, Tables, GROWTH};
+
 const ROUNDS: usize = 100;
 /// One sample takes at least this long, far above the clock's grain.
 const SAMPLE: Duration = Duration::from_millis(2);
@@ -265,7 +267,7 @@ fn output_row(
 }
 
 /// A result, and the second answer word.
-type Made = (Cow<'static, str>, u64);
+pub type Made = (Cow<'static, str>, u64);
 
 /// Our output is allocated once; the Rust's side makes a `Cow` each time, as it has to, and copies it to such an output: a caller in C
 /// has its result there from both.
@@ -420,7 +422,7 @@ fn pieces_of(words: &mut [u64; 2], check: impl Fn() -> &'static str) -> u32 {
 }
 
 /// Letters, with the pieces in turn at each multiple of the distance; of exactly the size.
-fn letters_with(pieces: &[&str], distance: usize, size: usize) -> Vec<u8> {
+pub fn letters_with(pieces: &[&str], distance: usize, size: usize) -> Vec<u8> {
     let mut text = Vec::with_capacity(size);
     let mut turn = pieces.iter().cycle();
     let mut next = distance / 2;
@@ -501,7 +503,7 @@ fn text_row(
 }
 
 /// One run: the number is returned, the answer words are written.
-trait Once: FnMut(&mut [u64; 2]) -> u32 + 'static {}
+pub trait Once: FnMut(&mut [u64; 2]) -> u32 + 'static {}
 impl<F: FnMut(&mut [u64; 2]) -> u32 + 'static> Once for F {}
 
 fn row(
@@ -525,7 +527,7 @@ fn row(
 }
 
 /// The text at a multiple of ALIGNMENT. It stays to the end of the program, as the rows do.
-fn aligned(text: &[u8]) -> &'static [u8] {
+pub fn aligned(text: &[u8]) -> &'static [u8] {
     let memory = vec![0; text.len() + ALIGNMENT].leak();
     let start = memory.as_ptr().align_offset(ALIGNMENT);
     memory[start..start + text.len()].copy_from_slice(text);

@@ -11,6 +11,7 @@ mod differential;
 mod fuzz;
 mod hex;
 mod inputs;
+mod instructions;
 mod library;
 mod oracle;
 mod random;
@@ -28,6 +29,7 @@ harness differential [--calls A,B] [--seed N] [--minutes M]   compare every call
 harness self-test [--calls A,B]                               check that wrong libraries are caught
 harness stored [--calls A,B] [FILE]                           write a sample of the Rust's answers
 harness benchmark [--calls A,B]                               measure every call against the Rust
+harness instructions [--calls A,B] [--rows PART] [--before FILE]   count both sides' instructions (valgrind)
 harness corpus FOLDER                                         print those of a fuzzer's inputs that are kept
 harness fuzz OPTIONS                                          run libFuzzer (where it is built in: ../scripts/fuzz)";
 
@@ -68,6 +70,7 @@ fn run(words: &[&str]) -> Option<bool> {
             benchmark::run(&calls);
             Some(true)
         }
+        ("instructions", options) => instructions(&calls, options),
         _ => None,
     }
 }
@@ -84,6 +87,22 @@ fn differential(calls: &[&Call], options: &[&str]) -> Option<bool> {
     }
     let time = Duration::try_from_secs_f64(minutes * 60.0).ok()?;
     Some(differential::run(calls, seed, time))
+}
+
+fn instructions(calls: &[&Call], options: &[&str]) -> Option<bool> {
+    let (mut part, mut before) = ("", None);
+    for option in options.chunks(2) {
+        match option {
+            ["--rows", name] => part = name,
+            ["--before", file] => before = Some(*file),
+            [instructions::UNDER_CALLGRIND] => {
+                instructions::run_under_callgrind(calls, part);
+                return Some(true);
+            }
+            _ => return None,
+        }
+    }
+    Some(passed(instructions::run(calls, part, before)))
 }
 
 fn store(calls: &[&Call], file: &str) -> io::Result<()> {

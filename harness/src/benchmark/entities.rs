@@ -7,22 +7,23 @@ use crate::inputs::table::Draft;
 use crate::inputs::MEBIBYTE;
 use crate::library::{self, Cursor, Lent};
 use crate::oracle::entities::{DEEPEST, MOST_OPENINGS};
-use crate::oracle::source::{escape, XmlVersion};
+use crate::oracle::source::escape::{self, EscapeError};
+use crate::oracle::source::XmlVersion;
 use crate::table::{look_up, Definition, Meaning, Table};
 use std::hint::black_box;
 
 /// The longest result is so many times its text.
-const GROWTH: usize = 16;
+pub const GROWTH: usize = 16;
 
 /// A table for both sides.
 #[derive(Clone, Copy)]
-struct Tables {
-    lent: Table<'static>,
-    read: &'static [Definition<'static>],
+pub struct Tables {
+    pub lent: Table<'static>,
+    pub read: &'static [Definition<'static>],
 }
 
 impl Tables {
-    fn new(draft: Draft) -> Self {
+    pub fn new(draft: Draft) -> Self {
         let lent = Box::leak(Box::new(draft)).table();
         let read = lent.definitions().expect("a sound table").leak();
         Tables { lent, read }
@@ -31,12 +32,18 @@ impl Tables {
 
 /// A call of ours, a type of its own for each: compiled into the loop that repeats it, as a C caller's is, so that nothing but the
 /// arguments is handed over.
-trait Ours: Fn(&Lent) -> u32 + Copy + 'static {}
+pub trait Ours: Fn(&Lent) -> u32 + Copy + 'static {}
 
 impl<F: Fn(&Lent) -> u32 + Copy + 'static> Ours for F {}
 
-fn ours(run: impl Ours, text: &'static [u8], version: u8, table: Table<'static>) -> impl Once {
-    let room = GROWTH * text.len();
+/// The output, and the scratch, have so many bytes.
+pub fn ours(
+    run: impl Ours,
+    text: &'static [u8],
+    version: u8,
+    table: Table<'static>,
+    room: usize,
+) -> impl Once {
     let (scratch, out) = (vec![0; room].leak(), vec![0; room].leak());
     move |words: &mut [u64; 2]| {
         let lent = Lent {
@@ -61,7 +68,7 @@ fn ours(run: impl Ours, text: &'static [u8], version: u8, table: Table<'static>)
 }
 
 /// What the Rust makes of a text under a version with a table.
-type TableRule = fn(&'static str, u8, &'static [Definition<'static>]) -> Made;
+pub type TableRule = fn(&'static str, u8, &[Definition<'static>]) -> Result<Made, EscapeError>;
 
 fn table_row(
     call: &str,
@@ -72,8 +79,8 @@ fn table_row(
     (run, rule): (impl Ours, TableRule),
 ) -> Row {
     let (text, rule) = (aligned(text), black_box(rule));
-    let ours = ours(run, text, version, tables.lent);
-    let make = move |text| rule(text, version, tables.read);
+    let ours = ours(run, text, version, tables.lent, GROWTH * text.len());
+    let make = move |text| rule(text, version, tables.read).unwrap();
     writing_row(call, input, text, ours, make)
 }
 
@@ -99,7 +106,7 @@ pub fn check_table() -> Vec<Row> {
             0
         };
         let bytes = table.list.len() + table.pool.len();
-        let ours = ours(run, &[], 0, table);
+        let ours = ours(run, &[], 0, table, 0);
         row(
             "check_table",
             input,
@@ -145,13 +152,17 @@ pub fn unescape() -> Vec<Row> {
     rows
 }
 
-fn rust_unescape(text: &'static str, _: u8, definitions: &'static [Definition<'static>]) -> Made {
+fn rust_unescape(
+    text: &'static str,
+    _: u8,
+    definitions: &[Definition<'static>],
+) -> Result<Made, EscapeError> {
     let resolve = |name: &str| match look_up(definitions, name) {
         Meaning::Defined(text) => Some(text),
         Meaning::Predefined(text) => Some(text),
         Meaning::Nothing => None,
     };
-    (escape::unescape_with(text, resolve).unwrap(), 0)
+    Ok((escape::unescape_with(text, resolve)?, 0))
 }
 
 const NAMES: usize = 4000;
@@ -238,11 +249,11 @@ fn attribute_rows(calls: [&str; 2], sides: (impl Ours, TableRule)) -> Vec<Row> {
 }
 
 /// Counts the openings too.
-fn rust_normalize(
+pub fn rust_normalize(
     text: &'static str,
     version: u8,
-    definitions: &'static [Definition<'static>],
-) -> Made {
+    definitions: &[Definition<'static>],
+) -> Result<Made, EscapeError> {
     let version = match version {
         2 => XmlVersion::Explicit1_1,
         _ => XmlVersion::Explicit1_0,
@@ -257,16 +268,16 @@ fn rust_normalize(
         Meaning::Nothing => None,
     };
     let depth = DEEPEST as usize;
-    let value = version.normalize_attribute_value(text, depth, resolve);
-    (value.unwrap(), openings)
+    let value = version.normalize_attribute_value(text, depth, resolve)?;
+    Ok((value, openings))
 }
 
 /// No value here holds what only our writer escapes under 1.1.
-fn rust_canonical(
+pub fn rust_canonical(
     text: &'static str,
     version: u8,
-    definitions: &'static [Definition<'static>],
-) -> Made {
-    let (value, openings) = rust_normalize(text, version, definitions);
-    (escape::escape_attribute(value), openings)
+    definitions: &[Definition<'static>],
+) -> Result<Made, EscapeError> {
+    let (value, openings) = rust_normalize(text, version, definitions)?;
+    Ok((escape::escape_attribute(value), openings))
 }

@@ -53,7 +53,7 @@ fn unescaped(arguments: &Arguments) -> Result<Made, Answer> {
     })
 }
 
-fn walk_refusal(error: EscapeError) -> Answer {
+pub fn walk_refusal(error: EscapeError) -> Answer {
     match error {
         EscapeError::UnterminatedEntity(rest) => range_refusal(10, rest),
         EscapeError::UnrecognizedEntity(name, _) => range_refusal(11, name),
