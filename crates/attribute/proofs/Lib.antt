@@ -3,13 +3,9 @@ pub mod Heads
 pub mod Values
 pub mod Stops
 pub mod Single
-pub mod Passed
-pub mod Whole
 pub mod Reread
 pub mod Deeper
 pub mod Checked
 pub mod Formed
 pub mod Shifted
-pub mod Known
-pub mod Outer
 mod Examples

@@ -1,9 +1,9 @@
--- The single step, return by return: what a stop stands for at a depth, and how far the step goes. Assumes nothing.
+-- What a stop stands for at a depth: a reference without an end, a number, a name, return by return. Assumes nothing.
 use mathlib.Core.Path.{_≡_, refl, sym, ap, _∙_}
 use mathlib.Core.Logic.{_≢_}
 use mathlib.Core.Bool.{Bool, true, false, true≢false}
 use mathlib.Core.List.{List, [], _∷_}
-use Prim.Native.Nat.{ℕ, zero, suc, _+_, _-_, _≤_, _<_}
+use Prim.Native.Nat.{ℕ, zero, suc, _+_, _-_, _<_}
 use native.Mathlib.Omega.{arith}
 use native.Mathlib.Numerals.{add-one}
 use lib.Dec.{eqb}
@@ -11,41 +11,22 @@ use lib.ListN.{length, getD, take, drop}
 use borrow.Author.Tests.{eq-eqb, ne-eqb, eqb-true, eqb-false}
 use Rattle.text.specs.Bytes.{pick, sameBytes}
 use Rattle.text.specs.Version.{Rule}
-use Rattle.text.specs.declared.Answer.{Answer}
-use Rattle.text.specs.declared.Answer.the-variants.{Done, Refused}
-use Rattle.charref.specs.CharRef.{anyCharacter, encode}
-use Rattle.charref.specs.Reading.{Found}
-use Rattle.charref.specs.declared.Quick.{Quick}
+use Rattle.charref.specs.CharRef.{anyCharacter}
 use Rattle.eols.specs.Stops.{ruleFor}
-use Rattle.eols.specs.declared.Step.{Step as Blanked}
 use Rattle.entity.specs.Table.{Body, inside, Declaration, nameOf, part, declarations}
 use Rattle.entity.specs.Binding.{Bound, text, predefined, unknown, predefinedOf, bodyBound, bindingIn, binding, boundTo}
-use Rattle.entity.specs.declared.Binding.{Binding}
 use Rattle.entity.specs.declared.Binding.the-variants.{Text, Predefined, Unknown}
 use Rattle.output.specs.Runs.{Plain}
 use Rattle.output.proofs.Runs.{plain-byte}
 use Rattle.tokens.specs.Tokens.{Token, copy, stop, Head, tokenOf, skipOf, nameAt, referenceAt, tokens}
-use Rattle.tokens.specs.Outcome.{Outcome, done, refused, run, answerOf, numberOutcome}
-use Rattle.tokens.specs.Walking.{NameEnd, headAt, nextAt, outcomeOf, stepOf, Stepped, Walked}
-use Rattle.tokens.specs.declared.Step.{Step}
-use Rattle.tokens.specs.declared.Step.the-variants.{Stopped}
-use Rattle.tokens.proofs.Names.{closed-reference}
-use Rattle.tokens.proofs.Numbers.{Small, number-small, number-written}
-use Rattle.tokens.proofs.Steps.{stepped-as, stepped-refused}
+use Rattle.tokens.specs.Outcome.{Outcome, done, refused, run, numberOutcome}
+use Rattle.tokens.specs.Walking.{NameEnd, headAt, nextAt, outcomeOf}
 use Rattle.tokens.proofs.Progress.{run-whole}
 use Rattle.tokens.proofs.References.{reference-none, reference-number, reference-named, name-size}
 use Rattle.attribute.specs.Heads.{attributeHead}
-use Rattle.attribute.specs.Walk.{Settings, opened, answer, exhausted, walk, reading, readingOf}
-use Rattle.attribute.specs.Steps.{stopByte, stopAnswer, outcomeAt, Blank, ampOr, stepFrom, Counted, CountedStep}
+use Rattle.attribute.specs.Walk.{Settings, opened, answer, exhausted, walk}
+use Rattle.attribute.specs.Steps.{stopByte, stopAnswer, outcomeAt, ampOr}
 use Rattle.attribute.proofs.Stops.{copies, IsStop, stop-head}
-
--- the walk over a replacement text as the step of its reference
-pub stepped-walked : {next : ℕ} {o : Outcome} {old new : List ℕ} {walked : Answer} {r : Step} → Walked o old new walked → r ≡ stepFrom next walked → Stepped next o old new r
-stepped-walked {next} {o} w e = record { answers = e ∙ ap (stepFrom next) (w .answers) ∙ told o; writes = w .writes }
-  where
-    told : (p : Outcome) → stepFrom next (answerOf p) ≡ stepOf next p
-    told (done value openings) = refl
-    told (refused before openings k first second) = refl
 
 -- ---- a stop at a depth
 
@@ -220,121 +201,3 @@ unfolding binding
 walk-predefined s newer list pool name depth c n no-amp e =
     walk-plain s newer depth (c ∷ []) n
     (plain-byte (stopByte newer) (c ∷ []) 0 (omega arith) (plain-predefined newer name c no-amp (bound-predefined (declarations list) pool name (c ∷ []) e)))
-
--- ---- how far a step goes
-
-pub counted-number : (size at openings limit end : ℕ) (digits old new : List ℕ) (r : Step) → at < end → end < size → openings ≤ limit
-    → Stepped (end + 1) (numberOutcome anyCharacter digits openings) old new r → CountedStep size at openings limit r
-counted-number size at openings limit end digits old new r h g l p =
-    rw (p .answers) (go (numberOutcome anyCharacter digits openings) (number-small anyCharacter digits openings))
-  where
-    go : (o : Outcome) → Small openings o → CountedStep size at openings limit (stepOf (end + 1) o)
-    go (done value made) k = (omega (arith, h), omega (arith, g), omega (arith, k .1), omega (arith, k .1, l), omega (arith, k .0, k .1, h))
-    go (refused before made k first second) x = tt
-
-pub counted-walked : (size at openings limit end a z : ℕ) (w : Answer) {r : Step} → at < end → end < size → a ≤ z → z ≤ a + 65535
-    → Counted (z - a) (openings + 1) limit w → r ≡ stepFrom (end + 1) w → CountedStep size at openings limit r
-counted-walked size at openings limit end a z (Done len made) h g l m k e =
-    rw e (omega (arith, h), omega (arith, g), omega (arith, k .0), k .1, omega (arith, k .2, k .0, l, m, h))
-counted-walked size at openings limit end a z (Refused k first second) h g l m x e = rw e tt
-
--- ---- a stop other than `&`, in any reading
-
-module _ (s : Settings) (newer : Bool) (depth : ℕ) (t : List ℕ) (at n : ℕ) where
-  pub zero-stepped : depth ≡ 0 → stopByte newer (getD t at 0) ≡ true → {old : List ℕ} {r : Step} → r ≡ Stopped 16 0 0
-      → Stepped (nextAt (attributeHead (ruleFor newer)) t at) (outcomeAt s (ruleFor newer) depth t at n) old old r
-  zero-stepped e b q = stepped-refused (at-zero s newer t at n depth e b) q
-
-  pub blank-stepped : depth ≢ 0 → {x : Blanked} → Blank (ruleFor newer) t at x → {old new : List ℕ} {r : Step}
-      → Stepped (at + x .width) (done (x .byte ∷ []) n) old new r
-      → Stepped (nextAt (attributeHead (ruleFor newer)) t at) (outcomeAt s (ruleFor newer) depth t at n) old new r
-  blank-stepped deep b p =
-      stepped-as (b .next)
-      (stop-deeper s depth deep (tokenOf (headAt (attributeHead (ruleFor newer)) t at)) n ∙ b .stands-for s (λ u m. walk s (s .inner) (depth - 1) u m) n)
-      p
-
--- ---- the returns of the code, in its reading
-
-module _ (newer : Bool) (list pool : List ℕ) (limit depth : ℕ) (t : List ℕ) (at n : ℕ) where
-  abbrev setting : Settings
-  setting = readingOf (ruleFor newer) list pool limit
-
-  abbrev Steps : List ℕ → List ℕ → Step → Type 0
-  Steps old new r = Stepped (nextAt (attributeHead (ruleFor newer)) t at) (outcomeAt setting (ruleFor newer) depth t at n) old new r
-
-  pub step-zero : depth ≡ 0 → stopByte newer (getD t at 0) ≡ true → {old : List ℕ} {r : Step} → r ≡ Stopped 16 0 0 → Steps old old r
-  step-zero = zero-stepped setting newer depth t at n
-
-  module _ (deep : depth ≢ 0) where
-    pub step-blank : {x : Blanked} → Blank (ruleFor newer) t at x → {old new : List ℕ} {r : Step} → Stepped (at + x .width) (done (x .byte ∷ []) n) old new r → Steps old new r
-    step-blank = blank-stepped setting newer depth t at n deep
-
-    module _ (end : ℕ) (amp : getD t at 0 ≡ 38) (e : NameEnd false t (at + 1) end) where
-      any : setting .legal ≡ anyCharacter
-      unfolding readingOf reading
-      any = refl
-
-      pub step-none : end ≡ length t → {old : List ℕ} {r : Step} → r ≡ Stopped 10 at end → Steps old old r
-      step-none q p = stepped-refused (at-none newer setting any depth deep t at n end amp e q) p
-
-      module _ (h : end < length t) where
-        goes-to : nextAt (attributeHead (ruleFor newer)) t at ≡ end + 1
-        goes-to = next-offset newer setting any depth deep t at n end amp e h
-
-        pub step-number : getD t (at + 1) 0 ≡ 35 → {old new : List ℕ} {r : Step}
-            → Stepped (end + 1) (numberOutcome anyCharacter (take (end - (at + 1 + 1)) (drop (at + 1 + 1) t)) n) old new r → Steps old new r
-        step-number b s = stepped-as goes-to (at-number newer setting any depth deep t at n end amp e h b) s
-
-        module _ (b : getD t (at + 1) 0 ≢ 35) (x : Binding)
-            (same : boundTo pool x ≡ ampOr (take (end - (at + 1)) (drop (at + 1) t)) (binding list pool (take (end - (at + 1)) (drop (at + 1) t)))) where
-          abbrev called : List ℕ
-          called = take (end - (at + 1)) (drop (at + 1) t)
-
-          bound-is : setting .bind called ≡ binding list pool called
-          unfolding readingOf reading
-          bound-is = refl
-
-          pub step-limit : (a z : ℕ) → x ≡ Text a z → n ≡ limit → {old : List ℕ} {r : Step} → r ≡ Stopped 17 at 0 → Steps old old r
-          unfolding readingOf reading
-          step-limit a z k q p =
-              stepped-refused (at-limit newer setting any depth deep t at n end amp e h b (binding list pool called) bound-is pool a z (sym (ap (boundTo pool) k) ∙ same) q) p
-
-          pub step-text : (a z : ℕ) → x ≡ Text a z → n ≢ limit → {old new : List ℕ} {w : Answer} {r : Step}
-              → Walked (walk setting (attributeHead (ruleFor newer)) (depth - 1) (take (z - a) (drop a pool)) (n + 1)) old new w → r ≡ stepFrom (end + 1) w → Steps old new r
-          unfolding readingOf reading
-          step-text a z k q w p =
-              stepped-as goes-to
-              (at-text newer setting any depth deep t at n end amp e h b (binding list pool called) bound-is pool a z (sym (ap (boundTo pool) k) ∙ same) q)
-              (stepped-walked w p)
-
-          -- a replacement text without stops, copied
-          pub step-plain : (a z : ℕ) → x ≡ Text a z → n ≢ limit → Plain (stopByte newer) (take (z - a) (drop a pool)) 0 (length (take (z - a) (drop a pool)))
-              → {old new : List ℕ} {r : Step} → Stepped (end + 1) (done (take (z - a) (drop a pool)) (n + 1)) old new r → Steps old new r
-          unfolding readingOf reading
-          step-plain a z k q p s =
-              stepped-as goes-to
-              (at-text newer setting any depth deep t at n end amp e h b (binding list pool called) bound-is pool a z (sym (ap (boundTo pool) k) ∙ same) q
-              ∙ walk-plain setting newer (depth - 1) (take (z - a) (drop a pool)) (n + 1) p)
-              s
-
-          pub step-unknown : x ≡ Unknown → {old : List ℕ} {r : Step} → r ≡ Stopped 11 (at + 1) end → Steps old old r
-          step-unknown k p =
-              stepped-refused (at-unknown newer setting any depth deep t at n end amp e h b (binding list pool called) bound-is pool (sym (ap (boundTo pool) k) ∙ same)) p
-
-          pub step-predefined : (c : ℕ) → x ≡ Predefined c → {old new : List ℕ} {r : Step} → Stepped (end + 1) (done (c ∷ []) n) old new r → Steps old new r
-          unfolding readingOf reading
-          step-predefined c k s =
-              stepped-as goes-to
-              (at-predefined newer setting any depth deep t at n end amp e h b (binding list pool called) bound-is pool c (sym (ap (boundTo pool) k) ∙ same)
-              (λ m q. walk-predefined setting newer list pool called (depth - 1) c n m q))
-              s
-
-    -- a character that is found at once
-    pub step-char : (q : Quick) → getD t at 0 ≡ 38 → getD t (at + 1) 0 ≡ 35 → Found t (at + 1 + 1) q → n ≤ limit → {old new : List ℕ} {r : Step}
-        → Stepped (q .end + 1) (done (encode (q .c)) n) old new r → Steps old new r × CountedStep (length t) at n limit r
-    step-char q amp b f l {old} {new} {r} s =
-        let digits = take (q .end - (at + 1 + 1)) (drop (at + 1 + 1) t) in
-        let p : Stepped (q .end + 1) (numberOutcome anyCharacter digits n) old new r = number-written digits (q .end + 1) n (f .character) s in (
-          step-number (q .end) amp (closed-reference false t b (f .closed)) (f .closed .inside) b p,
-          counted-number (length t) at n limit (q .end) digits old new r (omega (arith, f .closed .past)) (f .closed .inside) l p,
-        )

@@ -1,10 +1,10 @@
 -- The terms in which the attribute walk's code is proved: stop bytes, blanks, a stop at a depth. Assumes nothing.
-use Prim.Native.Nat.{ℕ, zero, suc, _+_, _-_, _*_, _≤_, _<_}
+use Prim.Native.Nat.{ℕ, zero, suc, _+_, _-_, _≤_}
 use mathlib.Core.Path.{_≡_}
 use mathlib.Core.Bool.{Bool, _&&_, _||_}
 use mathlib.Core.List.{List, [], _∷_}
 use lib.Dec.{eqb}
-use lib.ListN.{length, take, drop}
+use lib.ListN.{length}
 use Rattle.text.specs.Bytes.{pick, sameBytes}
 use Rattle.text.specs.Version.{Rule}
 use Rattle.eols.specs.declared.Step.{Step}
@@ -13,9 +13,8 @@ use Rattle.text.specs.declared.Answer.{Answer}
 use Rattle.text.specs.declared.Answer.the-variants.{Done, Refused}
 use Rattle.tokens.specs.declared.Step.{Step as Onward}
 use Rattle.tokens.specs.declared.Step.the-variants.{Next, Stopped}
-use Rattle.tokens.specs.Tokens.{Stop, tokenOf, tokens}
-use Rattle.tokens.specs.Outcome.{Outcome, done, prepend, run}
-use Rattle.tokens.specs.Memory.{Walk}
+use Rattle.tokens.specs.Tokens.{Stop, tokenOf}
+use Rattle.tokens.specs.Outcome.{Outcome, done}
 use Rattle.tokens.specs.Walking.{headAt, nextAt, outcomeOf}
 use Rattle.attribute.specs.Heads.{attributeHead}
 use Rattle.attribute.specs.Walk.{Settings, answer, exhausted, walk}
@@ -50,25 +49,3 @@ ampOr name bound = pick (sameBytes name (97 ∷ 109 ∷ 112 ∷ [])) (predefined
 abbrev pub stepFrom : ℕ → Answer → Onward
 stepFrom next (Done first second) = Next next first second
 stepFrom next (Refused number first second) = Stopped number first second
-
--- So that no sum overflows: at most four bytes for each byte of the text, and as much for each of 65,535 bytes of an opening.
-abbrev pub Counted : ℕ → ℕ → ℕ → Answer → Type 0
-Counted size openings limit (Done len made) = (openings ≤ made) × (made ≤ limit) × (len + 262140 * openings ≤ 4 * size + 262140 * made)
-Counted size openings limit (Refused number first second) = Unit {0}
-
-abbrev pub CountedStep : ℕ → ℕ → ℕ → ℕ → Onward → Type 0
-CountedStep size at openings limit (Next next len made) =
-    (at < next) × (next ≤ size) × (openings ≤ made) × (made ≤ limit) × (len + 4 * at + 262140 * openings ≤ 4 * next + 262140 * made)
-CountedStep size at openings limit (Stopped number first second) = Unit {0}
-
--- how the text of a call is walked at a depth
-abbrev pub walking : Settings → Rule → ℕ → ℕ → Walk
-walking s r depth limit =
-    record { at = attributeHead r; answer = stopAnswer s depth; limit = limit; most = λ width opened. 4 * width + 262140 * opened }
-
--- the bytes from `i` up to `e` are their own value at the depth, whatever comes after them
-pub record Passed (r : Rule) (depth : ℕ) (text : List ℕ) (i e : ℕ) : Type 0 where
-  pub from : i ≤ e
-  pub to : e ≤ length text
-  pub same : (s : Settings) (n : ℕ) → run (stopAnswer s depth) (tokens (attributeHead r) i 0 (drop i text)) n
-      ≡ prepend (take (e - i) (drop i text)) (run (stopAnswer s depth) (tokens (attributeHead r) e 0 (drop e text)) n)

@@ -249,6 +249,7 @@ fn named_step(
     ensures { λ r. ⌜ HaltKeeps (levelOf reading (now (list .entry)) (now (pool .entry)) (now (text .entry))) (reading .base) place (now (out .entry)) (now (seen .entry)) (now (out .exit)) (now (seen .exit)) r ⌝ }
 {
     let from = place.at + 1;
+    let made = place.openings;
     let slot = memory::slot_of(&text[from..end]);
     match memory::refers_to(&text[from..end], slot, seen, list, pool) {
         Referent::Text {
@@ -271,7 +272,7 @@ fn named_step(
             Halted::Next {
                 at: end + 1,
                 len: 1,
-                openings: place.openings,
+                openings: made,
             }
         }
         Referent::Unknown => Halted::Stopped {

@@ -220,7 +220,7 @@ pub extern "C" fn govlezna_normalize_attribute_value(
         return put(walk_checked, answer);
     };
     put(
-        attribute::normalize_attribute_value(text, version, depth, limit, list, pool, out),
+        normalize::normalize_attribute_value(text, version, depth, limit, list, pool, out),
         answer,
     )
 }
@@ -249,7 +249,7 @@ pub extern "C" fn govlezna_canonical_form(
         return put(form_checked, answer);
     };
     put(
-        attribute::canonical_form(text, version, depth, limit, list, pool, scratch, out),
+        normalize::canonical_form(text, version, depth, limit, list, pool, scratch, out),
         answer,
     )
 }

@@ -1,0 +1,4 @@
+pub mod Exhausted
+pub mod Cycle
+pub mod Held
+pub mod Texts

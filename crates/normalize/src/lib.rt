@@ -1,0 +1,503 @@
+// The calls over attribute values, and the cycle below them: a walker over a text, and the single step that opens a text of the
+// table and has it walked. All else that stops a walk is answered between two openings (crate flat), by functions that call
+// neither. Normalization and the canonical form have one code path for both versions.
+ghost use mathlib.Core.Path.{_≡_};
+ghost use mathlib.Core.List.{[], _∷_};
+ghost use Prim.Native.Nat.{_≤_};
+ghost use lib.Dec.{eqb};
+ghost use lib.ListN.{length};
+ghost use Rattle.text.specs.Call.{callOf, finish, laid};
+ghost use Rattle.text.specs.Version.{ruleOf};
+ghost use Rattle.eols.specs.Stops.{ruleFor};
+ghost use Rattle.canonical.specs.Canonical.{canonical};
+ghost use Rattle.halts.specs.Halts.{HaltAt, blanksSpaced};
+ghost use Rattle.entity.specs.Table.{ValidTable};
+ghost use Rattle.entity.specs.Commands.{Defines};
+ghost use Rattle.tokens.specs.Outcome.{done, finished};
+ghost use Rattle.tokens.specs.Walking.{Ended};
+ghost use Rattle.attribute.specs.Heads.{attributeHead};
+ghost use Rattle.attribute.specs.Walk.{Settings, walk, normalize, readingOf};
+ghost use Rattle.attribute.specs.Form.{formed};
+ghost use Rattle.memory.specs.Levels.{settingsOf, levelOf, Lent, StepKeeps, StepsKeep};
+ghost use Rattle.normalize.specs.Calls.{Bottom, Openable, LentInner, Walkable, walkOf, Walks, WalksOn};
+use memory::Place;
+use memory::Reached;
+use memory::Reading;
+use text::Answer;
+use text::refusals;
+use tokens::Step;
+
+// ---- the cycle
+
+// A text at depth 0: refused where there is any stop, else its own value.
+fn bottom_step(text: &[u8], newer: bool, next: usize, openings: u64, out: &mut [u8]) -> Step
+    ensures { λ r. ⌜ ((s : Settings) → Bottom (walk s (attributeHead (ruleFor newer)) 0 (now (text .entry)) openings) next (now (out .entry)) (now (out .exit)) r) ⌝ }
+{
+    if halts::has_stop(text, newer) {
+        return Step::Stopped {
+            number: refusals::TOO_DEEP,
+            first: 0,
+            second: 0,
+        };
+    }
+    let n = text.len();
+    if n <= out.len() {
+        output::put_run(text, out);
+    }
+    Step::Next {
+        at: next,
+        len: n,
+        openings,
+    }
+}
+
+// The step that opens the text of a command, at the end of whose reference the place is: the text is walked with the depth one less.
+fn normalize_attr_step(
+    command: usize,
+    place: Place,
+    reading: Reading,
+    list: &[u8],
+    pool: &[u8],
+    seen: &mut [u64],
+    out: &mut [u8],
+) -> Step
+    requires { ⌜ ValidTable (now list) (now pool) ⌝ }
+    requires { ⌜ Openable reading place (now seen) ⌝ }
+    requires { ⌜ Defines (now list) (now pool) command ⌝ }
+    requires { ⌜ LentInner reading place command (now list) (now pool) (now out) (now seen) ⌝ }
+    ensures { λ r. ⌜ StepKeeps (settingsOf reading (now (list .entry)) (now (pool .entry))) (now (list .entry)) (now (pool .entry)) (reading .depth) command (reading .base) place (now (out .entry)) (now (seen .entry)) (now (out .exit)) (now (seen .exit)) r ⌝ }
+{
+    let start = entity::text_start(list, command);
+    let end = start + entity::text_length(list, command);
+    let depth = reading.depth;
+    let next = place.at;
+    let openings = place.openings + 1;
+    if depth == 1 {
+        return bottom_step(&pool[start..end], reading.inner == 1, next, openings, out);
+    }
+    let begun = Place {
+        at: 0,
+        len: 0,
+        openings,
+    };
+    let below = Reading {
+        how: reading.inner,
+        inner: reading.inner,
+        depth: depth - 1,
+        limit: reading.limit,
+        base: reading.base + place.len,
+    };
+    match normalize_attr_steps(&pool[start..end], begun, below, list, pool, seen, out) {
+        Answer::Done { first: len, second } => Step::Next {
+            at: next,
+            len: len as usize,
+            openings: second,
+        },
+        Answer::Refused {
+            number,
+            first: a,
+            second,
+        } => Step::Stopped {
+            number,
+            first: a,
+            second,
+        },
+    }
+}
+
+// The walker: a text, outer or of the table, from a place on. It is lent a memory, so that nothing pauses for want of one.
+fn normalize_attr_steps(
+    text: &[u8],
+    begun: Place,
+    reading: Reading,
+    list: &[u8],
+    pool: &[u8],
+    seen: &mut [u64],
+    out: &mut [u8],
+) -> Answer
+    requires { ⌜ ValidTable (now list) (now pool) ⌝ }
+    requires { ⌜ Walkable reading (now text) ⌝ }
+    requires { ⌜ length (now seen) ≡ 84 ⌝ }
+    requires { ⌜ Lent (levelOf reading (now list) (now pool) (now text)) (reading .base) (now out) (now seen) begun ⌝ }
+    ensures { λ r. ⌜ StepsKeep (levelOf reading (now (list .entry)) (now (pool .entry)) (now (text .entry))) (reading .base) begun (now (out .entry)) (now (seen .entry)) (now (out .exit)) (now (seen .exit)) r ⌝ }
+{
+    let mut at = begun.at;
+    let mut len = begun.len;
+    let mut made = begun.openings;
+    loop {
+        let place = Place {
+            at,
+            len,
+            openings: made,
+        };
+        let first = halts::next_halt(text, at, reading.how == 1);
+        match flat::normalize_flat(text, place, first, reading, list, pool, seen, out) {
+            Reached::End { len: all, openings } => {
+                return Answer::Done {
+                    first: all as u64,
+                    second: openings,
+                };
+            }
+            Reached::Stopped {
+                number,
+                first: a,
+                second,
+            } => {
+                return Answer::Refused {
+                    number,
+                    first: a,
+                    second,
+                };
+            }
+            Reached::Paused {
+                at: from,
+                len: before,
+                openings,
+            } => {
+                at = from;
+                len = before;
+                made = openings;
+            }
+            Reached::Opening {
+                at: _,
+                next,
+                command,
+                slot,
+                len: before,
+                openings,
+            } => {
+                let rest = output::least(before, out.len());
+                let opened = Place {
+                    at: next,
+                    len: before,
+                    openings,
+                };
+                match normalize_attr_step(
+                    command,
+                    opened,
+                    reading,
+                    list,
+                    pool,
+                    seen,
+                    &mut out[rest..],
+                ) {
+                    Step::Next {
+                        at: after,
+                        len: more,
+                        openings: now_made,
+                    } => {
+                        memory::keep(
+                            command,
+                            slot,
+                            reading.depth,
+                            reading.base + before,
+                            more,
+                            now_made - openings,
+                            seen,
+                        );
+                        at = after;
+                        len = before + more;
+                        made = now_made;
+                    }
+                    Step::Stopped {
+                        number,
+                        first: a,
+                        second,
+                    } => {
+                        return Answer::Refused {
+                            number,
+                            first: a,
+                            second,
+                        };
+                    }
+                }
+            }
+        }
+    }
+}
+
+// ---- the walk over the text of a call
+
+// From a place on, with a new memory.
+fn normalize_opened(
+    text: &[u8],
+    begun: Place,
+    reading: Reading,
+    list: &[u8],
+    pool: &[u8],
+    out: &mut [u8],
+) -> Answer
+    requires { ⌜ ValidTable (now list) (now pool) ⌝ }
+    requires { ⌜ (reading .base ≡ 0) × Walkable reading (now text) ⌝ }
+    requires { ⌜ Lent (levelOf reading (now list) (now pool) (now text)) 0 (now out) [] begun ⌝ }
+    ensures { λ r. ⌜ WalksOn (levelOf reading (now (list .entry)) (now (pool .entry)) (now (text .entry))) begun [] (now (out .entry)) (now (out .exit)) r ⌝ }
+{
+    let mut seen = [0u64; 84];
+    normalize_attr_steps(text, begun, reading, list, pool, &mut seen, out)
+}
+
+// The walk over the text of a call, whose first halt is at `first`. Most texts open nothing, so that the memory is made late.
+fn normalize_text(
+    text: &[u8],
+    first: usize,
+    reading: Reading,
+    list: &[u8],
+    pool: &[u8],
+    out: &mut [u8],
+) -> Answer
+    requires { ⌜ ValidTable (now list) (now pool) ⌝ }
+    requires { ⌜ (reading .base ≡ 0) × Walkable reading (now text) ⌝ }
+    requires { ⌜ HaltAt (eqb (reading .how) 1) (now text) 0 first ⌝ }
+    ensures { λ r. ⌜ Walks (walkOf reading (now (list .entry)) (now (pool .entry)) (now (text .entry))) (now (out .entry)) (now (out .exit)) r ⌝ }
+{
+    let mut none = [0u64; 1];
+    let start = Place {
+        at: 0,
+        len: 0,
+        openings: 0,
+    };
+    match flat::normalize_flat(text, start, first, reading, list, pool, &mut none[..0], out) {
+        Reached::End { len, openings } => Answer::Done {
+            first: len as u64,
+            second: openings,
+        },
+        Reached::Stopped {
+            number,
+            first: a,
+            second,
+        } => Answer::Refused {
+            number,
+            first: a,
+            second,
+        },
+        Reached::Opening {
+            at,
+            next: _,
+            command: _,
+            slot: _,
+            len,
+            openings,
+        } => normalize_opened(text, Place { at, len, openings }, reading, list, pool, out),
+        Reached::Paused { at, len, openings } => normalize_opened(
+            text,
+            Place { at, len, openings },
+            reading,
+            list,
+            pool,
+            out,
+        ),
+    }
+}
+
+// Copies a value that is held to the start of `out`: by blocks of 16, the last of which may overlap with the one before it.
+fn put_held(src: &[u8], out: &mut [u8])
+    requires { ⌜ length (now src) ≤ length (now out) ⌝ }
+    ensures { λ _. ⌜ now (out .exit) ≡ laid (now (src .entry)) (now (out .entry)) ⌝ }
+{
+    let n = src.len();
+    if n < 16 {
+        output::put_over(src, out);
+        return;
+    }
+    let last = n - 16;
+    let mut i: usize = 0;
+    while i < last {
+        output::put_block(&src[i..i + 16], &mut out[i..]);
+        i += 16;
+    }
+    output::put_block(&src[last..], &mut out[last..]);
+}
+
+// The value goes to the start of `out`; a buffer that is too short is refused by the number given. Counts first, and holds a short
+// value meanwhile, so that a refusal leaves the buffer.
+fn normalize_into(
+    text: &[u8],
+    first: usize,
+    reading: Reading,
+    list: &[u8],
+    pool: &[u8],
+    short: u32,
+    out: &mut [u8],
+) -> Answer
+    requires { ⌜ ValidTable (now list) (now pool) ⌝ }
+    requires { ⌜ (reading .base ≡ 0) × Walkable reading (now text) ⌝ }
+    requires { ⌜ HaltAt (eqb (reading .how) 1) (now text) 0 first ⌝ }
+    ensures { λ r. ⌜ Ended short (walkOf reading (now (list .entry)) (now (pool .entry)) (now (text .entry))) (now (out .entry)) (now (out .exit)) r ⌝ }
+{
+    let mut held = [0u8; 128];
+    let counted = normalize_text(text, first, reading, list, pool, &mut held);
+    let Answer::Done {
+        first: len,
+        second: _,
+    } = counted
+    else {
+        return counted;
+    };
+    if (out.len() as u64) < len {
+        return Answer::Refused {
+            number: short,
+            first: len,
+            second: 0,
+        };
+    }
+    if len <= 128 {
+        put_held(&held[..len as usize], out);
+        return counted;
+    }
+    normalize_text(text, first, reading, list, pool, out)
+}
+
+// ---- the calls
+
+// The text of a call at depth 0: refused where there is any stop, else its own value.
+fn normalize_bottom(text: &[u8], newer: bool, short: u32, out: &mut [u8]) -> Answer
+    ensures { λ r. ⌜ ((s : Settings) → Ended short (walk s (attributeHead (ruleFor newer)) 0 (now (text .entry)) 0) (now (out .entry)) (now (out .exit)) r) ⌝ }
+{
+    if halts::has_stop(text, newer) {
+        return Answer::Refused {
+            number: refusals::TOO_DEEP,
+            first: 0,
+            second: 0,
+        };
+    }
+    tokens::copied_whole(text, short, out)
+}
+
+// The text of a call without halts: its bytes, TAB and LF as spaces.
+fn spaced_whole(text: &[u8], short: u32, out: &mut [u8]) -> Answer
+    ensures { λ r. ⌜ Ended short (done (blanksSpaced (now (text .entry))) 0) (now (out .entry)) (now (out .exit)) r ⌝ }
+{
+    let n = text.len();
+    if out.len() < n {
+        return Answer::Refused {
+            number: short,
+            first: n as u64,
+            second: 0,
+        };
+    }
+    halts::put_spaced(text, out);
+    Answer::Done {
+        first: n as u64,
+        second: 0,
+    }
+}
+
+// The value of the text of a call, in a buffer that is refused by the number given where it is too short.
+fn normalized(
+    text: &[u8],
+    version: u8,
+    depth: u64,
+    limit: u64,
+    list: &[u8],
+    pool: &[u8],
+    short: u32,
+    out: &mut [u8],
+) -> Answer
+    requires { ⌜ ValidTable (now list) (now pool) ⌝ }
+    requires { ⌜ length (now text) ≤ 16777216 ⌝ }
+    requires { ⌜ limit ≤ 1000000 ⌝ }
+    ensures { λ r. ⌜ Ended short (normalize (readingOf (ruleOf version) (now (list .entry)) (now (pool .entry)) limit) depth (now (text .entry))) (now (out .entry)) (now (out .exit)) r ⌝ }
+{
+    let newer = 1 < version;
+    if depth == 0 {
+        return normalize_bottom(text, newer, short, out);
+    }
+    let first = halts::first_halt(text, newer);
+    if first == text.len() {
+        return spaced_whole(text, short, out);
+    }
+    let how = if newer { 1 } else { 0 };
+    let reading = Reading {
+        how,
+        inner: how,
+        depth,
+        limit,
+        base: 0,
+    };
+    normalize_into(text, first, reading, list, pool, short, out)
+}
+
+// The attribute value normalized. Success: the length written, the openings.
+pub fn normalize_attribute_value(
+    text: &[u8],
+    version: u8,
+    depth: u64,
+    limit: u64,
+    list: &[u8],
+    pool: &[u8],
+    out: &mut [u8],
+) -> Answer
+    requires { ⌜ ValidTable (now list) (now pool) ⌝ }
+    requires { ⌜ length (now text) ≤ 16777216 ⌝ }
+    requires { ⌜ limit ≤ 1000000 ⌝ }
+    ensures { λ r. ⌜ callOf r (now (out .exit) ∷ []) ≡ finished (normalize (readingOf (ruleOf version) (now (list .entry)) (now (pool .entry)) limit) depth (now (text .entry))) (now (out .entry)) ⌝ }
+{
+    normalized(
+        text,
+        version,
+        depth,
+        limit,
+        list,
+        pool,
+        refusals::NO_ROOM,
+        out,
+    )
+}
+
+// The canonical form of a value that a scratch holds. Where the output has six times its length there is room: no count is needed.
+fn canonical_into(value: &[u8], newer: bool, openings: u64, out: &mut [u8]) -> Answer
+    requires { ⌜ length (now value) ≤ 0x1000000000000 ⌝ }
+    ensures { λ r. ⌜ callOf r (now (out .exit) ∷ []) ≡ finish (canonical (ruleFor newer) (now (value .entry))) openings (now (out .entry)) ⌝ }
+{
+    if out.len() < 6 * value.len() {
+        let length = canonical::canonical_length(value, newer);
+        if out.len() < length {
+            return Answer::Refused {
+                number: refusals::NO_ROOM,
+                first: length as u64,
+                second: 0,
+            };
+        }
+    }
+    let written = canonical::write_canonical(value, newer, out);
+    Answer::Done {
+        first: written as u64,
+        second: openings,
+    }
+}
+
+// The value goes to the scratch, its canonical form to the output. Success: the length written, the openings.
+pub fn canonical_form(
+    text: &[u8],
+    version: u8,
+    depth: u64,
+    limit: u64,
+    list: &[u8],
+    pool: &[u8],
+    scratch: &mut [u8],
+    out: &mut [u8],
+) -> Answer
+    requires { ⌜ ValidTable (now list) (now pool) ⌝ }
+    requires { ⌜ length (now text) ≤ 16777216 ⌝ }
+    requires { ⌜ limit ≤ 1000000 ⌝ }
+    ensures { λ r. ⌜ callOf r (now (scratch .exit) ∷ now (out .exit) ∷ []) ≡ formed (ruleOf version) (normalize (readingOf (ruleOf version) (now (list .entry)) (now (pool .entry)) limit) depth (now (text .entry))) (now (scratch .entry)) (now (out .entry)) ⌝ }
+{
+    let filled = normalized(
+        text,
+        version,
+        depth,
+        limit,
+        list,
+        pool,
+        refusals::NO_SCRATCH,
+        scratch,
+    );
+    let Answer::Done {
+        first: len,
+        second: openings,
+    } = filled
+    else {
+        return filled;
+    };
+    canonical_into(&scratch[..len as usize], 1 < version, openings, out)
+}
