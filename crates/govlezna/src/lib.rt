@@ -1,11 +1,14 @@
 // The calls that C sees: integers, byte slices and references to numbers, no `requires`. Each promise is one equation.
 use text::Answer;
+use text::simple;
 use utils::Cursor;
 use utils::Part;
 ghost use mathlib.Core.Path.{_≡_};
+ghost use mathlib.Core.Bool.{true};
 ghost use mathlib.Core.List.{List, [], _∷_};
 ghost use Prim.Native.Nat.{ℕ};
-ghost use Rattle.text.specs.Call.{called, callOf, andThen, textCheck};
+ghost use Rattle.text.specs.Call.{called, callOf, andThen, textCheck, argumentCheck};
+ghost use Rattle.text.specs.Simple.{Simple};
 ghost use Rattle.charref.specs.CharRef.{numberAnswer, charNumber, anyCharacter};
 ghost use Rattle.entity.specs.Table.{tableCheck};
 ghost use Rattle.govlezna.specs.Calls.{checkUtf8Call, parseNumberCall, escapeCall, normalizeEolsCall, partCall, trimCall, cursorLeft, cdataNextCall, checkTableCall, unescapeCall, walkCheck, normalizeAttributeValueCall, canonicalFormCall};
@@ -189,11 +192,49 @@ pub extern "C" fn govlezna_unescape(
     put(unescape::unescape_with(text, list, pool, out), answer)
 }
 
+// text::check_arguments for a text that is known to be simple, and so UTF-8.
+fn check_simple(text: &[u8], others: Answer) -> Answer
+    requires { ⌜ Simple (now text) ⌝ }
+    ensures { λ r. ⌜ r ≡ argumentCheck (now (text .entry)) others ⌝ }
+{
+    let length = text::check_length(text);
+    let Answer::Done {
+        first: _,
+        second: _,
+    } = length
+    else {
+        return length;
+    };
+    let Answer::Done {
+        first: _,
+        second: _,
+    } = others
+    else {
+        return others;
+    };
+    Answer::Done {
+        first: 0,
+        second: 0,
+    }
+}
+
 // The checks of a call that walks an attribute value.
-fn check_walk(text: &[u8], version: u8, depth: u64, limit: u64, list: &[u8], pool: &[u8]) -> Answer
+fn check_walk(
+    text: &[u8],
+    simple: bool,
+    version: u8,
+    depth: u64,
+    limit: u64,
+    list: &[u8],
+    pool: &[u8],
+) -> Answer
+    requires { ⌜ (simple ≡ true → Simple (now text)) ⌝ }
     ensures { λ r. ⌜ r ≡ walkCheck (now (text .entry)) version depth limit (now (list .entry)) (now (pool .entry)) ⌝ }
 {
     let settings = attribute::check_settings(version, depth, limit);
+    if simple {
+        return check_with_table(check_simple(text, settings), list, pool);
+    }
     check_with_table(text::check_arguments(text, settings), list, pool)
 }
 
@@ -211,7 +252,8 @@ pub extern "C" fn govlezna_normalize_attribute_value(
 ) -> u32
     ensures { λ r. ⌜ called r (now (answer .exit)) (now (out .exit) ∷ []) ≡ normalizeAttributeValueCall (now (text .entry)) version depth limit (now (list .entry)) (now (pool .entry)) (now (out .entry)) ⌝ }
 {
-    let walk_checked = check_walk(text, version, depth, limit, list, pool);
+    let simple = simple::is_simple(text);
+    let walk_checked = check_walk(text, simple, version, depth, limit, list, pool);
     let Answer::Done {
         first: _,
         second: _,
@@ -220,7 +262,7 @@ pub extern "C" fn govlezna_normalize_attribute_value(
         return put(walk_checked, answer);
     };
     put(
-        normalize::normalize_attribute_value(text, version, depth, limit, list, pool, out),
+        normalize::normalize_attribute_value(text, simple, version, depth, limit, list, pool, out),
         answer,
     )
 }
@@ -240,7 +282,7 @@ pub extern "C" fn govlezna_canonical_form(
 ) -> u32
     ensures { λ r. ⌜ called r (now (answer .exit)) (now (scratch .exit) ∷ now (out .exit) ∷ []) ≡ canonicalFormCall (now (text .entry)) version depth limit (now (list .entry)) (now (pool .entry)) (now (scratch .entry)) (now (out .entry)) ⌝ }
 {
-    let form_checked = check_walk(text, version, depth, limit, list, pool);
+    let form_checked = check_walk(text, false, version, depth, limit, list, pool);
     let Answer::Done {
         first: _,
         second: _,

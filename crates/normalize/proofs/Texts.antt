@@ -17,7 +17,10 @@ use Rattle.text.specs.declared.Answer.the-variants.{Done, Refused}
 use Rattle.output.specs.Over.{over}
 use Rattle.output.proofs.Clip.{over-fits}
 use Rattle.eols.specs.Stops.{ruleFor}
+use Rattle.text.specs.Simple.{Simple}
 use Rattle.eols.proofs.LineEnds.{version-rule}
+use Rattle.halts.proofs.Smooth.{simple-plain}
+use Rattle.attribute.proofs.Single.{walk-plain}
 use Rattle.canonical.specs.Canonical.{canonical}
 use Rattle.halts.specs.Halts.{Smooth, HaltAt, blanksSpaced}
 use Rattle.entity.specs.Binding.{binding}
@@ -218,3 +221,11 @@ module _ (version : ℕ) (list pool : List ℕ) (limit depth : ℕ) (t : List �
   call-formed {scratch} {last} {len} {made} f out new q e =
       formed-written f (ruleOf version) out new q
       (subst (λ (rule : Rule). callOf q (new ∷ []) ≡ finish (canonical rule (take len last)) made out) (version-rule version newer refl) e)
+
+-- a text that stands for itself is its own value
+pub simple-value : (version limit depth : ℕ) (list pool t : List ℕ) → Simple t → normalize (readingOf (ruleOf version) list pool limit) depth t ≡ done t 0
+unfolding normalize readingOf reading
+simple-value version limit depth list pool t s =
+    let newer = ltb 1 version in
+    subst (λ (r : Rule). normalize (readingOf r list pool limit) depth t ≡ done t 0) (version-rule version newer refl)
+    (walk-plain (readingOf (ruleFor newer) list pool limit) newer depth t 0 (simple-plain newer t s))

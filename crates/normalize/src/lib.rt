@@ -2,12 +2,14 @@
 // table and has it walked. All else that stops a walk is answered between two openings (crate flat), by functions that call
 // neither. Normalization and the canonical form have one code path for both versions.
 ghost use mathlib.Core.Path.{_≡_};
+ghost use mathlib.Core.Bool.{true};
 ghost use mathlib.Core.List.{[], _∷_};
 ghost use Prim.Native.Nat.{_≤_};
 ghost use lib.Dec.{eqb};
 ghost use lib.ListN.{length};
 ghost use Rattle.text.specs.Call.{callOf, finish, laid};
 ghost use Rattle.text.specs.Version.{ruleOf};
+ghost use Rattle.text.specs.Simple.{Simple};
 ghost use Rattle.eols.specs.Stops.{ruleFor};
 ghost use Rattle.canonical.specs.Canonical.{canonical};
 ghost use Rattle.halts.specs.Halts.{HaltAt, blanksSpaced};
@@ -417,9 +419,11 @@ fn normalized(
     normalize_into(text, first, reading, list, pool, short, out)
 }
 
-// The attribute value normalized. Success: the length written, the openings.
+// The attribute value normalized. Success: the length written, the openings. A text of which it is known that it is simple is its own
+// value.
 pub fn normalize_attribute_value(
     text: &[u8],
+    simple: bool,
     version: u8,
     depth: u64,
     limit: u64,
@@ -427,11 +431,15 @@ pub fn normalize_attribute_value(
     pool: &[u8],
     out: &mut [u8],
 ) -> Answer
+    requires { ⌜ (simple ≡ true → Simple (now text)) ⌝ }
     requires { ⌜ ValidTable (now list) (now pool) ⌝ }
     requires { ⌜ length (now text) ≤ 16777216 ⌝ }
     requires { ⌜ limit ≤ 1000000 ⌝ }
     ensures { λ r. ⌜ callOf r (now (out .exit) ∷ []) ≡ finished (normalize (readingOf (ruleOf version) (now (list .entry)) (now (pool .entry)) limit) depth (now (text .entry))) (now (out .entry)) ⌝ }
 {
+    if simple {
+        return tokens::copied_whole(text, refusals::NO_ROOM, out);
+    }
     normalized(
         text,
         version,
