@@ -1,6 +1,7 @@
 //! Puts wrong libraries in the place of the real one: the comparison has to catch each.
 
 mod entities;
+mod memory;
 mod seams;
 
 use crate::calls::{Call, Form};
@@ -131,6 +132,7 @@ pub fn run(calls: &[&Call]) -> bool {
 
 fn faults(form: Form) -> Vec<&'static [(&'static str, Fault)]> {
     use entities::*;
+    use memory::MEMORY_FAULTS;
     let mut faults = vec![ANSWER_FAULTS];
     if form != Form::Table {
         faults.push(TEXT_FAULTS);
@@ -145,7 +147,8 @@ fn faults(form: Form) -> Vec<&'static [(&'static str, Fault)]> {
         Form::Output => faults.extend([OUTPUT_FAULTS, CHOICE_FAULTS]),
         Form::Unescape => faults.extend([OUTPUT_FAULTS, LOOKUP_FAULTS]),
         Form::Attribute | Form::Canonical => {
-            faults.extend([OUTPUT_FAULTS, CHOICE_FAULTS, LOOKUP_FAULTS, WALK_FAULTS]);
+            faults.extend([OUTPUT_FAULTS, CHOICE_FAULTS, LOOKUP_FAULTS]);
+            faults.extend([WALK_FAULTS, MEMORY_FAULTS]);
         }
     }
     match form {

@@ -101,12 +101,12 @@ unsafe fn pool(lent: &Lent) -> &[u8] {
     bytes(lent.pool, lent.pool_length)
 }
 
-unsafe fn text(lent: &Lent) -> &[u8] {
+pub unsafe fn text(lent: &Lent) -> &[u8] {
     bytes(lent.text, lent.text_length)
 }
 
 /// The definitions' commands, of a list that has nothing else before its end.
-unsafe fn commands(lent: &Lent) -> Option<Vec<&[u8]>> {
+pub unsafe fn commands(lent: &Lent) -> Option<Vec<&[u8]>> {
     let (end, commands) = list(lent).split_last()?;
     let commands: Vec<&[u8]> = commands.chunks(DEFINITION).collect();
     let sound = |command: &&[u8]| command[0] == DEFINE && command.len() == DEFINITION;
@@ -123,9 +123,16 @@ unsafe fn with_commands(lent: &Lent, real: Run, commands: &[Vec<u8>]) -> u32 {
 }
 
 /// The name that a command gives, if the pool has it.
-unsafe fn name<'a>(lent: &'a Lent, command: &[u8]) -> Option<&'a [u8]> {
+pub unsafe fn name<'a>(lent: &'a Lent, command: &[u8]) -> Option<&'a [u8]> {
     let start = u32::from_le_bytes(command[1..5].try_into().unwrap()) as usize;
     pool(lent).get(start..start + usize::from(command[5]))
+}
+
+/// The text that a command gives, if the pool has it.
+pub unsafe fn replacement<'a>(lent: &'a Lent, command: &[u8]) -> Option<&'a [u8]> {
+    let start = u32::from_le_bytes(command[6..10].try_into().unwrap()) as usize;
+    let length = u16::from_le_bytes(command[10..12].try_into().unwrap());
+    pool(lent).get(start..start + usize::from(length))
 }
 
 unsafe fn swapped_8_and_9(lent: &Lent, real: Run) -> u32 {
