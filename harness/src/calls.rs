@@ -7,7 +7,7 @@ use crate::inputs::eols::Eols;
 use crate::inputs::escape::{self, Escape};
 use crate::inputs::trim::{self, Trim};
 use crate::inputs::unescape::{self, Unescape};
-use crate::inputs::{self, canonical, entities, number, table, utf8, woven, Family};
+use crate::inputs::{self, canonical, entities, memory, number, table, utf8, woven, Family};
 use crate::library::{self, Cursor, Run};
 use crate::oracle::{self, Answer};
 use crate::table::{Table, EMPTY};
@@ -308,6 +308,7 @@ const NORMALIZE_ATTRIBUTE_VALUE: Call = Call {
         entities::similar_names,
         entities::first_binds,
         entities::repeated,
+        memory::kept,
         attribute::nested,
         attribute::wide,
         attribute::most_openings,
@@ -340,6 +341,7 @@ const CANONICAL_FORM: Call = Call {
         entities::similar_names,
         entities::first_binds,
         entities::repeated,
+        memory::kept,
         attribute::nested,
         attribute::wide,
         attribute::most_openings,

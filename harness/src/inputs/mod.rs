@@ -6,6 +6,7 @@ pub mod cdata;
 pub mod entities;
 pub mod eols;
 pub mod escape;
+pub mod memory;
 pub mod number;
 pub mod table;
 pub mod text;
