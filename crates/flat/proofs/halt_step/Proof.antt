@@ -1,59 +1,41 @@
-use mathlib.Core.Path.{_≡_, sym, ap, subst, _∙_}
+use mathlib.Core.Path.{subst}
 use native.Mathlib.Omega.{arith}
-use Prim.Native.Nat.{ℕ, _+_, _-_, _≤_, _<_}
-use lib.ListN.{length, take, drop}
 use Rattle.memory.proofs.Readings.{lent-within, lent-room}
 use Rattle.flat.specs.Between.{Means}
 use Rattle.flat.proofs.Halting.{halt-width, halt-blank, halt-char, halt-refused}
 use borrow.Author.Needs.{needs}
 use Rattle.flat.proofs.halt_step.Statement.{statement}
 use Rattle.flat.proofs.halt_step.Tie as tie
-use Rattle.flat.proofs.halt_step.Reads as reads
-use Rattle.flat.proofs.halt_step.Lts as lts
-use Rattle.eols.proofs.eol_width.Reads as eol-width-reads
-use Rattle.flat.proofs.named_step.Reads as named-step-reads
-use Rattle.flat.proofs.read_reference.Reads as read-reference-reads
-use Rattle.flat.proofs.write_char.Reads as write-char-reads
-use Rattle.output.proofs.put_byte.Reads as put-byte-reads
 
--- src/lib.rt:366:8
 shared-slice-read-if1 : tie.Need-shared-slice-read-if1
 shared-slice-read-if1 c = search needs
 
--- src/lib.rt:367:13
 eol-width-requires : tie.Need-eol-width-requires
 eol-width-requires c κs = search needs
 
--- src/lib.rt:368:9
 put-byte-requires : tie.Need-put-byte-requires
 put-byte-requires c κs = search needs
 
--- src/lib.rt:370:17
 add-t26 : tie.Need-add-t26
 add-t26 c =
     let a = c .before .before .before .before .before .before .before .before .before .before .before .before .before .args in
     let w = halt-width (a .reading) (a .text .now) (a .list .now) (a .pool .now) (a .place) (c .before .before .before .before .before .before .before .before .before .before .before .before .before .pre .1 .0 .0) (a .out .now) (a .seen .now) (c .before .before .before .before .before .before .before .before .before .before .before .before .before .pre .1 .1 .0 .0) (c .before .before .before .before .before .before .before .before .before .before .before .before .before .pre .1 .1 .0 .1) (c .before .before .before .before .before .before .if1 .taken) (c .before .before .before .before .eol-width .ensures) in
     omega (arith, w .inside, c .before .before .before .before .before .before .before .before .before .before .before .before .before .pre .1 .0 .2)
 
--- src/lib.rt:369:9
 same-length : tie.Need-same-length
 same-length c = search needs
 
--- src/lib.rt:369:9
 returns : tie.Need-returns
 returns c =
     let a = c .before .before .before .before .before .before .before .before .before .before .before .before .before .args in
     halt-blank (a .reading) (a .text .now) (a .list .now) (a .pool .now) (a .place) (c .before .before .before .before .before .before .before .before .before .before .before .before .before .pre .1 .0 .0) (a .out .now) (a .seen .now) (c .before .before .before .before .before .before .before .before .before .before .before .before .before .pre .1 .1 .0 .0) (c .before .before .before .before .before .before .before .before .before .before .before .before .before .pre .1 .1 .0 .1) (c .before .before .before .before .before .before .if1 .taken) (c .before .before .before .before .eol-width .ensures) (c .before .before .put-byte .ensures)
 
--- src/lib.rt:375:11
 read-reference-requires : tie.Need-read-reference-requires
 read-reference-requires c κs = search needs
 
--- src/lib.rt:376:25
 enum-known-c : tie.Need-enum-known-c
 enum-known-c c = search needs
 
--- src/lib.rt:377:17
 write-char-requires : tie.Need-write-char-requires
 write-char-requires c κs =
     let a = c .before .before .before .before .before .before .before .before .before .before .before .before .args in
@@ -61,49 +43,39 @@ write-char-requires c κs =
     let m = subst (Means (a .text .now) (a .place .at)) (c .before .before .c .given .1) (c .before .before .before .before .read-reference .ensures) in
     (m .small, omega (arith, lent-room (a .reading) (a .list .now) (a .pool .now) (a .text .now) n, lent-within (a .reading) (a .list .now) (a .pool .now) (a .text .now) n, c .before .before .before .before .before .before .before .before .before .before .before .before .pre .1 .0 .1))
 
--- src/lib.rt:384:25
 enum-known-end : tie.Need-enum-known-end
 enum-known-end c = search needs
 
--- src/lib.rt:387:21
 returns-2 : tie.Need-returns-2
 returns-2 c = search needs
 
--- src/lib.rt:390:13
 named-step-requires : tie.Need-named-step-requires
 named-step-requires c κs =
     let a = c .before .before .before .before .before .before .before .before .before .before .before .before .before .before .args in
     let m = subst (Means (a .text .now) (a .place .at)) (c .before .before .before .before .end .given .1) (c .before .before .before .before .before .before .read-reference .ensures) in
     (c .before .before .before .before .before .before .before .before .before .before .before .before .before .before .pre .0, (c .before .before .before .before .before .before .before .before .before .before .before .before .before .before .pre .1 .0, (m, c .before .before .before .before .before .before .before .before .before .before .before .before .before .before .pre .1 .1 .1)))
 
--- src/lib.rt:393:13
 enum-known-number : tie.Need-enum-known-number
 enum-known-number c = search needs
 
--- src/lib.rt:348:1
 same-length-2 : tie.Need-same-length-2
 same-length-2 c = search needs
 
--- src/lib.rt:348:1
 returns-3 : tie.Need-returns-3
 returns-3 c =
     let a = c .before .before .before .before .before .before .before .before .before .before .before .before .before .before .before .args in
     let m = subst (Means (a .text .now) (a .place .at)) (c .before .before .before .before .before .c .given .1) (c .before .before .before .before .before .before .before .read-reference .ensures) in
     halt-char (a .reading) (a .text .now) (a .list .now) (a .pool .now) (a .place) (c .before .before .before .before .before .before .before .before .before .before .before .before .before .before .before .pre .1 .0 .0) (a .out .now) (a .seen .now) m (c .before .before .write-char .ensures .0) (c .before .before .write-char .ensures .1)
 
--- src/lib.rt:348:1
 same-length-3 : tie.Need-same-length-3
 same-length-3 c = search needs
 
--- src/lib.rt:348:1
 same-length-4 : tie.Need-same-length-4
 same-length-4 c = search needs
 
--- src/lib.rt:348:1
 returns-4 : tie.Need-returns-4
 returns-4 c = search needs
 
--- src/lib.rt:348:1
 returns-5 : tie.Need-returns-5
 returns-5 c =
     let a = c .before .before .before .before .before .before .before .before .before .before .before .args in

@@ -3,22 +3,16 @@ use Rattle.flat.specs.Between.{handedTo}
 use borrow.Author.Needs.{needs}
 use Rattle.flat.proofs.handed.Statement.{statement}
 use Rattle.flat.proofs.handed.Tie as tie
-use Rattle.flat.proofs.handed.Reads as reads
-use Rattle.flat.proofs.handed.Lts as lts
 
--- src/lib.rt:169:24
 enum-known-a : tie.Need-enum-known-a
 enum-known-a c = search needs
 
--- src/lib.rt:175:13
 enum-known-a-2 : tie.Need-enum-known-a-2
 enum-known-a-2 c = search needs
 
--- src/lib.rt:165:1
 returns : tie.Need-returns
 returns c = sym (ap handedTo (c .before .a .given .1))
 
--- src/lib.rt:165:1
 returns-2 : tie.Need-returns-2
 returns-2 c = sym (ap handedTo (c .before .a2 .given .1))
 

@@ -6,19 +6,13 @@ use Rattle.halts.specs.Halts.{Smooth}
 use borrow.Author.Needs.{needs}
 use Rattle.flat.proofs.is_leaf.Statement.{statement}
 use Rattle.flat.proofs.is_leaf.Tie as tie
-use Rattle.flat.proofs.is_leaf.Reads as reads
-use Rattle.flat.proofs.is_leaf.Lts as lts
-use Rattle.halts.proofs.next_halt.Reads as next-halt-reads
 
--- src/lib.rt:238:9
 returns : tie.Need-returns
 returns c = λ q. absurd (true≢false (sym q))
 
--- src/lib.rt:240:5
 next-halt-requires : tie.Need-next-halt-requires
 next-halt-requires c κs = search needs
 
--- src/lib.rt:234:1
 returns-2 : tie.Need-returns-2
 returns-2 c = λ q. subst (Smooth (c .before .before .before .args .newer) (c .before .before .before .args .text .now) 0) (eqb-true (c .next-halt .result) (length (c .before .before .before .args .text .now)) q) (c .next-halt .ensures .smooth)
 

@@ -1,91 +1,64 @@
-use mathlib.Core.Path.{_≡_, sym, ap, subst, _∙_}
-use mathlib.Core.List.{List}
+use mathlib.Core.Path.{subst}
 use native.Mathlib.Omega.{arith}
-use Prim.Native.Nat.{ℕ, _+_, _-_, _≤_, _<_}
-use lib.ListN.{length, take, drop}
-use lib.Seq.{length-take-le}
-use Rattle.entity.specs.Commands.{Refers, RefersTo}
-use Rattle.entity.specs.declared.Referent.the-variants.{Text, Predefined, Unknown}
+use Rattle.entity.specs.Commands.{Refers}
 use Rattle.memory.proofs.Readings.{lent-within, lent-room, lent-bounds}
 use Rattle.flat.specs.Between.{nameOf}
 use Rattle.flat.proofs.Halting.{referred, halt-unknown, halt-predefined, valid-short, refers-part}
 use borrow.Author.Needs.{needs}
 use Rattle.flat.proofs.named_step.Statement.{statement}
 use Rattle.flat.proofs.named_step.Tie as tie
-use Rattle.flat.proofs.named_step.Reads as reads
-use Rattle.flat.proofs.named_step.Lts as lts
-use Rattle.flat.proofs.text_step.Reads as text-step-reads
-use Rattle.memory.proofs.keep_plain.Reads as keep-plain-reads
-use Rattle.memory.proofs.refers_to.Reads as refers-to-reads
-use Rattle.memory.proofs.slot_of.Reads as slot-of-reads
-use Rattle.output.proofs.put_byte.Reads as put-byte-reads
 
--- src/lib.rt:251:16
 add-from : tie.Need-add-from
 add-from c = search needs
 
--- src/lib.rt:253:32
 sub-slot-of : tie.Need-sub-slot-of
 sub-slot-of c = search needs
 
--- src/lib.rt:253:32
 part-slot-of-start : tie.Need-part-slot-of-start
 part-slot-of-start c = search needs
 
--- src/lib.rt:253:32
 part-slot-of-end : tie.Need-part-slot-of-end
 part-slot-of-end c = search needs
 
--- src/lib.rt:253:9
 slot-of-requires : tie.Need-slot-of-requires
 slot-of-requires c κs = search needs
 
--- src/lib.rt:254:29
 sub-refers-to : tie.Need-sub-refers-to
 sub-refers-to c = search needs
 
--- src/lib.rt:254:29
 part-refers-to-start : tie.Need-part-refers-to-start
 part-refers-to-start c = search needs
 
--- src/lib.rt:254:29
 part-refers-to-end : tie.Need-part-refers-to-end
 part-refers-to-end c = search needs
 
--- src/lib.rt:254:11
 refers-to-requires : tie.Need-refers-to-requires
 refers-to-requires c κs = search needs
 
--- src/lib.rt:256:13
 enum-known-command : tie.Need-enum-known-command
 enum-known-command c = search needs
 
--- src/lib.rt:262:13
 sub-text-step : tie.Need-sub-text-step
 sub-text-step c =
     let a = c .before .before .before .before .before .before .before .before .before .before .before .before .before .before .args in
     let k = subst (Refers (a .list .now) (a .pool .now) (nameOf (a .text .now) (a .place .at) (a .end))) (c .before .command .given .1) (c .before .before .before .refers-to .ensures) in
     omega (arith, k .ends)
 
--- src/lib.rt:262:13
 part-text-step-start : tie.Need-part-text-step-start
 part-text-step-start c =
     let a = c .before .before .before .before .before .before .before .before .before .before .before .before .before .before .args in
     let k = subst (Refers (a .list .now) (a .pool .now) (nameOf (a .text .now) (a .place .at) (a .end))) (c .before .command .given .1) (c .before .before .before .refers-to .ensures) in
     omega (arith, k .ends)
 
--- src/lib.rt:262:13
 part-text-step-end : tie.Need-part-text-step-end
 part-text-step-end c =
     let a = c .before .before .before .before .before .before .before .before .before .before .before .before .before .before .args in
     let k = subst (Refers (a .list .now) (a .pool .now) (nameOf (a .text .now) (a .place .at) (a .end))) (c .before .command .given .1) (c .before .before .before .refers-to .ensures) in
     omega (arith, k .ends, k .starts, k .defines .inside)
 
--- src/lib.rt:263:13
 add-text-step : tie.Need-add-text-step
 add-text-step c = search needs
 
--- src/lib.rt:259:14
 text-step-requires : tie.Need-text-step-requires
 text-step-requires c κs =
     let a = c .before .before .before .before .before .before .before .before .before .before .before .before .before .before .before .before .before .args in
@@ -98,35 +71,27 @@ text-step-requires c κs =
       ((within, c .before .before .before .before .before .before .before .before .before .before .before .before .before .before .before .before .before .pre .1 .0 .1, omega (arith, room, within, c .before .before .before .before .before .before .before .before .before .before .before .before .before .before .before .before .before .pre .1 .0 .1)), lent-bounds (a .reading) (a .list .now) (a .pool .now) (a .text .now) n _ (c .before .before .before .before .before .before .before .before .before .slot-of .result) h),
     )
 
--- src/lib.rt:269:30
 enum-known-b : tie.Need-enum-known-b
 enum-known-b c = search needs
 
--- src/lib.rt:270:13
 keep-plain-requires : tie.Need-keep-plain-requires
 keep-plain-requires c κs = search needs
 
--- src/lib.rt:271:13
 put-byte-requires : tie.Need-put-byte-requires
 put-byte-requires c κs = search needs
 
--- src/lib.rt:273:21
 add-t41 : tie.Need-add-t41
 add-t41 c = search needs
 
--- src/lib.rt:280:20
 enum-told : tie.Need-enum-told
 enum-told c = search needs
 
--- src/lib.rt:235:1
 same-length : tie.Need-same-length
 same-length c = search needs
 
--- src/lib.rt:235:1
 same-length-2 : tie.Need-same-length-2
 same-length-2 c = search needs
 
--- src/lib.rt:235:1
 returns : tie.Need-returns
 returns c =
     let a = c .before .before .before .before .before .before .before .before .before .before .before .before .before .before .before .before .before .before .before .before .before .before .args in
@@ -134,26 +99,21 @@ returns c =
     c .before .before .before .before .text-step .ensures (a .text .now) (a .list .now) (a .pool .now)
     (referred (a .reading) (a .text .now) (a .list .now) (a .pool .now) (a .place) (c .before .before .before .before .before .before .before .before .before .before .before .before .before .before .before .before .before .before .before .before .before .before .pre .1 .0 .0) (λ k. omega (arith, c .before .before .before .before .before .before .before .before .before .before .before .before .before .before .before .before .before .before .before .before .shared-slice-known2 .given k)) (c .before .before .before .before .before .before .before .before .before .before .before .before .before .before .before .before .before .before .before .before .before .before .pre .1 .1 .0) k)
 
--- src/lib.rt:235:1
 same-length-3 : tie.Need-same-length-3
 same-length-3 c = search needs
 
--- src/lib.rt:235:1
 same-length-4 : tie.Need-same-length-4
 same-length-4 c = search needs
 
--- src/lib.rt:235:1
 returns-2 : tie.Need-returns-2
 returns-2 c =
     let a = c .before .before .before .before .before .before .before .before .before .before .before .before .before .before .before .before .before .before .before .before .before .before .args in
     let k = subst (Refers (a .list .now) (a .pool .now) (nameOf (a .text .now) (a .place .at) (a .end))) (c .before .before .before .before .before .before .before .before .before .b .given .1) (c .before .before .before .before .before .before .before .before .before .before .before .refers-to .ensures) in
     halt-predefined (a .reading) (a .text .now) (a .list .now) (a .pool .now) (a .place) (c .before .before .before .before .before .before .before .before .before .before .before .before .before .before .before .before .before .before .before .before .before .before .pre .1 .0 .0) (a .out .now) (a .seen .now) (c .before .before .before .before .before .before .before .before .before .before .before .before .before .before .before .before .before .before .before .before .before .before .pre .1 .1 .0) (k .1) (k .2) (c .before .before .put-byte .ensures) (c .before .before .before .before .before .before .keep-plain .ensures)
 
--- src/lib.rt:235:1
 same-length-5 : tie.Need-same-length-5
 same-length-5 c = search needs
 
--- src/lib.rt:235:1
 returns-3 : tie.Need-returns-3
 returns-3 c =
     let a = c .before .before .before .before .before .before .before .before .before .before .before .before .before .args in

@@ -1,163 +1,258 @@
-use mathlib.Core.Path.{_≡_, sym, ap, subst, _∙_}
+-- The loop goes from halt to halt: it writes the run up to the next one, and `halt_step` says what becomes of that. It keeps `Going`, and its
+-- ends are the laws of Going.antt, over what `write_run` added to the output and what `halt_step` kept (`halt-kept`).
+use mathlib.Core.Path.{_≡_, subst, _∙_}
 use native.Mathlib.Omega.{arith}
+use mathlib.Core.List.{List}
+use Rattle.flat.specs.declared.Halted.{Halted}
 use borrow.Author.Needs.{needs}
 use Rattle.memory.specs.Levels.{levelOf}
 use Rattle.flat.specs.Between.{HaltKeeps}
 use Prim.Native.Nat.{ℕ, _+_, _-_, _≤_, _<_}
 use Rattle.memory.proofs.Levels.{placeOf}
-use lib.ListN.{length, take, drop}
-use Rattle.flat.proofs.Going.{Going, going-start, going-lent, going-room, going-within, run-lent, going-end, going-opens, going-paused, going-stopped, going-on, going-inside, going-sum, going-made, going-next}
+use lib.ListN.{length}
+use Rattle.flat.proofs.Going.{Going, going-start, going-room, going-within, run-lent, going-end, going-opens, going-paused, going-stopped, going-sum, going-made, going-next}
 use Rattle.flat.proofs.normalize_flat.Statement.{statement}
 use Rattle.flat.proofs.normalize_flat.Tie as tie
-use Rattle.flat.proofs.normalize_flat.Reads as reads
-use Rattle.flat.proofs.normalize_flat.Lts as lts
-use Rattle.flat.proofs.halt_step.Reads as halt-step-reads
-use Rattle.halts.proofs.next_halt.Reads as next-halt-reads
-use Rattle.flat.proofs.write_run.Reads as write-run-reads
 
 abbrev Inv-loop : tie.InvT-loop
-Inv-loop text first reading list pool seen₀ out₀ at₀ end₀ len₀ made₀ met₀ seen out at end len made met = Going reading text list pool (placeOf at₀ len₀ made₀) out₀ seen₀ out seen at end len made met
+Inv-loop text first reading list pool seen₀ out₀ at₀ end₀ len₀ made₀ met₀ seen out at end len made met =
+    Going reading text list pool (placeOf at₀ len₀ made₀) out₀ seen₀ out seen at end len made met
 
 abbrev μ-loop : tie.MeasureT-loop
 μ-loop text first reading list pool seen₀ out₀ at₀ end₀ len₀ made₀ met₀ seen out at end len made met = length text - at
 
--- src/lib.rt:426:5
+-- ---- places: the loop's head, after the run, after the halt, and where the halt is passed
+
+abbrev Turn : Type 0
+Turn = tie.At-loop Inv-loop μ-loop
+
+abbrev Ran : Type 0
+Ran = tie.After-write-run Inv-loop μ-loop
+
+abbrev Halt : Type 0
+Halt = tie.After-halt-step Inv-loop μ-loop
+
+abbrev Passed : Type 0
+Passed = tie.After-known-told Inv-loop μ-loop
+
+abbrev entry-of : Turn → tie.Start Inv-loop μ-loop
+entry-of c = c .before .before .before .before .before .before
+
+abbrev turn-of : Ran → Turn
+turn-of c = c .before .before
+
+abbrev ran-of : Halt → Ran
+ran-of c = c .before .before .before .before .before .before
+
+abbrev halt-of : Passed → Halt
+halt-of c = c .before .before .before .before .before .before .before
+
+-- the output after the run; the output and the memory after the halt
+abbrev out-ran : Ran → List ℕ
+out-ran c = c .write-run .last .1 .1 .1 .1 .0
+
+abbrev out-halted : Halt → List ℕ
+out-halted c = c .halt-step .last .1 .1 .1 .1 .1 .1 .1 .0
+
+abbrev seen-halted : Halt → List ℕ
+seen-halted c = c .halt-step .last .1 .1 .1 .1 .1 .1 .0
+
+-- ---- facts of these places
+
+-- what is written so far is short
+len-small : (c : Turn) → c .loop .len ≤ 0x1000000000000
+len-small c =
+    let start = entry-of c in
+    let a = start .args in
+    let room =
+        going-room (a .reading) (a .text .now) (a .list .now) (a .pool .now) (a .place) (a .out .now) (a .seen .now) (c .loop .inv) (start .pre .1 .0 .0)
+        (start .pre .1 .1 .1) in
+    let within =
+        going-within (a .reading) (a .text .now) (a .list .now) (a .pool .now) (a .place) (a .out .now) (a .seen .now) (c .loop .inv) (start .pre .1 .0 .0)
+        (start .pre .1 .1 .1) in
+    omega (arith, room, within, start .pre .1 .0 .1)
+
+-- what `halt_step` keeps, of the result as it was matched
+halt-kept : (c : Halt) {r : Halted} → c .halt-step .result ≡ r
+    → HaltKeeps
+    (levelOf (entry-of (turn-of (ran-of c)) .args .reading) (entry-of (turn-of (ran-of c)) .args .list .now) (entry-of (turn-of (ran-of c)) .args .pool .now)
+    (entry-of (turn-of (ran-of c)) .args .text .now)) (entry-of (turn-of (ran-of c)) .args .reading .base)
+    (placeOf (turn-of (ran-of c) .loop .end) (turn-of (ran-of c) .loop .len + (turn-of (ran-of c) .loop .end - turn-of (ran-of c) .loop .at))
+    (turn-of (ran-of c) .loop .made)) (out-ran (ran-of c)) (turn-of (ran-of c) .loop .seen) (out-halted c) (seen-halted c) r
+halt-kept c q =
+    let turn = turn-of (ran-of c) in
+    let a = entry-of turn .args in
+    subst
+    (HaltKeeps (levelOf (a .reading) (a .list .now) (a .pool .now) (a .text .now)) (a .reading .base)
+    (placeOf (turn .loop .end) (turn .loop .len + (turn .loop .end - turn .loop .at)) (turn .loop .made)) (out-ran (ran-of c)) (turn .loop .seen)
+    (out-halted c) (seen-halted c)) q (c .halt-step .ensures)
+
+-- neither buffer changes its length
+words-kept : (c : Halt) → length (seen-halted c) ≡ length (entry-of (turn-of (ran-of c)) .args .seen .now)
+words-kept c = c .halt-step .ensures .words ∙ turn-of (ran-of c) .loop .inv .words
+
+buffer-kept : (c : Halt) → length (out-halted c) ≡ length (entry-of (turn-of (ran-of c)) .args .out .now)
+buffer-kept c =
+    let ran = ran-of c in
+    c .halt-step .ensures .buffer ∙ ran .write-run .ensures .buffer ∙ turn-of ran .loop .inv .buffer
+
+-- ---- the run
+
 loop-holds : tie.Need-loop-holds Inv-loop μ-loop
 loop-holds c =
-    let a = c .before .before .before .before .before .args in
-    going-start (a .reading) (a .text .now) (a .list .now) (a .pool .now) (a .place) (a .out .now) (a .seen .now) (c .before .before .before .before .before .pre .1 .1 .0)
+    let start = c .before .before .before .before .before in
+    let a = start .args in
+    going-start (a .reading) (a .text .now) (a .list .now) (a .pool .now) (a .place) (a .out .now) (a .seen .now) (start .pre .1 .1 .0)
 
--- src/lib.rt:427:9
 write-run-requires : tie.Need-write-run-requires Inv-loop μ-loop
 write-run-requires c κs =
-    let a = c .before .before .before .before .before .before .before .args in
-    let h = c .before .loop .inv .halt .smooth in
-    (h .from, h .to, c .before .before .before .before .before .before .before .pre .1 .0 .2, omega (arith, going-room (a .reading) (a .text .now) (a .list .now) (a .pool .now) (a .place) (a .out .now) (a .seen .now) (c .before .loop .inv) (c .before .before .before .before .before .before .before .pre .1 .0 .0) (c .before .before .before .before .before .before .before .pre .1 .1 .1), going-within (a .reading) (a .text .now) (a .list .now) (a .pool .now) (a .place) (a .out .now) (a .seen .now) (c .before .loop .inv) (c .before .before .before .before .before .before .before .pre .1 .0 .0) (c .before .before .before .before .before .before .before .pre .1 .1 .1), c .before .before .before .before .before .before .before .pre .1 .0 .1))
+    let turn = c .before in
+    let smooth = turn .loop .inv .halt .smooth in
+    (smooth .from, smooth .to, entry-of turn .pre .1 .0 .2, len-small turn)
 
--- src/lib.rt:428:16
 sub-len : tie.Need-sub-len Inv-loop μ-loop
-sub-len c = c .before .before .before .before .loop .inv .halt .smooth .from
+sub-len c = turn-of (c .before .before) .loop .inv .halt .smooth .from
 
--- src/lib.rt:428:9
 add-len : tie.Need-add-len Inv-loop μ-loop
 add-len c =
-    let a = c .before .before .before .before .before .before .before .before .before .before .args in
-    omega (arith, going-room (a .reading) (a .text .now) (a .list .now) (a .pool .now) (a .place) (a .out .now) (a .seen .now) (c .before .before .before .before .loop .inv) (c .before .before .before .before .before .before .before .before .before .before .pre .1 .0 .0) (c .before .before .before .before .before .before .before .before .before .before .pre .1 .1 .1), going-within (a .reading) (a .text .now) (a .list .now) (a .pool .now) (a .place) (a .out .now) (a .seen .now) (c .before .before .before .before .loop .inv) (c .before .before .before .before .before .before .before .before .before .before .pre .1 .0 .0) (c .before .before .before .before .before .before .before .before .before .before .pre .1 .1 .1), c .before .before .before .before .before .before .before .before .before .before .pre .1 .0, c .before .before .before .before .loop .inv .halt .smooth .to)
+    let turn = turn-of (c .before .before) in
+    omega (arith, len-small turn, entry-of turn .pre .1 .0, turn .loop .inv .halt .smooth .to)
 
--- src/lib.rt:430:13
+-- ---- the end of the text
+
 same-length : tie.Need-same-length Inv-loop μ-loop
-same-length c = c .before .before .before .before .before .loop .inv .words
+same-length c = turn-of (c .before .before .before) .loop .inv .words
 
--- src/lib.rt:430:13
 same-length-2 : tie.Need-same-length-2 Inv-loop μ-loop
-same-length-2 c = c .before .before .before .write-run .ensures .buffer ∙ c .before .before .before .before .before .loop .inv .buffer
+same-length-2 c =
+    let ran = c .before .before .before in
+    ran .write-run .ensures .buffer ∙ turn-of ran .loop .inv .buffer
 
--- src/lib.rt:430:13
 returns : tie.Need-returns Inv-loop μ-loop
 returns c =
-    let a = c .before .before .before .before .before .before .before .before .before .before .before .args in
-    going-end (a .reading) (a .text .now) (a .list .now) (a .pool .now) (a .place) (a .out .now) (a .seen .now) (c .before .before .before .before .before .loop .inv) (c .before .before .before .before .before .before .before .before .before .before .before .pre .1 .0 .0) (c .before .before .before .before .before .before .before .before .before .before .before .pre .1 .1 .1) (c .before .before .before .write-run .ensures) (c .if1 .taken)
+    let ran = c .before .before .before in
+    let turn = turn-of ran in
+    let start = entry-of turn in
+    let a = start .args in
+    going-end (a .reading) (a .text .now) (a .list .now) (a .pool .now) (a .place) (a .out .now) (a .seen .now) (turn .loop .inv) (start .pre .1 .0 .0)
+    (start .pre .1 .1 .1) (ran .write-run .ensures) (c .if1 .taken)
 
--- src/lib.rt:440:15
+-- ---- the halt
+
 halt-step-requires : tie.Need-halt-step-requires Inv-loop μ-loop
 halt-step-requires c κs =
-    let a = c .before .before .before .before .before .before .before .before .before .before .before .before .before .args in
-    let h = c .before .before .before .before .before .before .before .loop .inv .halt in
-    let inside : c .before .before .before .before .before .before .before .loop .end < length (a .text .now) = omega (arith, c .before .before .if1 .left, h .smooth .to) in
-    (c .before .before .before .before .before .before .before .before .before .before .before .before .before .pre .0, (c .before .before .before .before .before .before .before .before .before .before .before .before .before .pre .1 .0, ((inside, h .ends inside), run-lent (a .reading) (a .text .now) (a .list .now) (a .pool .now) (a .place) (a .out .now) (a .seen .now) (c .before .before .before .before .before .before .before .loop .inv) (c .before .before .before .before .before .before .before .before .before .before .before .before .before .pre .1 .0 .0) (c .before .before .before .before .before .before .before .before .before .before .before .before .before .pre .1 .1 .1) (c .before .before .before .before .before .write-run .ensures))))
+    let ran = c .before .before .before .before .before in
+    let turn = turn-of ran in
+    let start = entry-of turn in
+    let a = start .args in
+    let h = turn .loop .inv .halt in
+    let inside : turn .loop .end < length (a .text .now) = omega (arith, c .before .before .if1 .left, h .smooth .to) in
+    let lent =
+        run-lent (a .reading) (a .text .now) (a .list .now) (a .pool .now) (a .place) (a .out .now) (a .seen .now) (turn .loop .inv) (start .pre .1 .0 .0)
+        (start .pre .1 .1 .1) (ran .write-run .ensures) in
+    (start .pre .0, (start .pre .1 .0, ((inside, h .ends inside), lent)))
 
--- src/lib.rt:442:21
 enum-known-next : tie.Need-enum-known-next Inv-loop μ-loop
 enum-known-next c = search needs
 
--- src/lib.rt:447:17
 add-len-2 : tie.Need-add-len-2 Inv-loop μ-loop
 add-len-2 c =
-    let a = c .before .before .before .before .before .before .before .before .before .before .before .before .before .before .before .before .before .before .before .before .before .args in
-    let k = (subst (HaltKeeps (levelOf (a .reading) (a .list .now) (a .pool .now) (a .text .now)) (a .reading .base) (placeOf (c .before .before .before .before .before .before .before .before .before .before .before .before .before .before .before .loop .end) (c .before .before .before .before .before .before .before .before .before .before .before .before .before .before .before .loop .len + (c .before .before .before .before .before .before .before .before .before .before .before .before .before .before .before .loop .end - c .before .before .before .before .before .before .before .before .before .before .before .before .before .before .before .loop .at)) (c .before .before .before .before .before .before .before .before .before .before .before .before .before .before .before .loop .made)) (c .before .before .before .before .before .before .before .before .before .before .before .before .before .write-run .last .1 .1 .1 .1 .0) (c .before .before .before .before .before .before .before .before .before .before .before .before .before .before .before .loop .seen) (c .before .before .before .before .before .before .before .halt-step .last .1 .1 .1 .1 .1 .1 .1 .0) (c .before .before .before .before .before .before .before .halt-step .last .1 .1 .1 .1 .1 .1 .0)) (c .before .next .given .1) (c .before .before .before .before .before .before .before .halt-step .ensures)) in
-    omega (arith, going-sum (a .reading) (a .text .now) (a .list .now) (a .pool .now) (a .place) (a .out .now) (a .seen .now) (c .before .before .before .before .before .before .before .before .before .before .before .before .before .before .before .loop .inv) (c .before .before .before .before .before .before .before .before .before .before .before .before .before .before .before .before .before .before .before .before .before .pre .1 .0 .0) (c .before .before .before .before .before .before .before .before .before .before .before .before .before .before .before .before .before .before .before .before .before .pre .1 .1 .1) (c .before .before .before .before .before .before .before .before .before .before .before .before .before .write-run .ensures) k, going-made (a .reading) (a .text .now) (a .list .now) (a .pool .now) (a .place) (a .out .now) (a .seen .now) (c .before .before .before .before .before .before .before .before .before .before .before .before .before .before .before .loop .inv) (c .before .before .before .before .before .before .before .before .before .before .before .before .before .before .before .before .before .before .before .before .before .pre .1 .0 .0) (c .before .before .before .before .before .before .before .before .before .before .before .before .before .before .before .before .before .before .before .before .before .pre .1 .1 .1) (c .before .before .before .before .before .before .before .before .before .before .before .before .before .write-run .ensures) k, c .before .before .before .before .before .before .before .before .before .before .before .before .before .before .before .before .before .before .before .before .before .pre .1 .0)
+    let ran = ran-of (halt-of c) in
+    let turn = turn-of ran in
+    let start = entry-of turn in
+    let a = start .args in
+    let k = halt-kept (halt-of c) (c .before .next .given .1) in
+    let sum =
+        going-sum (a .reading) (a .text .now) (a .list .now) (a .pool .now) (a .place) (a .out .now) (a .seen .now) (turn .loop .inv) (start .pre .1 .0 .0)
+        (start .pre .1 .1 .1) (ran .write-run .ensures) k in
+    let made =
+        going-made (a .reading) (a .text .now) (a .list .now) (a .pool .now) (a .place) (a .out .now) (a .seen .now) (turn .loop .inv) (start .pre .1 .0 .0)
+        (start .pre .1 .1 .1) (ran .write-run .ensures) k in
+    omega (arith, sum, made, start .pre .1 .0)
 
--- src/lib.rt:451:17
 enum-known-next-2 : tie.Need-enum-known-next-2 Inv-loop μ-loop
 enum-known-next-2 c = search needs
 
--- src/lib.rt:455:17
 same-length-3 : tie.Need-same-length-3 Inv-loop μ-loop
-same-length-3 c = c .before .before .before .before .before .before .before .halt-step .ensures .words ∙ c .before .before .before .before .before .before .before .before .before .before .before .before .before .before .before .loop .inv .words
+same-length-3 c = words-kept (c .before .before .before .before .before .before .before)
 
--- src/lib.rt:455:17
 same-length-4 : tie.Need-same-length-4 Inv-loop μ-loop
-same-length-4 c = c .before .before .before .before .before .before .before .halt-step .ensures .buffer ∙ c .before .before .before .before .before .before .before .before .before .before .before .before .before .write-run .ensures .buffer ∙ c .before .before .before .before .before .before .before .before .before .before .before .before .before .before .before .loop .inv .buffer
+same-length-4 c = buffer-kept (c .before .before .before .before .before .before .before)
 
--- src/lib.rt:455:17
 returns-2 : tie.Need-returns-2 Inv-loop μ-loop
 returns-2 c =
-    let a = c .before .before .before .before .before .before .before .before .before .before .before .before .before .before .before .before .before .before .before .before .before .args in
-    let k = (subst (HaltKeeps (levelOf (a .reading) (a .list .now) (a .pool .now) (a .text .now)) (a .reading .base) (placeOf (c .before .before .before .before .before .before .before .before .before .before .before .before .before .before .before .loop .end) (c .before .before .before .before .before .before .before .before .before .before .before .before .before .before .before .loop .len + (c .before .before .before .before .before .before .before .before .before .before .before .before .before .before .before .loop .end - c .before .before .before .before .before .before .before .before .before .before .before .before .before .before .before .loop .at)) (c .before .before .before .before .before .before .before .before .before .before .before .before .before .before .before .loop .made)) (c .before .before .before .before .before .before .before .before .before .before .before .before .before .write-run .last .1 .1 .1 .1 .0) (c .before .before .before .before .before .before .before .before .before .before .before .before .before .before .before .loop .seen) (c .before .before .before .before .before .before .before .halt-step .last .1 .1 .1 .1 .1 .1 .1 .0) (c .before .before .before .before .before .before .before .halt-step .last .1 .1 .1 .1 .1 .1 .0)) (c .before .next2 .given .1) (c .before .before .before .before .before .before .before .halt-step .ensures)) in
-    going-opens (a .reading) (a .text .now) (a .list .now) (a .pool .now) (a .place) (a .out .now) (a .seen .now) (c .before .before .before .before .before .before .before .before .before .before .before .before .before .before .before .loop .inv) (c .before .before .before .before .before .before .before .before .before .before .before .before .before .before .before .before .before .before .before .before .before .pre .1 .0 .0) (c .before .before .before .before .before .before .before .before .before .before .before .before .before .before .before .before .before .before .before .before .before .pre .1 .1 .1) (c .before .before .before .before .before .before .before .before .before .before .before .before .before .write-run .ensures) k
+    let halt = c .before .before .before .before .before .before .before in
+    let ran = ran-of halt in
+    let turn = turn-of ran in
+    let start = entry-of turn in
+    let a = start .args in
+    going-opens (a .reading) (a .text .now) (a .list .now) (a .pool .now) (a .place) (a .out .now) (a .seen .now) (turn .loop .inv) (start .pre .1 .0 .0)
+    (start .pre .1 .1 .1) (ran .write-run .ensures) (halt-kept halt (c .before .next2 .given .1))
 
--- src/lib.rt:465:17
 enum-told : tie.Need-enum-told Inv-loop μ-loop
 enum-told c = search needs
 
--- src/lib.rt:465:17
 same-length-5 : tie.Need-same-length-5 Inv-loop μ-loop
-same-length-5 c = c .before .before .before .before .before .before .halt-step .ensures .words ∙ c .before .before .before .before .before .before .before .before .before .before .before .before .before .before .loop .inv .words
+same-length-5 c = words-kept (c .before .before .before .before .before .before)
 
--- src/lib.rt:465:17
 same-length-6 : tie.Need-same-length-6 Inv-loop μ-loop
-same-length-6 c = c .before .before .before .before .before .before .halt-step .ensures .buffer ∙ c .before .before .before .before .before .before .before .before .before .before .before .before .write-run .ensures .buffer ∙ c .before .before .before .before .before .before .before .before .before .before .before .before .before .before .loop .inv .buffer
+same-length-6 c = buffer-kept (c .before .before .before .before .before .before)
 
--- src/lib.rt:465:17
 returns-3 : tie.Need-returns-3 Inv-loop μ-loop
 returns-3 c =
-    let a = c .before .before .before .before .before .before .before .before .before .before .before .before .before .before .before .before .before .before .before .before .args in
-    let k = (subst (HaltKeeps (levelOf (a .reading) (a .list .now) (a .pool .now) (a .text .now)) (a .reading .base) (placeOf (c .before .before .before .before .before .before .before .before .before .before .before .before .before .before .loop .end) (c .before .before .before .before .before .before .before .before .before .before .before .before .before .before .loop .len + (c .before .before .before .before .before .before .before .before .before .before .before .before .before .before .loop .end - c .before .before .before .before .before .before .before .before .before .before .before .before .before .before .loop .at)) (c .before .before .before .before .before .before .before .before .before .before .before .before .before .before .loop .made)) (c .before .before .before .before .before .before .before .before .before .before .before .before .write-run .last .1 .1 .1 .1 .0) (c .before .before .before .before .before .before .before .before .before .before .before .before .before .before .loop .seen) (c .before .before .before .before .before .before .halt-step .last .1 .1 .1 .1 .1 .1 .1 .0) (c .before .before .before .before .before .before .halt-step .last .1 .1 .1 .1 .1 .1 .0)) (c .enum-told .given .1) (c .before .before .before .before .before .before .halt-step .ensures)) in
-    going-paused (a .reading) (a .text .now) (a .list .now) (a .pool .now) (a .place) (a .out .now) (a .seen .now) (c .before .before .before .before .before .before .before .before .before .before .before .before .before .before .loop .inv) (c .before .before .before .before .before .before .before .before .before .before .before .before .before .before .before .before .before .before .before .before .pre .1 .0 .0) (c .before .before .before .before .before .before .before .before .before .before .before .before .before .before .before .before .before .before .before .before .pre .1 .1 .1) (c .before .before .before .before .before .before .before .before .before .before .before .before .write-run .ensures) (c .before .before .before .before .before .before .before .before .before .if1 .left) k
+    let halt = c .before .before .before .before .before .before in
+    let ran = ran-of halt in
+    let turn = turn-of ran in
+    let start = entry-of turn in
+    let a = start .args in
+    going-paused (a .reading) (a .text .now) (a .list .now) (a .pool .now) (a .place) (a .out .now) (a .seen .now) (turn .loop .inv) (start .pre .1 .0 .0)
+    (start .pre .1 .1 .1) (ran .write-run .ensures) (halt .before .before .before .if1 .left) (halt-kept halt (c .enum-told .given .1))
 
--- src/lib.rt:472:17
 enum-known-number : tie.Need-enum-known-number Inv-loop μ-loop
 enum-known-number c = search needs
 
--- src/lib.rt:476:17
 same-length-7 : tie.Need-same-length-7 Inv-loop μ-loop
-same-length-7 c = c .before .before .before .before .before .before .before .halt-step .ensures .words ∙ c .before .before .before .before .before .before .before .before .before .before .before .before .before .before .before .loop .inv .words
+same-length-7 c = words-kept (c .before .before .before .before .before .before .before)
 
--- src/lib.rt:476:17
 same-length-8 : tie.Need-same-length-8 Inv-loop μ-loop
-same-length-8 c = c .before .before .before .before .before .before .before .halt-step .ensures .buffer ∙ c .before .before .before .before .before .before .before .before .before .before .before .before .before .write-run .ensures .buffer ∙ c .before .before .before .before .before .before .before .before .before .before .before .before .before .before .before .loop .inv .buffer
+same-length-8 c = buffer-kept (c .before .before .before .before .before .before .before)
 
--- src/lib.rt:476:17
 returns-4 : tie.Need-returns-4 Inv-loop μ-loop
 returns-4 c =
-    let a = c .before .before .before .before .before .before .before .before .before .before .before .before .before .before .before .before .before .before .before .before .before .args in
-    let k = (subst (HaltKeeps (levelOf (a .reading) (a .list .now) (a .pool .now) (a .text .now)) (a .reading .base) (placeOf (c .before .before .before .before .before .before .before .before .before .before .before .before .before .before .before .loop .end) (c .before .before .before .before .before .before .before .before .before .before .before .before .before .before .before .loop .len + (c .before .before .before .before .before .before .before .before .before .before .before .before .before .before .before .loop .end - c .before .before .before .before .before .before .before .before .before .before .before .before .before .before .before .loop .at)) (c .before .before .before .before .before .before .before .before .before .before .before .before .before .before .before .loop .made)) (c .before .before .before .before .before .before .before .before .before .before .before .before .before .write-run .last .1 .1 .1 .1 .0) (c .before .before .before .before .before .before .before .before .before .before .before .before .before .before .before .loop .seen) (c .before .before .before .before .before .before .before .halt-step .last .1 .1 .1 .1 .1 .1 .1 .0) (c .before .before .before .before .before .before .before .halt-step .last .1 .1 .1 .1 .1 .1 .0)) (c .before .number .given .1) (c .before .before .before .before .before .before .before .halt-step .ensures)) in
-    going-stopped (a .reading) (a .text .now) (a .list .now) (a .pool .now) (a .place) (a .out .now) (a .seen .now) (c .before .before .before .before .before .before .before .before .before .before .before .before .before .before .before .loop .inv) (c .before .before .before .before .before .before .before .before .before .before .before .before .before .before .before .before .before .before .before .before .before .pre .1 .0 .0) (c .before .before .before .before .before .before .before .before .before .before .before .before .before .before .before .before .before .before .before .before .before .pre .1 .1 .1) (c .before .before .before .before .before .before .before .before .before .before .before .before .before .write-run .ensures) k
+    let halt = c .before .before .before .before .before .before .before in
+    let ran = ran-of halt in
+    let turn = turn-of ran in
+    let start = entry-of turn in
+    let a = start .args in
+    going-stopped (a .reading) (a .text .now) (a .list .now) (a .pool .now) (a .place) (a .out .now) (a .seen .now) (turn .loop .inv) (start .pre .1 .0 .0)
+    (start .pre .1 .1 .1) (ran .write-run .ensures) (halt-kept halt (c .before .number .given .1))
 
--- src/lib.rt:483:9
+-- ---- the halt is passed: to the next one
+
 add-met : tie.Need-add-met Inv-loop μ-loop
-add-met c = omega (arith, c .before .before .before .before .before .before .before .before .before .before .before .before .before .before .before .loop .inv .few, c .before .before .before .before .before .before .before .before .before .before .before .before .before .before .before .loop .inv .halt .smooth .from, c .before .before .before .before .before .before .before .before .before .before .before .before .before .before .before .loop .inv .halt .smooth .to, c .before .before .before .before .before .before .before .before .before .before .before .before .before .before .before .before .before .before .before .before .before .pre .1 .0)
+add-met c =
+    let turn = turn-of (ran-of (halt-of c)) in
+    let inv = turn .loop .inv in
+    omega (arith, inv .few, inv .halt .smooth .from, inv .halt .smooth .to, entry-of turn .pre .1 .0)
 
--- src/lib.rt:484:9
 next-halt-requires : tie.Need-next-halt-requires Inv-loop μ-loop
-next-halt-requires c κs =
-    let a = c .before .before .before .before .before .before .before .before .before .before .before .before .before .before .before .before .before .before .before .before .before .before .args in
-    let k = (subst (HaltKeeps (levelOf (a .reading) (a .list .now) (a .pool .now) (a .text .now)) (a .reading .base) (placeOf (c .before .before .before .before .before .before .before .before .before .before .before .before .before .before .before .before .loop .end) (c .before .before .before .before .before .before .before .before .before .before .before .before .before .before .before .before .loop .len + (c .before .before .before .before .before .before .before .before .before .before .before .before .before .before .before .before .loop .end - c .before .before .before .before .before .before .before .before .before .before .before .before .before .before .before .before .loop .at)) (c .before .before .before .before .before .before .before .before .before .before .before .before .before .before .before .before .loop .made)) (c .before .before .before .before .before .before .before .before .before .before .before .before .before .before .write-run .last .1 .1 .1 .1 .0) (c .before .before .before .before .before .before .before .before .before .before .before .before .before .before .before .before .loop .seen) (c .before .before .before .before .before .before .before .before .halt-step .last .1 .1 .1 .1 .1 .1 .1 .0) (c .before .before .before .before .before .before .before .before .halt-step .last .1 .1 .1 .1 .1 .1 .0)) (c .before .before .next .given .1) (c .before .before .before .before .before .before .before .before .halt-step .ensures)) in
-    going-inside (a .reading) (a .text .now) (a .list .now) (a .pool .now) (a .place) (a .out .now) (a .seen .now) (c .before .before .before .before .before .before .before .before .before .before .before .before .before .before .before .before .loop .inv) (c .before .before .before .before .before .before .before .before .before .before .before .before .before .before .before .before .before .before .before .before .before .before .pre .1 .0 .0) (c .before .before .before .before .before .before .before .before .before .before .before .before .before .before .before .before .before .before .before .before .before .before .pre .1 .1 .1) (c .before .before .before .before .before .before .before .before .before .before .before .before .before .before .write-run .ensures) k
+next-halt-requires c κs = halt-kept (halt-of (c .before)) (c .before .before .next .given .1) .past .1
 
--- src/lib.rt:426:5
 loop-less : tie.Need-loop-less Inv-loop μ-loop
 loop-less c =
-    let a = c .before .before .before .before .before .before .before .before .before .before .before .before .before .before .before .before .before .before .before .before .before .before .before .args in
-    let k = (subst (HaltKeeps (levelOf (a .reading) (a .list .now) (a .pool .now) (a .text .now)) (a .reading .base) (placeOf (c .before .before .before .before .before .before .before .before .before .before .before .before .before .before .before .before .before .loop .end) (c .before .before .before .before .before .before .before .before .before .before .before .before .before .before .before .before .before .loop .len + (c .before .before .before .before .before .before .before .before .before .before .before .before .before .before .before .before .before .loop .end - c .before .before .before .before .before .before .before .before .before .before .before .before .before .before .before .before .before .loop .at)) (c .before .before .before .before .before .before .before .before .before .before .before .before .before .before .before .before .before .loop .made)) (c .before .before .before .before .before .before .before .before .before .before .before .before .before .before .before .write-run .last .1 .1 .1 .1 .0) (c .before .before .before .before .before .before .before .before .before .before .before .before .before .before .before .before .before .loop .seen) (c .before .before .before .before .before .before .before .before .before .halt-step .last .1 .1 .1 .1 .1 .1 .1 .0) (c .before .before .before .before .before .before .before .before .before .halt-step .last .1 .1 .1 .1 .1 .1 .0)) (c .before .before .before .next .given .1) (c .before .before .before .before .before .before .before .before .before .halt-step .ensures)) in
-    omega (arith, going-on (a .reading) (a .text .now) (a .list .now) (a .pool .now) (a .place) (a .out .now) (a .seen .now) (c .before .before .before .before .before .before .before .before .before .before .before .before .before .before .before .before .before .loop .inv) (c .before .before .before .before .before .before .before .before .before .before .before .before .before .before .before .before .before .before .before .before .before .before .before .pre .1 .0 .0) (c .before .before .before .before .before .before .before .before .before .before .before .before .before .before .before .before .before .before .before .before .before .before .before .pre .1 .1 .1) (c .before .before .before .before .before .before .before .before .before .before .before .before .before .before .before .write-run .ensures) k, going-inside (a .reading) (a .text .now) (a .list .now) (a .pool .now) (a .place) (a .out .now) (a .seen .now) (c .before .before .before .before .before .before .before .before .before .before .before .before .before .before .before .before .before .loop .inv) (c .before .before .before .before .before .before .before .before .before .before .before .before .before .before .before .before .before .before .before .before .before .before .before .pre .1 .0 .0) (c .before .before .before .before .before .before .before .before .before .before .before .before .before .before .before .before .before .before .before .before .before .before .before .pre .1 .1 .1) (c .before .before .before .before .before .before .before .before .before .before .before .before .before .before .before .write-run .ensures) k)
+    let passed = c .before .before in
+    let k = halt-kept (halt-of passed) (passed .before .next .given .1) in
+    omega (arith, turn-of (ran-of (halt-of passed)) .loop .inv .halt .smooth .from, k .past)
 
--- src/lib.rt:426:5
 loop-again : tie.Need-loop-again Inv-loop μ-loop
 loop-again c =
-    let a = c .before .before .before .before .before .before .before .before .before .before .before .before .before .before .before .before .before .before .before .before .before .before .before .args in
-    let k = (subst (HaltKeeps (levelOf (a .reading) (a .list .now) (a .pool .now) (a .text .now)) (a .reading .base) (placeOf (c .before .before .before .before .before .before .before .before .before .before .before .before .before .before .before .before .before .loop .end) (c .before .before .before .before .before .before .before .before .before .before .before .before .before .before .before .before .before .loop .len + (c .before .before .before .before .before .before .before .before .before .before .before .before .before .before .before .before .before .loop .end - c .before .before .before .before .before .before .before .before .before .before .before .before .before .before .before .before .before .loop .at)) (c .before .before .before .before .before .before .before .before .before .before .before .before .before .before .before .before .before .loop .made)) (c .before .before .before .before .before .before .before .before .before .before .before .before .before .before .before .write-run .last .1 .1 .1 .1 .0) (c .before .before .before .before .before .before .before .before .before .before .before .before .before .before .before .before .before .loop .seen) (c .before .before .before .before .before .before .before .before .before .halt-step .last .1 .1 .1 .1 .1 .1 .1 .0) (c .before .before .before .before .before .before .before .before .before .halt-step .last .1 .1 .1 .1 .1 .1 .0)) (c .before .before .before .next .given .1) (c .before .before .before .before .before .before .before .before .before .halt-step .ensures)) in
-    going-next (a .reading) (a .text .now) (a .list .now) (a .pool .now) (a .place) (a .out .now) (a .seen .now) (c .before .before .before .before .before .before .before .before .before .before .before .before .before .before .before .before .before .loop .inv) (c .before .before .before .before .before .before .before .before .before .before .before .before .before .before .before .before .before .before .before .before .before .before .before .pre .1 .0 .0) (c .before .before .before .before .before .before .before .before .before .before .before .before .before .before .before .before .before .before .before .before .before .before .before .pre .1 .1 .1) (c .before .before .before .before .before .before .before .before .before .before .before .before .before .before .before .write-run .ensures) k (c .next-halt .ensures)
+    let passed = c .before .before in
+    let ran = ran-of (halt-of passed) in
+    let turn = turn-of ran in
+    let start = entry-of turn in
+    let a = start .args in
+    going-next (a .reading) (a .text .now) (a .list .now) (a .pool .now) (a .place) (a .out .now) (a .seen .now) (turn .loop .inv) (start .pre .1 .0 .0)
+    (start .pre .1 .1 .1) (ran .write-run .ensures) (halt-kept (halt-of passed) (passed .before .next .given .1)) (c .next-halt .ensures)
 
 pub normalize-flat-spec : {M : Type 1} → statement M
 normalize-flat-spec =

@@ -4,33 +4,22 @@ use Rattle.flat.proofs.References.{number-char, number-refused}
 use borrow.Author.Needs.{needs}
 use Rattle.flat.proofs.number_meaning.Statement.{statement}
 use Rattle.flat.proofs.number_meaning.Tie as tie
-use Rattle.flat.proofs.number_meaning.Reads as reads
-use Rattle.flat.proofs.number_meaning.Lts as lts
-use Rattle.charref.proofs.answer_of.Reads as answer-of-reads
-use Rattle.charref.proofs.parse_number.Reads as parse-number-reads
-use Rattle.flat.proofs.handed.Reads as handed-reads
 
--- src/lib.rt:190:9
 parse-number-requires : tie.Need-parse-number-requires
 parse-number-requires c κs = search needs
 
--- src/lib.rt:191:26
 enum-known-n : tie.Need-enum-known-n
 enum-known-n c = search needs
 
--- src/lib.rt:192:23
 answer-of-requires : tie.Need-answer-of-requires
 answer-of-requires c κs = search needs
 
--- src/lib.rt:192:9
 handed-requires : tie.Need-handed-requires
 handed-requires c κs = search needs
 
--- src/lib.rt:192:9
 returns : tie.Need-returns
 returns c = number-refused (c .before .before .before .before .before .args .digits .now) (c .before .before .before .before .before .args .next) (sym (c .before .before .before .parse-number .ensures)) (c .before .before .match .keys2) (c .handed .ensures ∙ ap handedTo (c .before .answer-of .ensures))
 
--- src/lib.rt:187:1
 returns-2 : tie.Need-returns-2
 returns-2 c = number-char (c .before .before .before .before .before .args .digits .now) (c .before .before .before .before .before .args .next) (sym (c .before .before .before .parse-number .ensures) ∙ c .before .n .given .1)
 

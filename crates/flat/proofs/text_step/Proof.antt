@@ -1,6 +1,6 @@
 use Rattle.halts.specs.Halts.{blanksSpaced}
 use Prim.Native.Nat.{ℕ, _-_}
-use mathlib.Core.Path.{_≡_, sym, ap, subst, _∙_}
+use mathlib.Core.Path.{_≡_, sym, subst}
 use mathlib.Core.List.{List}
 use native.Mathlib.Omega.{arith}
 use lib.ListN.{length, take, drop}
@@ -11,34 +11,22 @@ use Rattle.flat.proofs.Halting.{halt-limit, halt-again, halt-opens, hal
 use borrow.Author.Needs.{needs}
 use Rattle.flat.proofs.text_step.Statement.{statement}
 use Rattle.flat.proofs.text_step.Tie as tie
-use Rattle.flat.proofs.text_step.Reads as reads
-use Rattle.flat.proofs.text_step.Lts as lts
-use Rattle.memory.proofs.again.Reads as again-reads
-use Rattle.flat.proofs.is_leaf.Reads as is-leaf-reads
-use Rattle.memory.proofs.keep.Reads as keep-reads
-use Rattle.flat.proofs.write_run.Reads as write-run-reads
 
--- src/lib.rt:260:9
 returns : tie.Need-returns
 returns c = λ t list pool k. halt-limit (c .before .before .before .before .before .before .args .reading) t list pool (c .before .before .before .before .before .before .args .place) k (c .before .before .before .before .before .before .pre .0 .1) (c .before .before .before .before .before .before .args .out .now) (c .before .before .before .before .before .before .args .seen .now) (c .if1 .taken)
 
--- src/lib.rt:269:9
 again-requires : tie.Need-again-requires
 again-requires c κs = search needs
 
--- src/lib.rt:267:14
 enum-known-more : tie.Need-enum-known-more
 enum-known-more c = search needs
 
--- src/lib.rt:271:9
 same-length : tie.Need-same-length
 same-length c = search needs
 
--- src/lib.rt:271:9
 same-length-2 : tie.Need-same-length-2
 same-length-2 c = search needs
 
--- src/lib.rt:271:9
 returns-2 : tie.Need-returns-2
 returns-2 c = λ t list pool k.
     let a = c .before .before .before .before .before .before .before .before .before .before .before .before .before .before .args in
@@ -48,35 +36,27 @@ returns-2 c = λ t list pool k.
 enum-told : tie.Need-enum-told
 enum-told c = search needs
 
--- src/lib.rt:278:12
 is-leaf-requires : tie.Need-is-leaf-requires
 is-leaf-requires c κs = search needs
 
--- src/lib.rt:280:13
 write-run-requires : tie.Need-write-run-requires
 write-run-requires c κs = search needs
 
--- src/lib.rt:281:36
 add-keep : tie.Need-add-keep
 add-keep c = omega (arith, c .before .before .before .before .before .before .before .before .before .before .before .before .before .before .before .before .before .before .before .before .before .before .before .before .pre .1 .0)
 
--- src/lib.rt:281:13
 keep-requires : tie.Need-keep-requires
 keep-requires c κs = ((c .before .before .before .before .before .before .before .before .before .before .before .before .before .before .before .before .before .before .before .before .before .before .before .before .before .pre .0 .0, c .before .before .before .before .before .before .before .before .before .before .before .before .before .before .before .before .before .before .before .before .before .before .before .before .before .pre .0 .1), c .before .before .before .before .before .before .before .before .before .before .before .before .before .before .before .before .before .before .before .before .before .before .before .before .before .pre .1 .1 .size)
 
--- src/lib.rt:285:27
 add-t27 : tie.Need-add-t27
 add-t27 c = omega (arith, c .before .before .before .before .before .before .before .before .before .before .before .before .before .before .before .before .before .before .before .before .before .before .before .before .before .before .before .before .before .pre .1 .0)
 
--- src/lib.rt:282:13
 same-length-3 : tie.Need-same-length-3
 same-length-3 c = search needs
 
--- src/lib.rt:282:13
 same-length-4 : tie.Need-same-length-4
 same-length-4 c = search needs
 
--- src/lib.rt:282:13
 returns-3 : tie.Need-returns-3
 returns-3 c = λ t list pool k.
     let a = c .before .before .before .before .before .before .before .before .before .before .before .before .before .before .before .before .before .before .before .before .before .before .before .before .before .before .before .before .before .args in
@@ -85,15 +65,12 @@ returns-3 c = λ t list pool k.
     (subst (λ (x : List ℕ). Adds (blanksSpaced (take (length (a .value .now) - 0) (drop 0 (a .value .now)))) (a .place .len) x (c .before .before .before .before .before .before .before .before .before .write-run .last .1 .1 .1 .1 .0)) same (c .before .before .before .before .before .before .before .before .before .write-run .ensures))
     (c .before .before .before .keep .ensures)
 
--- src/lib.rt:244:1
 same-length-5 : tie.Need-same-length-5
 same-length-5 c = search needs
 
--- src/lib.rt:244:1
 same-length-6 : tie.Need-same-length-6
 same-length-6 c = search needs
 
--- src/lib.rt:244:1
 returns-4 : tie.Need-returns-4
 returns-4 c = λ t list pool k.
     let a = c .before .before .before .before .before .before .before .before .before .before .before .before .before .before .before .before .before .before .args in
@@ -101,15 +78,12 @@ returns-4 c = λ t list pool k.
     subst (λ (x : List ℕ). HaltKeeps (levelOf (a .reading) list pool t) (a .reading .base) (a .place) (a .out .now) (a .seen .now) x (a .seen .now) (Opening (a .next) (a .command) (a .slot))) (sym same)
     (halt-opens (a .reading) t list pool (a .place) k (c .before .before .before .before .before .before .before .before .before .before .before .before .before .before .before .before .before .before .pre .0 .1) (a .out .now) (a .seen .now) (c .before .before .before .before .before .before .before .before .before .before .before .before .if1 .left))
 
--- src/lib.rt:244:1
 same-length-7 : tie.Need-same-length-7
 same-length-7 c = search needs
 
--- src/lib.rt:244:1
 same-length-8 : tie.Need-same-length-8
 same-length-8 c = search needs
 
--- src/lib.rt:244:1
 returns-5 : tie.Need-returns-5
 returns-5 c = λ t list pool k.
     let a = c .before .before .before .before .before .before .before .before .before .before .before .before .before .before .before .args in

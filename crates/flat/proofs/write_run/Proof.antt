@@ -2,63 +2,47 @@ use Rattle.flat.proofs.Writing.{run-piece, run-none, run-empty}
 use borrow.Author.Needs.{needs}
 use Rattle.flat.proofs.write_run.Statement.{statement}
 use Rattle.flat.proofs.write_run.Tie as tie
-use Rattle.flat.proofs.write_run.Reads as reads
-use Rattle.flat.proofs.write_run.Lts as lts
-use Rattle.halts.proofs.put_spaced.Reads as put-spaced-reads
 
--- src/lib.rt:132:13
 sub-n : tie.Need-sub-n
 sub-n c = search needs
 
--- src/lib.rt:134:12
 add-if2 : tie.Need-add-if2
 add-if2 c = search needs
 
--- src/lib.rt:135:24
 sub-put-spaced : tie.Need-sub-put-spaced
 sub-put-spaced c = search needs
 
--- src/lib.rt:135:24
 part-put-spaced-start : tie.Need-part-put-spaced-start
 part-put-spaced-start c = search needs
 
--- src/lib.rt:135:24
 part-put-spaced-end : tie.Need-part-put-spaced-end
 part-put-spaced-end c = search needs
 
--- src/lib.rt:135:41
 sub-put-spaced-2 : tie.Need-sub-put-spaced-2
 sub-put-spaced-2 c = search needs
 
--- src/lib.rt:135:41
 part-put-spaced-start-2 : tie.Need-part-put-spaced-start-2
 part-put-spaced-start-2 c = search needs
 
--- src/lib.rt:135:41
 part-put-spaced-end-2 : tie.Need-part-put-spaced-end-2
 part-put-spaced-end-2 c = search needs
 
--- src/lib.rt:135:13
 put-spaced-requires : tie.Need-put-spaced-requires
 put-spaced-requires c κs = search needs
 
--- src/lib.rt:128:1
 same-length : tie.Need-same-length
 same-length c = search needs
 
--- src/lib.rt:128:1
 returns : tie.Need-returns
 returns c =
     let a = c .before .before .before .before .before .before .before .before .before .args in
     run-piece (a .text .now) (a .from) (a .to) (c .before .before .before .before .before .before .before .before .before .pre .0) (c .before .before .before .before .before .before .before .before .before .pre .1) (a .len) (a .out .now) (c .before .before .before .before .before .if2 .taken) (c .before .before .put-spaced .ensures)
 
--- src/lib.rt:128:1
 returns-2 : tie.Need-returns-2
 returns-2 c =
     let a = c .before .before .before .before .args in
     run-none (a .text .now) (a .from) (a .to) (c .before .before .before .before .pre .0) (c .before .before .before .before .pre .1) (a .len) (a .out .now) (c .if2 .left)
 
--- src/lib.rt:128:1
 returns-3 : tie.Need-returns-3
 returns-3 c =
     let a = c .before .before .before .args in

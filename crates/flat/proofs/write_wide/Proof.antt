@@ -1,53 +1,37 @@
-use mathlib.Core.Path.{sym, ap, subst, _∙_}
 use native.Mathlib.Omega.{arith}
-use Prim.Native.Nat.{ℕ, _+_, _≤_, _<_}
-use lib.ListN.{length}
 use Rattle.charref.specs.CharRef.{encode}
 use Rattle.charref.proofs.Encoding.{encode-at-most}
 use Rattle.memory.proofs.Fitted.{adds-piece, adds-none}
 use borrow.Author.Needs.{needs}
 use Rattle.flat.proofs.write_wide.Statement.{statement}
 use Rattle.flat.proofs.write_wide.Tie as tie
-use Rattle.flat.proofs.write_wide.Reads as reads
-use Rattle.flat.proofs.write_wide.Lts as lts
-use Rattle.charref.proofs.encode_utf8.Reads as encode-utf8-reads
-use Rattle.charref.proofs.utf8_length.Reads as utf8-length-reads
 
--- src/lib.rt:143:9
 utf8-length-requires : tie.Need-utf8-length-requires
 utf8-length-requires c κs = search needs
 
--- src/lib.rt:144:8
 add-if1 : tie.Need-add-if1
 add-if1 c = omega (arith, c .utf8-length .ensures, encode-at-most (c .before .before .args .c), c .before .before .pre)
 
--- src/lib.rt:145:33
 sub-encode-utf8 : tie.Need-sub-encode-utf8
 sub-encode-utf8 c = search needs
 
--- src/lib.rt:145:33
 part-encode-utf8-start : tie.Need-part-encode-utf8-start
 part-encode-utf8-start c = search needs
 
--- src/lib.rt:145:33
 part-encode-utf8-end : tie.Need-part-encode-utf8-end
 part-encode-utf8-end c = search needs
 
--- src/lib.rt:145:9
 encode-utf8-requires : tie.Need-encode-utf8-requires
 encode-utf8-requires c κs = search needs
 
--- src/lib.rt:139:1
 same-length : tie.Need-same-length
 same-length c = search needs
 
--- src/lib.rt:139:1
 returns : tie.Need-returns
 returns c =
     let a = c .before .before .before .before .before .before .before .args in
     (c .before .before .before .before .before .utf8-length .ensures, adds-piece (encode (a .c)) (omega (arith, c .before .before .before .before .if1 .taken, c .before .before .before .before .before .utf8-length .ensures)) (c .before .before .encode-utf8 .ensures .1))
 
--- src/lib.rt:139:1
 returns-2 : tie.Need-returns-2
 returns-2 c =
     let a = c .before .before .before .args in
