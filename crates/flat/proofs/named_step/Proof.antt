@@ -1,12 +1,38 @@
-use mathlib.Core.Path.{subst}
+-- What the table says of the name (`refers`) decides: a text goes on in `text_step`, which is told what the name refers to (`referred`), a
+-- predefined name is its byte, any other name is refused.
+use Prim.Native.Nat.{ℕ, _<_}
+use mathlib.Core.Path.{_≡_, subst}
 use native.Mathlib.Omega.{arith}
+use lib.ListN.{getD}
 use Rattle.entity.specs.Commands.{Refers}
+use Rattle.entity.specs.declared.Referent.{Referent}
 use Rattle.memory.proofs.Readings.{lent-within, lent-room, lent-bounds}
 use Rattle.flat.specs.Between.{nameOf}
 use Rattle.flat.proofs.Halting.{referred, halt-unknown, halt-predefined, valid-short, refers-part}
 use borrow.Author.Needs.{needs}
 use Rattle.flat.proofs.named_step.Statement.{statement}
 use Rattle.flat.proofs.named_step.Tie as tie
+
+-- ---- places: the entry, the answer of the table, and where it is a text
+
+abbrev entry : tie.After-refers-to → tie.Start
+entry c = c .before .before .before .before .before .before .before .before .before .before .before
+
+abbrev asked : tie.After-known-told → tie.After-refers-to
+asked c = c .before .before .before
+
+-- ---- facts of these places
+
+-- what the table says of the name, as it was matched
+refers : (c : tie.After-refers-to) {r : Referent} → c .refers-to .result ≡ r
+    → Refers (entry c .args .list .now) (entry c .args .pool .now) (nameOf (entry c .args .text .now) (entry c .args .place .at) (entry c .args .end)) r
+refers c q =
+    let a = entry c .args in
+    subst (Refers (a .list .now) (a .pool .now) (nameOf (a .text .now) (a .place .at) (a .end))) q (c .refers-to .ensures)
+
+-- the list is one of bytes
+list-bytes : (c : tie.After-refers-to) (k : ℕ) → getD (entry c .args .list .now) k 0 < 0x100
+list-bytes c k = omega (arith, c .before .before .before .before .before .before .before .before .before .shared-slice-known2 .given k)
 
 add-from : tie.Need-add-from
 add-from c = search needs
@@ -39,21 +65,14 @@ enum-known-command : tie.Need-enum-known-command
 enum-known-command c = search needs
 
 sub-text-step : tie.Need-sub-text-step
-sub-text-step c =
-    let a = c .before .before .before .before .before .before .before .before .before .before .before .before .before .before .args in
-    let k = subst (Refers (a .list .now) (a .pool .now) (nameOf (a .text .now) (a .place .at) (a .end))) (c .before .command .given .1) (c .before .before .before .refers-to .ensures) in
-    omega (arith, k .ends)
+sub-text-step c = omega (arith, refers (asked c) (c .before .command .given .1) .ends)
 
 part-text-step-start : tie.Need-part-text-step-start
-part-text-step-start c =
-    let a = c .before .before .before .before .before .before .before .before .before .before .before .before .before .before .args in
-    let k = subst (Refers (a .list .now) (a .pool .now) (nameOf (a .text .now) (a .place .at) (a .end))) (c .before .command .given .1) (c .before .before .before .refers-to .ensures) in
-    omega (arith, k .ends)
+part-text-step-start c = omega (arith, refers (asked c) (c .before .command .given .1) .ends)
 
 part-text-step-end : tie.Need-part-text-step-end
 part-text-step-end c =
-    let a = c .before .before .before .before .before .before .before .before .before .before .before .before .before .before .args in
-    let k = subst (Refers (a .list .now) (a .pool .now) (nameOf (a .text .now) (a .place .at) (a .end))) (c .before .command .given .1) (c .before .before .before .refers-to .ensures) in
+    let k = refers (asked c) (c .before .command .given .1) in
     omega (arith, k .ends, k .starts, k .defines .inside)
 
 add-text-step : tie.Need-add-text-step
@@ -61,14 +80,21 @@ add-text-step c = search needs
 
 text-step-requires : tie.Need-text-step-requires
 text-step-requires c κs =
-    let a = c .before .before .before .before .before .before .before .before .before .before .before .before .before .before .before .before .before .args in
-    let k = subst (Refers (a .list .now) (a .pool .now) (nameOf (a .text .now) (a .place .at) (a .end))) (c .before .before .before .before .command .given .1) (c .before .before .before .before .before .before .refers-to .ensures) in
-    let n = c .before .before .before .before .before .before .before .before .before .before .before .before .before .before .before .before .before .pre .1 .1 .1 in
-    let h = c .before .before .before .before .before .before .before .before .before .slot-of .ensures in
-    let within = lent-within (a .reading) (a .list .now) (a .pool .now) (a .text .now) n in
-    let room = lent-room (a .reading) (a .list .now) (a .pool .now) (a .text .now) n in (
-      (omega (arith, k .defines .fits, valid-short (a .list .now) (a .pool .now) (c .before .before .before .before .before .before .before .before .before .before .before .before .before .before .before .before .before .pre .0)), h, refers-part k),
-      ((within, c .before .before .before .before .before .before .before .before .before .before .before .before .before .before .before .before .before .pre .1 .0 .1, omega (arith, room, within, c .before .before .before .before .before .before .before .before .before .before .before .before .before .before .before .before .before .pre .1 .0 .1)), lent-bounds (a .reading) (a .list .now) (a .pool .now) (a .text .now) n _ (c .before .before .before .before .before .before .before .before .before .slot-of .result) h),
+    let told = c .before .before .before in
+    let at-slot = asked told .before .before .before in
+    let start = entry (asked told) in
+    let a = start .args in
+    let k = refers (asked told) (told .before .command .given .1) in
+    let lent = start .pre .1 .1 .1 in
+    let limit = start .pre .1 .0 .1 in
+    let slot = at-slot .slot-of .ensures in
+    let within = lent-within (a .reading) (a .list .now) (a .pool .now) (a .text .now) lent in
+    let room = lent-room (a .reading) (a .list .now) (a .pool .now) (a .text .now) lent in (
+      (omega (arith, k .defines .fits, valid-short (a .list .now) (a .pool .now) (start .pre .0)), slot, refers-part k),
+      (
+        (within, limit, omega (arith, room, within, limit)),
+        lent-bounds (a .reading) (a .list .now) (a .pool .now) (a .text .now) lent _ (at-slot .slot-of .result) slot,
+      ),
     )
 
 enum-known-b : tie.Need-enum-known-b
@@ -94,10 +120,12 @@ same-length-2 c = search needs
 
 returns : tie.Need-returns
 returns c =
-    let a = c .before .before .before .before .before .before .before .before .before .before .before .before .before .before .before .before .before .before .before .before .before .before .args in
-    let k = subst (Refers (a .list .now) (a .pool .now) (nameOf (a .text .now) (a .place .at) (a .end))) (c .before .before .before .before .before .before .before .before .before .command .given .1) (c .before .before .before .before .before .before .before .before .before .before .before .refers-to .ensures) in
+    let told = c .before .before .before .before .before .before .before .before in
+    let start = entry (asked told) in
+    let a = start .args in
     c .before .before .before .before .text-step .ensures (a .text .now) (a .list .now) (a .pool .now)
-    (referred (a .reading) (a .text .now) (a .list .now) (a .pool .now) (a .place) (c .before .before .before .before .before .before .before .before .before .before .before .before .before .before .before .before .before .before .before .before .before .before .pre .1 .0 .0) (λ k. omega (arith, c .before .before .before .before .before .before .before .before .before .before .before .before .before .before .before .before .before .before .before .before .shared-slice-known2 .given k)) (c .before .before .before .before .before .before .before .before .before .before .before .before .before .before .before .before .before .before .before .before .before .before .pre .1 .1 .0) k)
+    (referred (a .reading) (a .text .now) (a .list .now) (a .pool .now) (a .place) (start .pre .1 .0 .0) (list-bytes (asked told)) (start .pre .1 .1 .0)
+    (refers (asked told) (told .before .command .given .1)))
 
 same-length-3 : tie.Need-same-length-3
 same-length-3 c = search needs
@@ -107,18 +135,25 @@ same-length-4 c = search needs
 
 returns-2 : tie.Need-returns-2
 returns-2 c =
-    let a = c .before .before .before .before .before .before .before .before .before .before .before .before .before .before .before .before .before .before .before .before .before .before .args in
-    let k = subst (Refers (a .list .now) (a .pool .now) (nameOf (a .text .now) (a .place .at) (a .end))) (c .before .before .before .before .before .before .before .before .before .b .given .1) (c .before .before .before .before .before .before .before .before .before .before .before .refers-to .ensures) in
-    halt-predefined (a .reading) (a .text .now) (a .list .now) (a .pool .now) (a .place) (c .before .before .before .before .before .before .before .before .before .before .before .before .before .before .before .before .before .before .before .before .before .before .pre .1 .0 .0) (a .out .now) (a .seen .now) (c .before .before .before .before .before .before .before .before .before .before .before .before .before .before .before .before .before .before .before .before .before .before .pre .1 .1 .0) (k .1) (k .2) (c .before .before .put-byte .ensures) (c .before .before .before .before .before .before .keep-plain .ensures)
+    let kept = c .before .before .before .before .before .before in
+    let at-byte = kept .before .before .before in
+    let answer = at-byte .before .before in
+    let start = entry answer in
+    let a = start .args in
+    let k = refers answer (at-byte .b .given .1) in
+    halt-predefined (a .reading) (a .text .now) (a .list .now) (a .pool .now) (a .place) (start .pre .1 .0 .0) (a .out .now) (a .seen .now)
+    (start .pre .1 .1 .0) (k .1) (k .2) (c .before .before .put-byte .ensures) (kept .keep-plain .ensures)
 
 same-length-5 : tie.Need-same-length-5
 same-length-5 c = search needs
 
 returns-3 : tie.Need-returns-3
 returns-3 c =
-    let a = c .before .before .before .before .before .before .before .before .before .before .before .before .before .args in
-    let k = subst (Refers (a .list .now) (a .pool .now) (nameOf (a .text .now) (a .place .at) (a .end))) (c .enum-told .given .1) (c .before .before .refers-to .ensures) in
-    halt-unknown (a .reading) (a .text .now) (a .list .now) (a .pool .now) (a .place) (c .before .before .before .before .before .before .before .before .before .before .before .before .before .pre .1 .0 .0) (a .out .now) (a .seen .now) (c .before .before .before .before .before .before .before .before .before .before .before .before .before .pre .1 .1 .0) k
+    let answer = c .before .before in
+    let start = entry answer in
+    let a = start .args in
+    halt-unknown (a .reading) (a .text .now) (a .list .now) (a .pool .now) (a .place) (start .pre .1 .0 .0) (a .out .now) (a .seen .now)
+    (start .pre .1 .1 .0) (refers answer (c .enum-told .given .1))
 
 pub named-step-spec : {M : Type 1} → statement M
 named-step-spec =

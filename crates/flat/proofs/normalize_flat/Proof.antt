@@ -65,11 +65,11 @@ len-small c =
     let start = entry-of c in
     let a = start .args in
     let room =
-        going-room (a .reading) (a .text .now) (a .list .now) (a .pool .now) (a .place) (a .out .now) (a .seen .now) (c .loop .inv) (start .pre .1 .0 .0)
-        (start .pre .1 .1 .1) in
+    going-room (a .reading) (a .text .now) (a .list .now) (a .pool .now) (a .place) (a .out .now) (a .seen .now) (c .loop .inv) (start .pre .1 .0 .0)
+    (start .pre .1 .1 .1) in
     let within =
-        going-within (a .reading) (a .text .now) (a .list .now) (a .pool .now) (a .place) (a .out .now) (a .seen .now) (c .loop .inv) (start .pre .1 .0 .0)
-        (start .pre .1 .1 .1) in
+    going-within (a .reading) (a .text .now) (a .list .now) (a .pool .now) (a .place) (a .out .now) (a .seen .now) (c .loop .inv) (start .pre .1 .0 .0)
+    (start .pre .1 .1 .1) in
     omega (arith, room, within, start .pre .1 .0 .1)
 
 -- what `halt_step` keeps, of the result as it was matched
@@ -148,8 +148,8 @@ halt-step-requires c κs =
     let h = turn .loop .inv .halt in
     let inside : turn .loop .end < length (a .text .now) = omega (arith, c .before .before .if1 .left, h .smooth .to) in
     let lent =
-        run-lent (a .reading) (a .text .now) (a .list .now) (a .pool .now) (a .place) (a .out .now) (a .seen .now) (turn .loop .inv) (start .pre .1 .0 .0)
-        (start .pre .1 .1 .1) (ran .write-run .ensures) in
+    run-lent (a .reading) (a .text .now) (a .list .now) (a .pool .now) (a .place) (a .out .now) (a .seen .now) (turn .loop .inv) (start .pre .1 .0 .0)
+    (start .pre .1 .1 .1) (ran .write-run .ensures) in
     (start .pre .0, (start .pre .1 .0, ((inside, h .ends inside), lent)))
 
 enum-known-next : tie.Need-enum-known-next Inv-loop μ-loop
@@ -163,11 +163,11 @@ add-len-2 c =
     let a = start .args in
     let k = halt-kept (halt-of c) (c .before .next .given .1) in
     let sum =
-        going-sum (a .reading) (a .text .now) (a .list .now) (a .pool .now) (a .place) (a .out .now) (a .seen .now) (turn .loop .inv) (start .pre .1 .0 .0)
-        (start .pre .1 .1 .1) (ran .write-run .ensures) k in
+    going-sum (a .reading) (a .text .now) (a .list .now) (a .pool .now) (a .place) (a .out .now) (a .seen .now) (turn .loop .inv) (start .pre .1 .0 .0)
+    (start .pre .1 .1 .1) (ran .write-run .ensures) k in
     let made =
-        going-made (a .reading) (a .text .now) (a .list .now) (a .pool .now) (a .place) (a .out .now) (a .seen .now) (turn .loop .inv) (start .pre .1 .0 .0)
-        (start .pre .1 .1 .1) (ran .write-run .ensures) k in
+    going-made (a .reading) (a .text .now) (a .list .now) (a .pool .now) (a .place) (a .out .now) (a .seen .now) (turn .loop .inv) (start .pre .1 .0 .0)
+    (start .pre .1 .1 .1) (ran .write-run .ensures) k in
     omega (arith, sum, made, start .pre .1 .0)
 
 enum-known-next-2 : tie.Need-enum-known-next-2 Inv-loop μ-loop

@@ -1,3 +1,5 @@
+-- A text of the table is refused at the limit, had again from the memory, copied when it is short and without halts, or left to be opened; each
+-- return is a law of Halting.antt. A look that finds nothing leaves the output as it was (`untouched`).
 use Rattle.halts.specs.Halts.{blanksSpaced}
 use Prim.Native.Nat.{ℕ, _-_}
 use mathlib.Core.Path.{_≡_, sym, subst}
@@ -5,15 +7,64 @@ use mathlib.Core.List.{List}
 use native.Mathlib.Omega.{arith}
 use lib.ListN.{length, take, drop}
 use Rattle.memory.specs.Levels.{HadKeeps, levelOf, Adds}
-use Rattle.flat.specs.Between.{HaltKeeps}
+use Rattle.memory.specs.declared.Had.{Had}
+use Rattle.flat.specs.Between.{HaltKeeps, Referred}
 use Rattle.flat.specs.declared.Halted.the-variants.{Opening}
 use Rattle.flat.proofs.Halting.{halt-limit, halt-again, halt-opens, halt-leaf}
 use borrow.Author.Needs.{needs}
 use Rattle.flat.proofs.text_step.Statement.{statement}
 use Rattle.flat.proofs.text_step.Tie as tie
 
+-- ---- places: the entry, the look in the memory, where it found nothing, and the copy of a short text
+
+abbrev entry : tie.After-again → tie.Start
+entry c = c .before .before .before .before .before .before .before .before .before
+
+abbrev looked : tie.After-enum-told → tie.After-again
+looked c = c .before .before .before .before
+
+abbrev missed : tie.After-write-run → tie.After-enum-told
+missed c = c .before .before .before .before .before .before .before
+
+-- the output after the look
+abbrev out-looked : tie.After-again → List ℕ
+out-looked c = c .again .last .1 .1 .1 .1 .1 .0
+
+-- ---- facts of these places
+
+-- what the look keeps, of its result as it was matched
+had-kept : (c : tie.After-again) {r : Had} → c .again .result ≡ r
+    → HadKeeps (entry c .args .command) (entry c .args .slot) (entry c .args .reading) (entry c .args .place) (entry c .args .seen .now)
+    (entry c .args .out .now) (out-looked c) r
+had-kept c q =
+    let a = entry c .args in
+    subst (HadKeeps (a .command) (a .slot) (a .reading) (a .place) (a .seen .now) (a .out .now) (out-looked c)) q (c .again .ensures)
+
+untouched : (c : tie.After-enum-told) → out-looked (looked c) ≡ entry (looked c) .args .out .now
+untouched c = had-kept (looked c) (c .enum-told .given .1)
+
+-- the text is left to be opened
+left-to-open : (c : tie.After-enum-told) (t list pool : List ℕ)
+    → Referred (entry (looked c) .args .reading) t list pool (entry (looked c) .args .place) (entry (looked c) .args .command)
+    (entry (looked c) .args .next) (entry (looked c) .args .value .now)
+    → HaltKeeps (levelOf (entry (looked c) .args .reading) list pool t) (entry (looked c) .args .reading .base) (entry (looked c) .args .place)
+    (entry (looked c) .args .out .now) (entry (looked c) .args .seen .now) (out-looked (looked c)) (entry (looked c) .args .seen .now)
+    (Opening (entry (looked c) .args .next) (entry (looked c) .args .command) (entry (looked c) .args .slot))
+left-to-open c t list pool k =
+    let start = entry (looked c) in
+    let a = start .args in
+    subst
+    (λ (x : List ℕ). HaltKeeps (levelOf (a .reading) list pool t) (a .reading .base) (a .place) (a .out .now) (a .seen .now) x (a .seen .now)
+    (Opening (a .next) (a .command) (a .slot))) (sym (untouched c))
+    (halt-opens (a .reading) t list pool (a .place) k (start .pre .0 .1) (a .out .now) (a .seen .now) (looked c .before .before .before .if1 .left))
+
+-- ---- the limit, and the look
+
 returns : tie.Need-returns
-returns c = λ t list pool k. halt-limit (c .before .before .before .before .before .before .args .reading) t list pool (c .before .before .before .before .before .before .args .place) k (c .before .before .before .before .before .before .pre .0 .1) (c .before .before .before .before .before .before .args .out .now) (c .before .before .before .before .before .before .args .seen .now) (c .if1 .taken)
+returns c = λ t list pool k.
+    let start = c .before .before .before .before .before .before in
+    let a = start .args in
+    halt-limit (a .reading) t list pool (a .place) k (start .pre .0 .1) (a .out .now) (a .seen .now) (c .if1 .taken)
 
 again-requires : tie.Need-again-requires
 again-requires c κs = search needs
@@ -29,12 +80,15 @@ same-length-2 c = search needs
 
 returns-2 : tie.Need-returns-2
 returns-2 c = λ t list pool k.
-    let a = c .before .before .before .before .before .before .before .before .before .before .before .before .before .before .args in
-    halt-again (a .reading) t list pool (a .place) k (c .before .before .before .before .before .before .before .before .before .before .before .before .before .before .pre .0 .1) (a .out .now) (a .seen .now)
-    (subst (HadKeeps (a .command) (a .slot) (a .reading) (a .place) (a .seen .now) (a .out .now) (c .before .before .before .before .before .again .last .1 .1 .1 .1 .1 .0)) (c .before .more .given .1) (c .before .before .before .before .before .again .ensures))
+    let look = c .before .before .before .before .before in
+    let start = entry look in
+    let a = start .args in
+    halt-again (a .reading) t list pool (a .place) k (start .pre .0 .1) (a .out .now) (a .seen .now) (had-kept look (c .before .more .given .1))
 
 enum-told : tie.Need-enum-told
 enum-told c = search needs
+
+-- ---- a short text without halts
 
 is-leaf-requires : tie.Need-is-leaf-requires
 is-leaf-requires c κs = search needs
@@ -43,13 +97,15 @@ write-run-requires : tie.Need-write-run-requires
 write-run-requires c κs = search needs
 
 add-keep : tie.Need-add-keep
-add-keep c = omega (arith, c .before .before .before .before .before .before .before .before .before .before .before .before .before .before .before .before .before .before .before .before .before .before .before .before .pre .1 .0)
+add-keep c = omega (arith, entry (looked (missed (c .before .before .before .before))) .pre .1 .0)
 
 keep-requires : tie.Need-keep-requires
-keep-requires c κs = ((c .before .before .before .before .before .before .before .before .before .before .before .before .before .before .before .before .before .before .before .before .before .before .before .before .before .pre .0 .0, c .before .before .before .before .before .before .before .before .before .before .before .before .before .before .before .before .before .before .before .before .before .before .before .before .before .pre .0 .1), c .before .before .before .before .before .before .before .before .before .before .before .before .before .before .before .before .before .before .before .before .before .before .before .before .before .pre .1 .1 .size)
+keep-requires c κs =
+    let asked = entry (looked (missed (c .before .before .before .before .before))) .pre in
+    ((asked .0 .0, asked .0 .1), asked .1 .1 .size)
 
 add-t27 : tie.Need-add-t27
-add-t27 c = omega (arith, c .before .before .before .before .before .before .before .before .before .before .before .before .before .before .before .before .before .before .before .before .before .before .before .before .before .before .before .before .before .pre .1 .0)
+add-t27 c = omega (arith, entry (looked (missed (c .before .before .before .before .before .before .before .before .before))) .pre .1 .0)
 
 same-length-3 : tie.Need-same-length-3
 same-length-3 c = search needs
@@ -59,11 +115,19 @@ same-length-4 c = search needs
 
 returns-3 : tie.Need-returns-3
 returns-3 c = λ t list pool k.
-    let a = c .before .before .before .before .before .before .before .before .before .before .before .before .before .before .before .before .before .before .before .before .before .before .before .before .before .before .before .before .before .args in
-    let same : c .before .before .before .before .before .before .before .before .before .before .before .before .before .before .before .before .before .before .before .before .again .last .1 .1 .1 .1 .1 .0 ≡ a .out .now = subst (HadKeeps (a .command) (a .slot) (a .reading) (a .place) (a .seen .now) (a .out .now) (c .before .before .before .before .before .before .before .before .before .before .before .before .before .before .before .before .before .before .before .before .again .last .1 .1 .1 .1 .1 .0)) (c .before .before .before .before .before .before .before .before .before .before .before .before .before .before .before .before .enum-told .given .1) (c .before .before .before .before .before .before .before .before .before .before .before .before .before .before .before .before .before .before .before .before .again .ensures) in
-    halt-leaf (a .reading) t list pool (a .place) k (c .before .before .before .before .before .before .before .before .before .before .before .before .before .before .before .before .before .before .before .before .before .before .before .before .before .before .before .before .before .pre .0 .1) (a .out .now) (a .seen .now) (c .before .before .before .before .before .before .before .before .before .before .before .before .before .before .before .before .before .before .before .before .before .before .before .if1 .left) (c .before .before .before .before .before .before .before .before .before .before .before .before .before .before .if2 .taken) (c .before .before .before .before .before .before .before .before .before .before .before .before .is-leaf .ensures (c .before .before .before .before .before .before .before .before .before .before .before .if3 .taken))
-    (subst (λ (x : List ℕ). Adds (blanksSpaced (take (length (a .value .now) - 0) (drop 0 (a .value .now)))) (a .place .len) x (c .before .before .before .before .before .before .before .before .before .write-run .last .1 .1 .1 .1 .0)) same (c .before .before .before .before .before .before .before .before .before .write-run .ensures))
-    (c .before .before .before .keep .ensures)
+    let copy = c .before .before .before .before .before .before .before .before .before in
+    let at-leaf = copy .before .before .before in
+    let miss = missed copy in
+    let start = entry (looked miss) in
+    let a = start .args in
+    let added =
+    subst
+    (λ (x : List ℕ). Adds (blanksSpaced (take (length (a .value .now) - 0) (drop 0 (a .value .now)))) (a .place .len) x
+    (copy .write-run .last .1 .1 .1 .1 .0)) (untouched miss) (copy .write-run .ensures) in
+    halt-leaf (a .reading) t list pool (a .place) k (start .pre .0 .1) (a .out .now) (a .seen .now) (looked miss .before .before .before .if1 .left)
+    (at-leaf .before .before .if2 .taken) (at-leaf .is-leaf .ensures (copy .before .before .if3 .taken)) added (c .before .before .before .keep .ensures)
+
+-- ---- a text to open
 
 same-length-5 : tie.Need-same-length-5
 same-length-5 c = search needs
@@ -72,11 +136,7 @@ same-length-6 : tie.Need-same-length-6
 same-length-6 c = search needs
 
 returns-4 : tie.Need-returns-4
-returns-4 c = λ t list pool k.
-    let a = c .before .before .before .before .before .before .before .before .before .before .before .before .before .before .before .before .before .before .args in
-    let same : c .before .before .before .before .before .before .before .before .before .again .last .1 .1 .1 .1 .1 .0 ≡ a .out .now = subst (HadKeeps (a .command) (a .slot) (a .reading) (a .place) (a .seen .now) (a .out .now) (c .before .before .before .before .before .before .before .before .before .again .last .1 .1 .1 .1 .1 .0)) (c .before .before .before .before .before .enum-told .given .1) (c .before .before .before .before .before .before .before .before .before .again .ensures) in
-    subst (λ (x : List ℕ). HaltKeeps (levelOf (a .reading) list pool t) (a .reading .base) (a .place) (a .out .now) (a .seen .now) x (a .seen .now) (Opening (a .next) (a .command) (a .slot))) (sym same)
-    (halt-opens (a .reading) t list pool (a .place) k (c .before .before .before .before .before .before .before .before .before .before .before .before .before .before .before .before .before .before .pre .0 .1) (a .out .now) (a .seen .now) (c .before .before .before .before .before .before .before .before .before .before .before .before .if1 .left))
+returns-4 c = left-to-open (c .before .before .before .before .before)
 
 same-length-7 : tie.Need-same-length-7
 same-length-7 c = search needs
@@ -85,11 +145,7 @@ same-length-8 : tie.Need-same-length-8
 same-length-8 c = search needs
 
 returns-5 : tie.Need-returns-5
-returns-5 c = λ t list pool k.
-    let a = c .before .before .before .before .before .before .before .before .before .before .before .before .before .before .before .args in
-    let same : c .before .before .before .before .before .before .again .last .1 .1 .1 .1 .1 .0 ≡ a .out .now = subst (HadKeeps (a .command) (a .slot) (a .reading) (a .place) (a .seen .now) (a .out .now) (c .before .before .before .before .before .before .again .last .1 .1 .1 .1 .1 .0)) (c .before .before .enum-told .given .1) (c .before .before .before .before .before .before .again .ensures) in
-    subst (λ (x : List ℕ). HaltKeeps (levelOf (a .reading) list pool t) (a .reading .base) (a .place) (a .out .now) (a .seen .now) x (a .seen .now) (Opening (a .next) (a .command) (a .slot))) (sym same)
-    (halt-opens (a .reading) t list pool (a .place) k (c .before .before .before .before .before .before .before .before .before .before .before .before .before .before .before .pre .0 .1) (a .out .now) (a .seen .now) (c .before .before .before .before .before .before .before .before .before .if1 .left))
+returns-5 c = left-to-open (c .before .before)
 
 pub text-step-spec : {M : Type 1} → statement M
 text-step-spec =
