@@ -1,11 +1,25 @@
-use mathlib.Core.Path.{subst}
+-- A halt is a line end, one space (`halt-blank`), or a reference, and then what it means decides (`means`): a character is written, a name goes on
+-- in `named_step`, a refusal is handed on. Without a memory it may pause instead, and nothing has changed.
+use mathlib.Core.Path.{_≡_, subst}
 use native.Mathlib.Omega.{arith}
 use Rattle.memory.proofs.Readings.{lent-within, lent-room}
 use Rattle.flat.specs.Between.{Means}
+use Rattle.flat.specs.declared.Meaning.{Meaning}
 use Rattle.flat.proofs.Halting.{halt-width, halt-blank, halt-char, halt-refused}
 use borrow.Author.Needs.{needs}
 use Rattle.flat.proofs.halt_step.Statement.{statement}
 use Rattle.flat.proofs.halt_step.Tie as tie
+
+-- places: the entry, seen from the line end's width and from the reference's meaning
+abbrev entry-blank : tie.After-eol-width → tie.Start
+entry-blank c = c .before .before .before .before .before .before .before .before .before
+
+abbrev entry : tie.After-read-reference → tie.Start
+entry c = c .before .before .before .before .before .before .before .before
+
+-- what the reference means, as it was matched
+means : (c : tie.After-read-reference) {r : Meaning} → c .read-reference .result ≡ r → Means (entry c .args .text .now) (entry c .args .place .at) r
+means c q = subst (Means (entry c .args .text .now) (entry c .args .place .at)) q (c .read-reference .ensures)
 
 shared-slice-read-if1 : tie.Need-shared-slice-read-if1
 shared-slice-read-if1 c = search needs
@@ -18,17 +32,24 @@ put-byte-requires c κs = search needs
 
 add-t26 : tie.Need-add-t26
 add-t26 c =
-    let a = c .before .before .before .before .before .before .before .before .before .before .before .before .before .args in
-    let w = halt-width (a .reading) (a .text .now) (a .list .now) (a .pool .now) (a .place) (c .before .before .before .before .before .before .before .before .before .before .before .before .before .pre .1 .0 .0) (a .out .now) (a .seen .now) (c .before .before .before .before .before .before .before .before .before .before .before .before .before .pre .1 .1 .0 .0) (c .before .before .before .before .before .before .before .before .before .before .before .before .before .pre .1 .1 .0 .1) (c .before .before .before .before .before .before .if1 .taken) (c .before .before .before .before .eol-width .ensures) in
-    omega (arith, w .inside, c .before .before .before .before .before .before .before .before .before .before .before .before .before .pre .1 .0 .2)
+    let width = c .before .before .before .before in
+    let start = entry-blank width in
+    let a = start .args in
+    let blank =
+    halt-width (a .reading) (a .text .now) (a .list .now) (a .pool .now) (a .place) (start .pre .1 .0 .0) (a .out .now) (a .seen .now)
+    (start .pre .1 .1 .0 .0) (start .pre .1 .1 .0 .1) (width .before .before .if1 .taken) (width .eol-width .ensures) in
+    omega (arith, blank .inside, start .pre .1 .0 .2)
 
 same-length : tie.Need-same-length
 same-length c = search needs
 
 returns : tie.Need-returns
 returns c =
-    let a = c .before .before .before .before .before .before .before .before .before .before .before .before .before .args in
-    halt-blank (a .reading) (a .text .now) (a .list .now) (a .pool .now) (a .place) (c .before .before .before .before .before .before .before .before .before .before .before .before .before .pre .1 .0 .0) (a .out .now) (a .seen .now) (c .before .before .before .before .before .before .before .before .before .before .before .before .before .pre .1 .1 .0 .0) (c .before .before .before .before .before .before .before .before .before .before .before .before .before .pre .1 .1 .0 .1) (c .before .before .before .before .before .before .if1 .taken) (c .before .before .before .before .eol-width .ensures) (c .before .before .put-byte .ensures)
+    let width = c .before .before .before .before in
+    let start = entry-blank width in
+    let a = start .args in
+    halt-blank (a .reading) (a .text .now) (a .list .now) (a .pool .now) (a .place) (start .pre .1 .0 .0) (a .out .now) (a .seen .now)
+    (start .pre .1 .1 .0 .0) (start .pre .1 .1 .0 .1) (width .before .before .if1 .taken) (width .eol-width .ensures) (c .before .before .put-byte .ensures)
 
 read-reference-requires : tie.Need-read-reference-requires
 read-reference-requires c κs = search needs
@@ -38,10 +59,13 @@ enum-known-c c = search needs
 
 write-char-requires : tie.Need-write-char-requires
 write-char-requires c κs =
-    let a = c .before .before .before .before .before .before .before .before .before .before .before .before .args in
-    let n = c .before .before .before .before .before .before .before .before .before .before .before .before .pre .1 .1 .1 in
-    let m = subst (Means (a .text .now) (a .place .at)) (c .before .before .c .given .1) (c .before .before .before .before .read-reference .ensures) in
-    (m .small, omega (arith, lent-room (a .reading) (a .list .now) (a .pool .now) (a .text .now) n, lent-within (a .reading) (a .list .now) (a .pool .now) (a .text .now) n, c .before .before .before .before .before .before .before .before .before .before .before .before .pre .1 .0 .1))
+    let read = c .before .before .before .before in
+    let start = entry read in
+    let a = start .args in
+    let lent = start .pre .1 .1 .1 in
+    let room = lent-room (a .reading) (a .list .now) (a .pool .now) (a .text .now) lent in
+    let within = lent-within (a .reading) (a .list .now) (a .pool .now) (a .text .now) lent in
+    (means read (c .before .before .c .given .1) .small, omega (arith, room, within, start .pre .1 .0 .1))
 
 enum-known-end : tie.Need-enum-known-end
 enum-known-end c = search needs
@@ -51,9 +75,9 @@ returns-2 c = search needs
 
 named-step-requires : tie.Need-named-step-requires
 named-step-requires c κs =
-    let a = c .before .before .before .before .before .before .before .before .before .before .before .before .before .before .args in
-    let m = subst (Means (a .text .now) (a .place .at)) (c .before .before .before .before .end .given .1) (c .before .before .before .before .before .before .read-reference .ensures) in
-    (c .before .before .before .before .before .before .before .before .before .before .before .before .before .before .pre .0, (c .before .before .before .before .before .before .before .before .before .before .before .before .before .before .pre .1 .0, (m, c .before .before .before .before .before .before .before .before .before .before .before .before .before .before .pre .1 .1 .1)))
+    let read = c .before .before .before .before .before .before in
+    let start = entry read in
+    (start .pre .0, (start .pre .1 .0, (means read (c .before .before .before .before .end .given .1), start .pre .1 .1 .1)))
 
 enum-known-number : tie.Need-enum-known-number
 enum-known-number c = search needs
@@ -63,9 +87,12 @@ same-length-2 c = search needs
 
 returns-3 : tie.Need-returns-3
 returns-3 c =
-    let a = c .before .before .before .before .before .before .before .before .before .before .before .before .before .before .before .args in
-    let m = subst (Means (a .text .now) (a .place .at)) (c .before .before .before .before .before .c .given .1) (c .before .before .before .before .before .before .before .read-reference .ensures) in
-    halt-char (a .reading) (a .text .now) (a .list .now) (a .pool .now) (a .place) (c .before .before .before .before .before .before .before .before .before .before .before .before .before .before .before .pre .1 .0 .0) (a .out .now) (a .seen .now) m (c .before .before .write-char .ensures .0) (c .before .before .write-char .ensures .1)
+    let wrote = c .before .before in
+    let read = c .before .before .before .before .before .before .before in
+    let start = entry read in
+    let a = start .args in
+    halt-char (a .reading) (a .text .now) (a .list .now) (a .pool .now) (a .place) (start .pre .1 .0 .0) (a .out .now) (a .seen .now)
+    (means read (c .before .before .before .before .before .c .given .1)) (wrote .write-char .ensures .0) (wrote .write-char .ensures .1)
 
 same-length-3 : tie.Need-same-length-3
 same-length-3 c = search needs
@@ -78,9 +105,11 @@ returns-4 c = search needs
 
 returns-5 : tie.Need-returns-5
 returns-5 c =
-    let a = c .before .before .before .before .before .before .before .before .before .before .before .args in
-    let m = subst (Means (a .text .now) (a .place .at)) (c .before .number .given .1) (c .before .before .before .read-reference .ensures) in
-    halt-refused (a .reading) (a .text .now) (a .list .now) (a .pool .now) (a .place) (c .before .before .before .before .before .before .before .before .before .before .before .pre .1 .0 .0) (a .out .now) (a .seen .now) (c .before .before .before .before .before .before .before .before .before .before .before .pre .1 .1 .0 .0) m
+    let read = c .before .before .before in
+    let start = entry read in
+    let a = start .args in
+    halt-refused (a .reading) (a .text .now) (a .list .now) (a .pool .now) (a .place) (start .pre .1 .0 .0) (a .out .now) (a .seen .now)
+    (start .pre .1 .1 .0 .0) (means read (c .before .number .given .1))
 
 pub halt-step-spec : {M : Type 1} → statement M
 halt-step-spec =

@@ -1,3 +1,4 @@
+-- Each of the two cases is `handedTo` of the answer as it was matched.
 use mathlib.Core.Path.{sym, ap}
 use Rattle.flat.specs.Between.{handedTo}
 use borrow.Author.Needs.{needs}

@@ -1,3 +1,4 @@
+-- A number that is a character means it (`number-char`); any other has its refusal handed on (`number-refused`).
 use mathlib.Core.Path.{sym, ap, _∙_}
 use Rattle.flat.specs.Between.{handedTo}
 use Rattle.flat.proofs.References.{number-char, number-refused}
@@ -18,10 +19,17 @@ handed-requires : tie.Need-handed-requires
 handed-requires c κs = search needs
 
 returns : tie.Need-returns
-returns c = number-refused (c .before .before .before .before .before .args .digits .now) (c .before .before .before .before .before .args .next) (sym (c .before .before .before .parse-number .ensures)) (c .before .before .match .keys2) (c .handed .ensures ∙ ap handedTo (c .before .answer-of .ensures))
+returns c =
+    let parsed = c .before .before .before in
+    let a = parsed .before .before .args in
+    number-refused (a .digits .now) (a .next) (sym (parsed .parse-number .ensures)) (c .before .before .match .keys2)
+    (c .handed .ensures ∙ ap handedTo (c .before .answer-of .ensures))
 
 returns-2 : tie.Need-returns-2
-returns-2 c = number-char (c .before .before .before .before .before .args .digits .now) (c .before .before .before .before .before .args .next) (sym (c .before .before .before .parse-number .ensures) ∙ c .before .n .given .1)
+returns-2 c =
+    let parsed = c .before .before .before in
+    let a = parsed .before .before .args in
+    number-char (a .digits .now) (a .next) (sym (parsed .parse-number .ensures) ∙ c .before .n .given .1)
 
 pub number-meaning-spec : {M : Type 1} → statement M
 number-meaning-spec =

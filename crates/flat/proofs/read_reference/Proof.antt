@@ -1,10 +1,24 @@
-use Prim.Native.Nat.{_+_}
+-- Digits that end by themselves are the character (`means-quick`). Else the name's end is looked for: none is a refusal, `#` a number, `amp` the
+-- character, and any other name is left to the table; each is a law of References.antt.
+use Prim.Native.Nat.{_+_, _<_}
+use lib.ListN.{length}
 use mathlib.Core.Path.{sym, _∙_}
 use native.Mathlib.Omega.{arith}
 use Rattle.flat.proofs.References.{means-none, means-number, means-amp, means-name, means-quick, past-hash}
 use borrow.Author.Needs.{needs}
 use Rattle.flat.proofs.read_reference.Statement.{statement}
 use Rattle.flat.proofs.read_reference.Tie as tie
+
+-- places: the entry, seen from the name's end, and the name's end, seen from where the `;` is found
+abbrev entry : tie.After-name-end → tie.Start
+entry c = c .before .before .before .before
+
+abbrev ended : tie.After-shared-slice-known2 → tie.After-name-end
+ended c = c .before .before
+
+-- the name ends at a `;`
+closed : (c : tie.After-shared-slice-known2) → ended c .name-end .result < length (entry (ended c) .args .text .now)
+closed c = omega (arith, ended c .name-end .ensures .to, c .before .if2 .left)
 
 add-from : tie.Need-add-from
 add-from c = search needs
@@ -16,13 +30,20 @@ add-t8 : tie.Need-add-t8
 add-t8 c = omega (arith, c .before .before .quick-reference .ensures (c .before .if1 .taken) .2 .closed .inside, c .before .before .before .before .pre)
 
 returns : tie.Need-returns
-returns c = means-quick (c .before .before .before .before .args .text .now) (c .before .before .before .before .args .at) (c .before .before .before .before .pre .2) (c .before .before .quick-reference .result) (c .before .before .quick-reference .ensures (c .before .if1 .taken) .1) (c .before .before .quick-reference .ensures (c .before .if1 .taken) .2)
+returns c =
+    let quick = c .before .before in
+    let start = quick .before .before in
+    let found = quick .quick-reference .ensures (c .before .if1 .taken) in
+    means-quick (start .args .text .now) (start .args .at) (start .pre .2) (quick .quick-reference .result) (found .1) (found .2)
 
 name-end-requires : tie.Need-name-end-requires
 name-end-requires c κs = search needs
 
 returns-2 : tie.Need-returns-2
-returns-2 c = means-none (c .before .before .before .before .before .args .text .now) (c .before .before .before .before .before .args .at) (c .before .before .before .before .before .pre .2) (c .before .name-end .ensures) (c .if2 .taken)
+returns-2 c =
+    let end = c .before in
+    let start = entry end in
+    means-none (start .args .text .now) (start .args .at) (start .pre .2) (end .name-end .ensures) (c .if2 .taken)
 
 shared-slice-read-if3 : tie.Need-shared-slice-read-if3
 shared-slice-read-if3 c = search needs
@@ -31,10 +52,16 @@ add-number-meaning : tie.Need-add-number-meaning
 add-number-meaning c = search needs
 
 sub-number-meaning : tie.Need-sub-number-meaning
-sub-number-meaning c = past-hash (c .before .before .before .before .before .before .before .args .text .now) (c .before .before .before .before .before .before .before .args .at + 1) (c .before .before .before .name-end .result) (c .before .before .before .name-end .ensures) (omega (arith, c .before .before .before .name-end .ensures .to, c .before .before .if2 .left)) (c .if3 .taken)
+sub-number-meaning c =
+    let end = ended (c .before) in
+    let a = entry end .args in
+    past-hash (a .text .now) (a .at + 1) (end .name-end .result) (end .name-end .ensures) (closed (c .before)) (c .if3 .taken)
 
 part-number-meaning-start : tie.Need-part-number-meaning-start
-part-number-meaning-start c = past-hash (c .before .before .before .before .before .before .before .args .text .now) (c .before .before .before .before .before .before .before .args .at + 1) (c .before .before .before .name-end .result) (c .before .before .before .name-end .ensures) (omega (arith, c .before .before .before .name-end .ensures .to, c .before .before .if2 .left)) (c .if3 .taken)
+part-number-meaning-start c =
+    let end = ended (c .before) in
+    let a = entry end .args in
+    past-hash (a .text .now) (a .at + 1) (end .name-end .result) (end .name-end .ensures) (closed (c .before)) (c .if3 .taken)
 
 part-number-meaning-end : tie.Need-part-number-meaning-end
 part-number-meaning-end c = search needs
@@ -46,7 +73,12 @@ number-meaning-requires : tie.Need-number-meaning-requires
 number-meaning-requires c κs = search needs
 
 returns-3 : tie.Need-returns-3
-returns-3 c = means-number (c .before .before .before .before .before .before .before .before .before .args .text .now) (c .before .before .before .before .before .before .before .before .before .args .at) (c .before .before .before .before .before .before .before .before .before .pre .2) (c .before .before .before .before .before .name-end .ensures) (omega (arith, c .before .before .before .before .before .name-end .ensures .to, c .before .before .before .before .if2 .left)) (c .before .before .if3 .taken) (c .number-meaning .result) (c .number-meaning .ensures)
+returns-3 c =
+    let known = c .before .before .before in
+    let end = ended known in
+    let start = entry end in
+    means-number (start .args .text .now) (start .args .at) (start .pre .2) (end .name-end .ensures) (closed known) (c .before .before .if3 .taken)
+    (c .number-meaning .result) (c .number-meaning .ensures)
 
 sub-is-three : tie.Need-sub-is-three
 sub-is-three c = search needs
@@ -64,10 +96,20 @@ add-t24 : tie.Need-add-t24
 add-t24 c = search needs
 
 returns-4 : tie.Need-returns-4
-returns-4 c = means-amp (c .before .before .before .before .before .before .before .before .before .before .args .text .now) (c .before .before .before .before .before .before .before .before .before .before .args .at) (c .before .before .before .before .before .before .before .before .before .before .pre .2) (c .before .before .before .before .before .before .name-end .ensures) (omega (arith, c .before .before .before .before .before .before .name-end .ensures .to, c .before .before .before .before .before .if2 .left)) (c .before .before .before .if3 .left) (sym (c .before .is-three .ensures) ∙ c .if4 .taken)
+returns-4 c =
+    let known = c .before .before .before .before in
+    let end = ended known in
+    let start = entry end in
+    means-amp (start .args .text .now) (start .args .at) (start .pre .2) (end .name-end .ensures) (closed known) (c .before .before .before .if3 .left)
+    (sym (c .before .is-three .ensures) ∙ c .if4 .taken)
 
 returns-5 : tie.Need-returns-5
-returns-5 c = means-name (c .before .before .before .before .before .before .before .before .before .before .args .text .now) (c .before .before .before .before .before .before .before .before .before .before .args .at) (c .before .before .before .before .before .before .before .before .before .before .pre .2) (c .before .before .before .before .before .before .name-end .ensures) (omega (arith, c .before .before .before .before .before .before .name-end .ensures .to, c .before .before .before .before .before .if2 .left)) (c .before .before .before .if3 .left) (sym (c .before .is-three .ensures) ∙ c .if4 .left)
+returns-5 c =
+    let known = c .before .before .before .before in
+    let end = ended known in
+    let start = entry end in
+    means-name (start .args .text .now) (start .args .at) (start .pre .2) (end .name-end .ensures) (closed known) (c .before .before .before .if3 .left)
+    (sym (c .before .is-three .ensures) ∙ c .if4 .left)
 
 pub read-reference-spec : {M : Type 1} → statement M
 read-reference-spec =

@@ -1,3 +1,4 @@
+-- An ASCII character is its byte (`encode-1`), and a byte is laid where there is room for it (`adds-byte`); others go to `write_wide`.
 use Prim.Native.Nat.{ℕ}
 use mathlib.Core.Path.{sym, ap, subst}
 use mathlib.Core.List.{List, [], _∷_}
@@ -20,9 +21,11 @@ same-length c = search needs
 
 returns : tie.Need-returns
 returns c =
-    let a = c .before .before .before .before .before .before .args in
-    let e = encode-1 (a .c) (c .before .before .before .before .if1 .taken) in
-    (sym (ap length e), subst (λ (x : List ℕ). Adds x (a .len) (a .out .now) (c .before .before .put-byte .last .1 .1 .0)) (sym e) (subst (Adds (a .c ∷ []) (a .len) (a .out .now)) (sym (c .before .before .put-byte .ensures)) (adds-byte (a .c) (a .len) (a .out .now))))
+    let put = c .before .before in
+    let a = put .before .before .before .before .args in
+    let byte = encode-1 (a .c) (put .before .before .if1 .taken) in
+    let added = subst (Adds (a .c ∷ []) (a .len) (a .out .now)) (sym (put .put-byte .ensures)) (adds-byte (a .c) (a .len) (a .out .now)) in
+    (sym (ap length byte), subst (λ (x : List ℕ). Adds x (a .len) (a .out .now) (put .put-byte .last .1 .1 .0)) (sym byte) added)
 
 write-wide-requires : tie.Need-write-wide-requires
 write-wide-requires c κs = search needs

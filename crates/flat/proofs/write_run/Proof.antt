@@ -1,3 +1,4 @@
+-- A run is laid whole where it fits (`run-piece`), else nothing is (`run-none`); an empty one needs no call (`run-empty`).
 use Rattle.flat.proofs.Writing.{run-piece, run-none, run-empty}
 use borrow.Author.Needs.{needs}
 use Rattle.flat.proofs.write_run.Statement.{statement}
@@ -35,18 +36,22 @@ same-length c = search needs
 
 returns : tie.Need-returns
 returns c =
-    let a = c .before .before .before .before .before .before .before .before .before .args in
-    run-piece (a .text .now) (a .from) (a .to) (c .before .before .before .before .before .before .before .before .before .pre .0) (c .before .before .before .before .before .before .before .before .before .pre .1) (a .len) (a .out .now) (c .before .before .before .before .before .if2 .taken) (c .before .before .put-spaced .ensures)
+    let start = c .before .before .before .before .before .before .before .before .before in
+    let a = start .args in
+    run-piece (a .text .now) (a .from) (a .to) (start .pre .0) (start .pre .1) (a .len) (a .out .now) (c .before .before .before .before .before .if2 .taken)
+    (c .before .before .put-spaced .ensures)
 
 returns-2 : tie.Need-returns-2
 returns-2 c =
-    let a = c .before .before .before .before .args in
-    run-none (a .text .now) (a .from) (a .to) (c .before .before .before .before .pre .0) (c .before .before .before .before .pre .1) (a .len) (a .out .now) (c .if2 .left)
+    let start = c .before .before .before .before in
+    let a = start .args in
+    run-none (a .text .now) (a .from) (a .to) (start .pre .0) (start .pre .1) (a .len) (a .out .now) (c .if2 .left)
 
 returns-3 : tie.Need-returns-3
 returns-3 c =
-    let a = c .before .before .before .args in
-    run-empty (a .text .now) (a .from) (a .to) (c .before .before .before .pre .0) (c .before .before .before .pre .1) (a .len) (a .out .now) (c .if1 .left)
+    let start = c .before .before .before in
+    let a = start .args in
+    run-empty (a .text .now) (a .from) (a .to) (start .pre .0) (start .pre .1) (a .len) (a .out .now) (c .if1 .left)
 
 pub write-run-spec : {M : Type 1} → statement M
 write-run-spec =

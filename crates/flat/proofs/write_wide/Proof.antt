@@ -1,3 +1,4 @@
+-- The character's bytes are laid where they fit (`adds-piece`), else nothing is (`adds-none`); their number is told either way.
 use native.Mathlib.Omega.{arith}
 use Rattle.charref.specs.CharRef.{encode}
 use Rattle.charref.proofs.Encoding.{encode-at-most}
@@ -29,13 +30,17 @@ same-length c = search needs
 
 returns : tie.Need-returns
 returns c =
-    let a = c .before .before .before .before .before .before .before .args in
-    (c .before .before .before .before .before .utf8-length .ensures, adds-piece (encode (a .c)) (omega (arith, c .before .before .before .before .if1 .taken, c .before .before .before .before .before .utf8-length .ensures)) (c .before .before .encode-utf8 .ensures .1))
+    let sized = c .before .before .before .before .before in
+    let written = c .before .before in (
+      sized .utf8-length .ensures,
+      adds-piece (encode (sized .before .before .args .c)) (omega (arith, c .before .before .before .before .if1 .taken, sized .utf8-length .ensures)) (written .encode-utf8 .ensures .1),
+    )
 
 returns-2 : tie.Need-returns-2
 returns-2 c =
-    let a = c .before .before .before .args in
-    (c .before .utf8-length .ensures, adds-none (encode (a .c)) (a .len) (a .out .now) (omega (arith, c .if1 .left, c .before .utf8-length .ensures)))
+    let sized = c .before in
+    let a = sized .before .before .args in
+    (sized .utf8-length .ensures, adds-none (encode (a .c)) (a .len) (a .out .now) (omega (arith, c .if1 .left, sized .utf8-length .ensures)))
 
 pub write-wide-spec : {M : Type 1} → statement M
 write-wide-spec =
