@@ -108,9 +108,6 @@ module _ (r : Reading) (t list pool : List ℕ) (p : Place) (old₀ seen₀ : Li
           pub going-on : at < next
           going-on = omega (arith, g .halt .smooth .from, k .past .0)
 
-          pub going-inside : next ≤ length t
-          going-inside = k .past .1
-
           pub going-sum : r .base + (len + (end - at) + more) ≤ 67108864 + 262140 * now
           going-sum =
               lent-room r list pool t

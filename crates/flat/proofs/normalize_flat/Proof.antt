@@ -44,6 +44,9 @@ turn-of c = c .before .before
 abbrev ran-of : Halt → Ran
 ran-of c = c .before .before .before .before .before .before
 
+abbrev turn-halted : Halt → Turn
+turn-halted c = turn-of (ran-of c)
+
 abbrev halt-of : Passed → Halt
 halt-of c = c .before .before .before .before .before .before .before
 
@@ -75,12 +78,12 @@ len-small c =
 -- what `halt_step` keeps, of the result as it was matched
 halt-kept : (c : Halt) {r : Halted} → c .halt-step .result ≡ r
     → HaltKeeps
-    (levelOf (entry-of (turn-of (ran-of c)) .args .reading) (entry-of (turn-of (ran-of c)) .args .list .now) (entry-of (turn-of (ran-of c)) .args .pool .now)
-    (entry-of (turn-of (ran-of c)) .args .text .now)) (entry-of (turn-of (ran-of c)) .args .reading .base)
-    (placeOf (turn-of (ran-of c) .loop .end) (turn-of (ran-of c) .loop .len + (turn-of (ran-of c) .loop .end - turn-of (ran-of c) .loop .at))
-    (turn-of (ran-of c) .loop .made)) (out-ran (ran-of c)) (turn-of (ran-of c) .loop .seen) (out-halted c) (seen-halted c) r
+    (levelOf (entry-of (turn-halted c) .args .reading) (entry-of (turn-halted c) .args .list .now) (entry-of (turn-halted c) .args .pool .now)
+    (entry-of (turn-halted c) .args .text .now)) (entry-of (turn-halted c) .args .reading .base)
+    (placeOf (turn-halted c .loop .end) (turn-halted c .loop .len + (turn-halted c .loop .end - turn-halted c .loop .at))
+    (turn-halted c .loop .made)) (out-ran (ran-of c)) (turn-halted c .loop .seen) (out-halted c) (seen-halted c) r
 halt-kept c q =
-    let turn = turn-of (ran-of c) in
+    let turn = turn-halted c in
     let a = entry-of turn .args in
     subst
     (HaltKeeps (levelOf (a .reading) (a .list .now) (a .pool .now) (a .text .now)) (a .reading .base)
@@ -88,10 +91,10 @@ halt-kept c q =
     (out-halted c) (seen-halted c)) q (c .halt-step .ensures)
 
 -- neither buffer changes its length
-words-kept : (c : Halt) → length (seen-halted c) ≡ length (entry-of (turn-of (ran-of c)) .args .seen .now)
-words-kept c = c .halt-step .ensures .words ∙ turn-of (ran-of c) .loop .inv .words
+words-kept : (c : Halt) → length (seen-halted c) ≡ length (entry-of (turn-halted c) .args .seen .now)
+words-kept c = c .halt-step .ensures .words ∙ turn-halted c .loop .inv .words
 
-buffer-kept : (c : Halt) → length (out-halted c) ≡ length (entry-of (turn-of (ran-of c)) .args .out .now)
+buffer-kept : (c : Halt) → length (out-halted c) ≡ length (entry-of (turn-halted c) .args .out .now)
 buffer-kept c =
     let ran = ran-of c in
     c .halt-step .ensures .buffer ∙ ran .write-run .ensures .buffer ∙ turn-of ran .loop .inv .buffer
@@ -231,7 +234,7 @@ returns-4 c =
 
 add-met : tie.Need-add-met Inv-loop μ-loop
 add-met c =
-    let turn = turn-of (ran-of (halt-of c)) in
+    let turn = turn-halted (halt-of c) in
     let inv = turn .loop .inv in
     omega (arith, inv .few, inv .halt .smooth .from, inv .halt .smooth .to, entry-of turn .pre .1 .0)
 
@@ -242,7 +245,7 @@ loop-less : tie.Need-loop-less Inv-loop μ-loop
 loop-less c =
     let passed = c .before .before in
     let k = halt-kept (halt-of passed) (passed .before .next .given .1) in
-    omega (arith, turn-of (ran-of (halt-of passed)) .loop .inv .halt .smooth .from, k .past)
+    omega (arith, turn-halted (halt-of passed) .loop .inv .halt .smooth .from, k .past)
 
 loop-again : tie.Need-loop-again Inv-loop μ-loop
 loop-again c =

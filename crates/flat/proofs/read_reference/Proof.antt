@@ -1,8 +1,8 @@
 -- Digits that end by themselves are the character (`means-quick`). Else the name's end is looked for: none is a refusal, `#` a number, `amp` the
 -- character, and any other name is left to the table; each is a law of References.antt.
-use Prim.Native.Nat.{_+_, _<_}
-use lib.ListN.{length}
-use mathlib.Core.Path.{sym, _∙_}
+use Prim.Native.Nat.{_+_, _≤_, _<_}
+use lib.ListN.{length, getD}
+use mathlib.Core.Path.{_≡_, sym, _∙_}
 use native.Mathlib.Omega.{arith}
 use Rattle.flat.proofs.References.{means-none, means-number, means-amp, means-name, means-quick, past-hash}
 use borrow.Author.Needs.{needs}
@@ -19,6 +19,14 @@ ended c = c .before .before
 -- the name ends at a `;`
 closed : (c : tie.After-shared-slice-known2) → ended c .name-end .result < length (entry (ended c) .args .text .now)
 closed c = omega (arith, ended c .name-end .ensures .to, c .before .if2 .left)
+
+-- the digits start inside, when the name starts with `#`
+digits-inside : (c : tie.After-shared-slice-known2) → getD (entry (ended c) .args .text .now) (entry (ended c) .args .at + 1) 0 ≡ 35
+    → entry (ended c) .args .at + 1 + 1 ≤ ended c .name-end .result
+digits-inside c hash =
+    let end = ended c in
+    let a = entry end .args in
+    past-hash (a .text .now) (a .at + 1) (end .name-end .result) (end .name-end .ensures) (closed c) hash
 
 add-from : tie.Need-add-from
 add-from c = search needs
@@ -52,16 +60,10 @@ add-number-meaning : tie.Need-add-number-meaning
 add-number-meaning c = search needs
 
 sub-number-meaning : tie.Need-sub-number-meaning
-sub-number-meaning c =
-    let end = ended (c .before) in
-    let a = entry end .args in
-    past-hash (a .text .now) (a .at + 1) (end .name-end .result) (end .name-end .ensures) (closed (c .before)) (c .if3 .taken)
+sub-number-meaning c = digits-inside (c .before) (c .if3 .taken)
 
 part-number-meaning-start : tie.Need-part-number-meaning-start
-part-number-meaning-start c =
-    let end = ended (c .before) in
-    let a = entry end .args in
-    past-hash (a .text .now) (a .at + 1) (end .name-end .result) (end .name-end .ensures) (closed (c .before)) (c .if3 .taken)
+part-number-meaning-start c = digits-inside (c .before) (c .if3 .taken)
 
 part-number-meaning-end : tie.Need-part-number-meaning-end
 part-number-meaning-end c = search needs

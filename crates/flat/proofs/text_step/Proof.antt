@@ -15,13 +15,16 @@ use borrow.Author.Needs.{needs}
 use Rattle.flat.proofs.text_step.Statement.{statement}
 use Rattle.flat.proofs.text_step.Tie as tie
 
--- ---- places: the entry, the look in the memory, where it found nothing, and the copy of a short text
+-- ---- places: the entry, seen from the look in the memory and from where it found nothing; those two; and the copy of a short text
 
 abbrev entry : tie.After-again → tie.Start
 entry c = c .before .before .before .before .before .before .before .before .before
 
 abbrev looked : tie.After-enum-told → tie.After-again
 looked c = c .before .before .before .before
+
+abbrev begun : tie.After-enum-told → tie.Start
+begun c = entry (looked c)
 
 abbrev missed : tie.After-write-run → tie.After-enum-told
 missed c = c .before .before .before .before .before .before .before
@@ -40,18 +43,19 @@ had-kept c q =
     let a = entry c .args in
     subst (HadKeeps (a .command) (a .slot) (a .reading) (a .place) (a .seen .now) (a .out .now) (out-looked c)) q (c .again .ensures)
 
-untouched : (c : tie.After-enum-told) → out-looked (looked c) ≡ entry (looked c) .args .out .now
+-- where it found nothing, the output is as it was
+untouched : (c : tie.After-enum-told) → out-looked (looked c) ≡ begun c .args .out .now
 untouched c = had-kept (looked c) (c .enum-told .given .1)
 
 -- the text is left to be opened
 left-to-open : (c : tie.After-enum-told) (t list pool : List ℕ)
-    → Referred (entry (looked c) .args .reading) t list pool (entry (looked c) .args .place) (entry (looked c) .args .command)
-    (entry (looked c) .args .next) (entry (looked c) .args .value .now)
-    → HaltKeeps (levelOf (entry (looked c) .args .reading) list pool t) (entry (looked c) .args .reading .base) (entry (looked c) .args .place)
-    (entry (looked c) .args .out .now) (entry (looked c) .args .seen .now) (out-looked (looked c)) (entry (looked c) .args .seen .now)
-    (Opening (entry (looked c) .args .next) (entry (looked c) .args .command) (entry (looked c) .args .slot))
+    → Referred (begun c .args .reading) t list pool (begun c .args .place) (begun c .args .command)
+    (begun c .args .next) (begun c .args .value .now)
+    → HaltKeeps (levelOf (begun c .args .reading) list pool t) (begun c .args .reading .base) (begun c .args .place)
+    (begun c .args .out .now) (begun c .args .seen .now) (out-looked (looked c)) (begun c .args .seen .now)
+    (Opening (begun c .args .next) (begun c .args .command) (begun c .args .slot))
 left-to-open c t list pool k =
-    let start = entry (looked c) in
+    let start = begun c in
     let a = start .args in
     subst
     (λ (x : List ℕ). HaltKeeps (levelOf (a .reading) list pool t) (a .reading .base) (a .place) (a .out .now) (a .seen .now) x (a .seen .now)
@@ -97,15 +101,15 @@ write-run-requires : tie.Need-write-run-requires
 write-run-requires c κs = search needs
 
 add-keep : tie.Need-add-keep
-add-keep c = omega (arith, entry (looked (missed (c .before .before .before .before))) .pre .1 .0)
+add-keep c = omega (arith, begun (missed (c .before .before .before .before)) .pre .1 .0)
 
 keep-requires : tie.Need-keep-requires
 keep-requires c κs =
-    let asked = entry (looked (missed (c .before .before .before .before .before))) .pre in
+    let asked = begun (missed (c .before .before .before .before .before)) .pre in
     ((asked .0 .0, asked .0 .1), asked .1 .1 .size)
 
 add-t27 : tie.Need-add-t27
-add-t27 c = omega (arith, entry (looked (missed (c .before .before .before .before .before .before .before .before .before))) .pre .1 .0)
+add-t27 c = omega (arith, begun (missed (c .before .before .before .before .before .before .before .before .before)) .pre .1 .0)
 
 same-length-3 : tie.Need-same-length-3
 same-length-3 c = search needs
@@ -118,7 +122,7 @@ returns-3 c = λ t list pool k.
     let copy = c .before .before .before .before .before .before .before .before .before in
     let at-leaf = copy .before .before .before in
     let miss = missed copy in
-    let start = entry (looked miss) in
+    let start = begun miss in
     let a = start .args in
     let added =
     subst
