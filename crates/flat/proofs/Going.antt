@@ -108,15 +108,22 @@ module _ (r : Reading) (t list pool : List ℕ) (p : Place) (old₀ seen₀ : Li
           pub going-on : at < next
           going-on = omega (arith, g .halt .smooth .from, k .past .0)
 
+          passed-lent : Lent l (r .base) last after (placeOf next (len + (end - at) + more) now)
+          passed-lent =
+              record {
+                v = lent .v;
+                whole = lent .whole;
+                begun = lent .begun;
+                size = lent .size;
+                came = k .goes (lent .v) (lent .whole) (lent .begun) (lent .size) (run-came (lent .v) (lent .whole) (lent .begun) (lent .size) (lent .came));
+                room = lent .room;
+              }
+
           pub going-sum : r .base + (len + (end - at) + more) ≤ 67108864 + 262140 * now
-          going-sum =
-              lent-room r list pool t
-              (record { v = lent .v; whole = lent .whole; begun = lent .begun; size = lent .size; came = k .goes (lent .v) (lent .whole) (lent .begun) (lent .size) (run-came (lent .v) (lent .whole) (lent .begun) (lent .size) (lent .came)); room = lent .room })
+          going-sum = lent-room r list pool t passed-lent
 
           pub going-made : now ≤ r .limit
-          going-made =
-              lent-within r list pool t
-              (record { v = lent .v; whole = lent .whole; begun = lent .begun; size = lent .size; came = k .goes (lent .v) (lent .whole) (lent .begun) (lent .size) (run-came (lent .v) (lent .whole) (lent .begun) (lent .size) (lent .came)); room = lent .room })
+          going-made = lent-within r list pool t passed-lent
 
           pub going-next : {e : ℕ} → HaltAt (eqb (r .how) 1) t next e → Going r t list pool p old₀ seen₀ last after next e (len + (end - at) + more) now (met + 1)
           going-next h =

@@ -1,3 +1,4 @@
+-- `normalize_attribute_value` copies a simple text, which is its own value (`simple-value`), and else ends as the walk into its output does.
 use mathlib.Core.Path.{sym, subst}
 use Rattle.text.specs.Version.{ruleOf}
 use Rattle.tokens.specs.Outcome.{Outcome}
@@ -17,10 +18,14 @@ same-length c = search needs
 
 returns : tie.Need-returns
 returns c =
-    let a = c .before .before .before .before .before .before .before .before .before .args in
+    let copied = c .before .before in
+    let asked = copied .before .before in
+    let entry = asked .before .before .before .before .before in
+    let a = entry .args in
     let o = normalize (readingOf (ruleOf (a .version)) (a .list .now) (a .pool .now) (a .limit)) (a .depth) (a .text .now) in
-    let is = simple-value (a .version) (a .limit) (a .depth) (a .list .now) (a .pool .now) (a .text .now) (c .before .before .before .before .before .before .before .before .before .pre .0 (c .before .before .before .before .if1 .taken)) in
-    ended-call o (a .out .now) (subst (λ (x : Outcome). Ended 19 x (a .out .now) (c .before .before .copied-whole .last .1 .1 .0) (c .before .before .copied-whole .result)) (sym is) (c .before .before .copied-whole .ensures))
+    let is = simple-value (a .version) (a .limit) (a .depth) (a .list .now) (a .pool .now) (a .text .now) (entry .pre .0 (asked .if1 .taken)) in
+    let k = copied .copied-whole in
+    ended-call o (a .out .now) (subst (λ (x : Outcome). Ended 19 x (a .out .now) (k .last .1 .1 .0) (k .result)) (sym is) (k .ensures))
 
 normalized-requires : tie.Need-normalized-requires
 normalized-requires c κs = search needs
