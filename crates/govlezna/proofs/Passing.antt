@@ -43,3 +43,9 @@ module _ (text : List ℕ) (version depth limit : ℕ) (list pool : List ℕ) {r
       let k = passed-others text list pool (andThen (settingsCheck version depth limit) (utf8Check text)) e d in
       let s = both (settingsCheck version depth limit) (utf8Check text) (k .is) .0 in
       checked-settings version depth limit (s .is) .1
+
+  -- all that a walk asks of its arguments
+  pub passed-walk : ValidTable list pool × (length text ≤ longestText × limit ≤ 1000000)
+  passed-walk =
+      let others = andThen (settingsCheck version depth limit) (utf8Check text) in
+      (passed-table text list pool others e d, (passed-length text list pool others e d, passed-limit))

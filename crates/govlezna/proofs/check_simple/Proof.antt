@@ -1,3 +1,4 @@
+-- `check_simple` stops where the length or the other arguments are refused; of a simple text refusal 5 has nothing to say (`simple-end`).
 use mathlib.Core.Path.{_≡_, refl, _∙_}
 use lib.ListN.{length}
 use borrow.Author.Tests.{eq-eqb}

@@ -1,10 +1,10 @@
+-- `govlezna_canonical_form` answers as its checks refuse, or else as the canonical form of the walk does; nothing is known of its text
+-- before the checks, so `check_walk` is told that it is not simple.
 use mathlib.Core.Path.{_∙_, sym}
 use mathlib.Core.List.{[], _∷_}
-use Rattle.text.specs.Call.{andThen, utf8Check}
 use Rattle.text.proofs.Call.{halts, passes}
-use Rattle.attribute.specs.Checks.{settingsCheck}
 use Rattle.govlezna.specs.Calls.{canonicalFormCall}
-use Rattle.govlezna.proofs.Passing.{passed-table, passed-length, passed-limit}
+use Rattle.govlezna.proofs.Passing.{passed-walk}
 use mathlib.Core.Bool.{true≢false}
 use borrow.Author.Needs.{needs}
 use Rattle.govlezna.proofs.govlezna_canonical_form.Statement.{statement}
@@ -24,10 +24,17 @@ put-requires c κs = search needs
 
 returns : tie.Need-returns
 unfolding canonicalFormCall
-returns c = c .put .ensures (c .before .before .before .before .before .before .before .before .before .before .args .scratch .now ∷ c .before .before .before .before .before .before .before .before .before .before .args .out .now ∷ []) ∙ halts (c .before .before .before .before .before .before .before .before .before .before .args .scratch .now ∷ c .before .before .before .before .before .before .before .before .before .before .args .out .now ∷ []) _ (c .before .before .before .before .check-walk .ensures) (c .before .before .enum-told2 .given .1)
+returns c =
+    let checked = c .before .before .before .before in
+    let a = checked .before .before .before .before .before .before .args in
+    let lent = a .scratch .now ∷ a .out .now ∷ [] in
+    c .put .ensures lent ∙ halts lent _ (checked .check-walk .ensures) (c .before .before .enum-told2 .given .1)
 
 canonical-form-requires : tie.Need-canonical-form-requires
-canonical-form-requires c κs = (passed-table (c .before .before .before .before .before .before .before .before .before .before .args .text .now) (c .before .before .before .before .before .before .before .before .before .before .args .list .now) (c .before .before .before .before .before .before .before .before .before .before .args .pool .now) (andThen (settingsCheck (c .before .before .before .before .before .before .before .before .before .before .args .version) (c .before .before .before .before .before .before .before .before .before .before .args .depth) (c .before .before .before .before .before .before .before .before .before .before .args .limit)) (utf8Check (c .before .before .before .before .before .before .before .before .before .before .args .text .now))) (c .before .before .before .before .check-walk .ensures) (c .before .before .enum-told .given .1), (passed-length (c .before .before .before .before .before .before .before .before .before .before .args .text .now) (c .before .before .before .before .before .before .before .before .before .before .args .list .now) (c .before .before .before .before .before .before .before .before .before .before .args .pool .now) (andThen (settingsCheck (c .before .before .before .before .before .before .before .before .before .before .args .version) (c .before .before .before .before .before .before .before .before .before .before .args .depth) (c .before .before .before .before .before .before .before .before .before .before .args .limit)) (utf8Check (c .before .before .before .before .before .before .before .before .before .before .args .text .now))) (c .before .before .before .before .check-walk .ensures) (c .before .before .enum-told .given .1), passed-limit (c .before .before .before .before .before .before .before .before .before .before .args .text .now) (c .before .before .before .before .before .before .before .before .before .before .args .version) (c .before .before .before .before .before .before .before .before .before .before .args .depth) (c .before .before .before .before .before .before .before .before .before .before .args .limit) (c .before .before .before .before .before .before .before .before .before .before .args .list .now) (c .before .before .before .before .before .before .before .before .before .before .args .pool .now) (c .before .before .before .before .check-walk .ensures) (c .before .before .enum-told .given .1)))
+canonical-form-requires c κs =
+    let checked = c .before .before .before .before in
+    let a = checked .before .before .before .before .before .before .args in
+    passed-walk (a .text .now) (a .version) (a .depth) (a .limit) (a .list .now) (a .pool .now) (checked .check-walk .ensures) (c .before .before .enum-told .given .1)
 
 put-requires-2 : tie.Need-put-requires-2
 put-requires-2 c κs = search needs
@@ -40,7 +47,13 @@ same-length-2 c = search needs
 
 returns-2 : tie.Need-returns-2
 unfolding canonicalFormCall
-returns-2 c = c .put2 .ensures _ ∙ c .before .before .before .before .before .before .canonical-form .ensures ∙ passes (c .before .before .before .before .before .before .before .before .before .before .before .before .before .before .before .before .before .args .scratch .now ∷ c .before .before .before .before .before .before .before .before .before .before .before .before .before .before .before .before .before .args .out .now ∷ []) _ (c .before .before .before .before .before .before .before .before .before .before .before .check-walk .ensures) (c .before .before .before .before .before .before .before .before .before .enum-told .given .1)
+returns-2 c =
+    let formed = c .before .before .before .before .before .before in
+    let told = formed .before .before .before in
+    let checked = told .before .before in
+    let a = checked .before .before .before .before .before .before .args in
+    let lent = a .scratch .now ∷ a .out .now ∷ [] in
+    c .put2 .ensures _ ∙ formed .canonical-form .ensures ∙ passes lent _ (checked .check-walk .ensures) (told .enum-told .given .1)
 
 pub govlezna-canonical-form-spec : {M : Type 1} → statement M
 govlezna-canonical-form-spec =

@@ -1,10 +1,9 @@
+-- `govlezna_normalize_attribute_value` answers as its checks refuse, or else as the walk does; both are told whether the text is simple.
 use mathlib.Core.Path.{_∙_}
 use mathlib.Core.List.{[], _∷_}
-use Rattle.text.specs.Call.{andThen, utf8Check}
 use Rattle.text.proofs.Call.{halts, passes}
-use Rattle.attribute.specs.Checks.{settingsCheck}
 use Rattle.govlezna.specs.Calls.{normalizeAttributeValueCall}
-use Rattle.govlezna.proofs.Passing.{passed-table, passed-length, passed-limit}
+use Rattle.govlezna.proofs.Passing.{passed-walk}
 use borrow.Author.Needs.{needs}
 use Rattle.govlezna.proofs.govlezna_normalize_attribute_value.Statement.{statement}
 use Rattle.govlezna.proofs.govlezna_normalize_attribute_value.Tie as tie
@@ -26,10 +25,18 @@ put-requires c κs = search needs
 
 returns : tie.Need-returns
 unfolding normalizeAttributeValueCall
-returns c = c .put .ensures (c .before .before .before .before .before .before .before .before .before .before .args .out .now ∷ []) ∙ halts (c .before .before .before .before .before .before .before .before .before .before .args .out .now ∷ []) _ (c .before .before .before .before .check-walk .ensures) (c .before .before .enum-told2 .given .1)
+returns c =
+    let checked = c .before .before .before .before in
+    let lent = checked .before .before .before .before .before .before .args .out .now ∷ [] in
+    c .put .ensures lent ∙ halts lent _ (checked .check-walk .ensures) (c .before .before .enum-told2 .given .1)
 
 normalize-attribute-value-requires : tie.Need-normalize-attribute-value-requires
-normalize-attribute-value-requires c κs = (c .before .before .before .before .is-simple .ensures, (passed-table (c .before .before .before .before .before .before .before .before .before .args .text .now) (c .before .before .before .before .before .before .before .before .before .args .list .now) (c .before .before .before .before .before .before .before .before .before .args .pool .now) (andThen (settingsCheck (c .before .before .before .before .before .before .before .before .before .args .version) (c .before .before .before .before .before .before .before .before .before .args .depth) (c .before .before .before .before .before .before .before .before .before .args .limit)) (utf8Check (c .before .before .before .before .before .before .before .before .before .args .text .now))) (c .before .before .before .check-walk .ensures) (c .before .enum-told .given .1), (passed-length (c .before .before .before .before .before .before .before .before .before .args .text .now) (c .before .before .before .before .before .before .before .before .before .args .list .now) (c .before .before .before .before .before .before .before .before .before .args .pool .now) (andThen (settingsCheck (c .before .before .before .before .before .before .before .before .before .args .version) (c .before .before .before .before .before .before .before .before .before .args .depth) (c .before .before .before .before .before .before .before .before .before .args .limit)) (utf8Check (c .before .before .before .before .before .before .before .before .before .args .text .now))) (c .before .before .before .check-walk .ensures) (c .before .enum-told .given .1), passed-limit (c .before .before .before .before .before .before .before .before .before .args .text .now) (c .before .before .before .before .before .before .before .before .before .args .version) (c .before .before .before .before .before .before .before .before .before .args .depth) (c .before .before .before .before .before .before .before .before .before .args .limit) (c .before .before .before .before .before .before .before .before .before .args .list .now) (c .before .before .before .before .before .before .before .before .before .args .pool .now) (c .before .before .before .check-walk .ensures) (c .before .enum-told .given .1))))
+normalize-attribute-value-requires c κs =
+    let checked = c .before .before .before in
+    let a = checked .before .before .before .before .before .before .args in (
+      checked .before .is-simple .ensures,
+      passed-walk (a .text .now) (a .version) (a .depth) (a .limit) (a .list .now) (a .pool .now) (checked .check-walk .ensures) (c .before .enum-told .given .1),
+    )
 
 put-requires-2 : tie.Need-put-requires-2
 put-requires-2 c κs = search needs
@@ -39,7 +46,12 @@ same-length c = search needs
 
 returns-2 : tie.Need-returns-2
 unfolding normalizeAttributeValueCall
-returns-2 c = c .put2 .ensures _ ∙ c .before .before .before .before .normalize-attribute-value .ensures ∙ passes (c .before .before .before .before .before .before .before .before .before .before .before .before .before .before .args .out .now ∷ []) _ (c .before .before .before .before .before .before .before .before .check-walk .ensures) (c .before .before .before .before .before .before .enum-told .given .1)
+returns-2 c =
+    let walked = c .before .before .before .before in
+    let told = walked .before .before in
+    let checked = told .before .before in
+    let lent = checked .before .before .before .before .before .before .args .out .now ∷ [] in
+    c .put2 .ensures _ ∙ walked .normalize-attribute-value .ensures ∙ passes lent _ (checked .check-walk .ensures) (told .enum-told .given .1)
 
 pub govlezna-normalize-attribute-value-spec : {M : Type 1} → statement M
 govlezna-normalize-attribute-value-spec =

@@ -1,3 +1,5 @@
+-- `seen_step`: what stands in the slot that matches is had again, written where there is room or left where the output is full
+-- (`again-none`); in every other case nothing is written.
 use Prim.Native.Nat.{_+_}
 use lib.ListN.{length, getD, take, drop}
 use Rattle.tokens.proofs.Repeats.{again-none}
@@ -32,7 +34,10 @@ shared-slice-read-made : tie.Need-shared-slice-read-made
 shared-slice-read-made c = search needs
 
 add-made-2 : tie.Need-add-made-2
-add-made-2 c = omega (arith, c .before .before .before .before .before .before .before .pre .1 .0 .few (c .before .before .before .seen-at .result) (c .before .before .if1 .taken), c .before .before .before .before .before .before .before .pre .1 .1)
+add-made-2 c =
+    let found = c .before .before .before in
+    let asked = found .before .before .before .before .pre .1 in
+    omega (arith, asked .0 .few (found .seen-at .result) (c .before .before .if1 .taken), asked .1)
 
 sub-if4 : tie.Need-sub-if4
 sub-if4 c = search needs
@@ -50,7 +55,11 @@ shared-slice-read-put-again : tie.Need-shared-slice-read-put-again
 shared-slice-read-put-again c = search needs
 
 put-again-requires : tie.Need-put-again-requires
-put-again-requires c κs = (c .before .before .before .before .before .before .before .before .before .before .before .before .pre .1 .0 .inside (c .before .before .before .before .before .before .before .before .seen-at .result) (c .before .before .before .before .before .before .before .if1 .taken), omega (arith, c .before .before .if4 .left, c .before .before .before .if3 .taken))
+put-again-requires c κs =
+    let kept = c .before .before .before .before .before .before .before in
+    let found = kept .before in
+    let asked = found .before .before .before .before .pre .1 in
+    (asked .0 .inside (found .seen-at .result) (kept .if1 .taken), omega (arith, c .before .before .if4 .left, c .before .before .before .if3 .taken))
 
 add-t18 : tie.Need-add-t18
 add-t18 c = search needs
@@ -62,7 +71,10 @@ shared-slice-read-t31 : tie.Need-shared-slice-read-t31
 shared-slice-read-t31 c = search needs
 
 sub-t34 : tie.Need-sub-t34
-sub-t34 c = omega (arith, c .before .before .before .before .before .before .before .before .before .before .pre .1 .0 .shifts (c .before .before .before .before .before .before .seen-at .result) (c .before .before .before .before .before .if1 .taken))
+sub-t34 c =
+    let kept = c .before .before .before .before .before in
+    let found = kept .before in
+    omega (arith, found .before .before .before .before .pre .1 .0 .shifts (found .seen-at .result) (kept .if1 .taken))
 
 add-t35 : tie.Need-add-t35
 add-t35 c = search needs
