@@ -176,9 +176,9 @@ uint32_t govlezna_unescape(const uint8_t *text, size_t text_length, const uint8_
  * in govlezna_parse_number), UNRECOGNIZED_ENTITY (no such name; answer[0] and answer[1]: its start and end),
  * TOO_MANY_OPENINGS (the limit is used up; answer[0]: the offset of &).
  * Time: the text is walked at most twice, to count and to write. A text of the table is walked at its first opening, and
- * mostly not again: sixteen of those opened last are kept. Openings times the longest text of the table bound what the
- * walk takes beyond its own text, so `limit` is the caller's hold on time. A name is looked for from the table's first
- * command on.
+ * mostly not again: what up to sixteen of them gave is kept during the call. Openings times the longest text of the
+ * table bound what the walk takes beyond its own text, so `limit` is the caller's hold on time. A name that is not kept
+ * is looked for from the table's first command on.
  * Example: version 0, depth 2, limit 10, the table above: `&e;` TAB `&#9;` gives `sail`, a space and a TAB, openings 1.
  * With limit 0 it is refused by TOO_MANY_OPENINGS, first 0; at depth 0 by TOO_DEEP.
  */
