@@ -25,7 +25,8 @@ use Rattle.tokens.proofs.Progress.{run-whole}
 use Rattle.tokens.proofs.References.{reference-none, reference-number, reference-named, name-size}
 use Rattle.attribute.specs.Heads.{attributeHead}
 use Rattle.attribute.specs.Walk.{Settings, opened, answer, exhausted, walk}
-use Rattle.attribute.specs.Steps.{stopByte, stopAnswer, outcomeAt, ampOr}
+use Rattle.halts.specs.Halts.{stopByte}
+use Rattle.attribute.specs.Steps.{stopAnswer, outcomeAt, ampOr}
 use Rattle.attribute.proofs.Stops.{copies, IsStop, stop-head}
 
 -- ---- a stop at a depth

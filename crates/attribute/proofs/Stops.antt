@@ -21,7 +21,8 @@ use Rattle.output.specs.Runs.{Plain}
 use Rattle.tokens.specs.Walking.{RunEnd, Copies, headAt}
 use Rattle.attribute.specs.Heads.{spaceOr, otherHead, attributeHead}
 use Rattle.attribute.specs.Walk.{answer}
-use Rattle.attribute.specs.Steps.{stopByte, Blank}
+use Rattle.halts.specs.Halts.{stopByte}
+use Rattle.attribute.specs.Steps.{Blank}
 
 -- ---- bytes told apart by one comparison
 

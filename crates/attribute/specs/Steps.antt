@@ -1,9 +1,7 @@
 -- The terms in which the attribute walk's code is proved: stop bytes, blanks, a stop at a depth. Assumes nothing.
 use Prim.Native.Nat.{ℕ, zero, suc, _+_, _-_, _≤_}
 use mathlib.Core.Path.{_≡_}
-use mathlib.Core.Bool.{Bool, _&&_, _||_}
 use mathlib.Core.List.{List, [], _∷_}
-use lib.Dec.{eqb}
 use lib.ListN.{length}
 use Rattle.text.specs.Bytes.{pick, sameBytes}
 use Rattle.text.specs.Version.{Rule}
@@ -18,10 +16,6 @@ use Rattle.tokens.specs.Outcome.{Outcome, done}
 use Rattle.tokens.specs.Walking.{headAt, nextAt, outcomeOf}
 use Rattle.attribute.specs.Heads.{attributeHead}
 use Rattle.attribute.specs.Walk.{Settings, answer, exhausted, walk}
-
--- Attribute walk: stop bytes TAB, LF, CR, `&`; for 1.1 also C2 and E2
-abbrev pub stopByte : Bool → ℕ → Bool
-stopByte newer b = eqb b 9 || eqb b 10 || eqb b 13 || eqb b 38 || (newer && (eqb b 0xC2 || eqb b 0xE2))
 
 -- Attribute walk: a stop at a depth
 unfoldable pub stopAnswer : Settings → ℕ → Stop → ℕ → Outcome

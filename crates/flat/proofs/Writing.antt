@@ -10,7 +10,7 @@ use Rattle.text.specs.Call.{laid}
 use Rattle.halts.specs.Halts.{blanksSpaced}
 use Rattle.memory.specs.Levels.{Adds}
 use Rattle.memory.proofs.Fitted.{adds-piece, adds-none, adds-nothing}
-use Rattle.memory.proofs.Stretches.{spaced-length}
+use Rattle.halts.proofs.Spaces.{spaced-length}
 
 module _ (t : List ℕ) (from to : ℕ) (h : from ≤ to) (g : to ≤ length t) where
   abbrev run : List ℕ

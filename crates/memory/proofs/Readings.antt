@@ -17,6 +17,7 @@ use Rattle.text.specs.Version.{Rule}
 use Rattle.charref.specs.CharRef.{anyCharacter}
 use Rattle.eols.specs.Stops.{ruleFor}
 use Rattle.eols.specs.declared.Step.{Step}
+use Rattle.halts.proofs.Spaces.{spaced-length}
 use Rattle.halts.specs.Halts.{Smooth, blanksSpaced}
 use Rattle.entity.specs.Binding.{binding}
 use Rattle.entity.specs.Commands.{commandName, commandText, Defines}
@@ -33,7 +34,7 @@ use Rattle.memory.specs.Levels.{ruleBy, settingsOf, Level, levelOf, inne
 use Rattle.memory.specs.declared.Reading.{Reading}
 use Rattle.memory.specs.declared.Place.{Place}
 use Rattle.memory.proofs.Keeping.{memory-more, memory-kept, memory-trusts}
-use Rattle.memory.proofs.Stretches.{spaced-length, run-blank, smooth-run, leaf-opening, leaf-stands}
+use Rattle.memory.proofs.Stretches.{run-blank, smooth-run, leaf-opening, leaf-stands}
 use Rattle.memory.proofs.Levels.{Brief, came-past, came-opens, came-taken, came-kept, came-room}
 use Rattle.memory.proofs.Hits.{memory-bounds}
 

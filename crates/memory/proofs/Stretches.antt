@@ -17,22 +17,18 @@ use Rattle.eols.specs.LineEnds.{lineEnd}
 use Rattle.eols.specs.Stops.{ruleFor}
 use Rattle.eols.specs.declared.Step.{Step}
 use Rattle.eols.proofs.LineEnds.{none10, lf-alone}
-use Rattle.halts.specs.Halts.{halts, Smooth, spaced, blanksSpaced}
+use Rattle.halts.specs.Halts.{halts, Smooth, spaced, blanksSpaced, stopByte}
 use Rattle.tokens.specs.Tokens.{Head, Heads, tokenOf, skipOf}
 use Rattle.tokens.specs.Outcome.{Outcome, done, prepend, followed}
 use Rattle.tokens.specs.Walking.{headAt, nextAt, outcomeOf}
 use Rattle.tokens.proofs.Progress.{fromOn, run-at, run-over, prepend-none, prepend-prepend}
 use Rattle.attribute.specs.Heads.{attributeHead}
 use Rattle.attribute.specs.Walk.{Settings, walk}
-use Rattle.attribute.specs.Steps.{stopByte, stopAnswer, Blank}
+use Rattle.attribute.specs.Steps.{stopAnswer, Blank}
 use Rattle.attribute.proofs.Stops.{copies, blank-tab, blank-line, blank-kept}
 use Rattle.attribute.proofs.Single.{stop-deeper, walk-run}
 use Rattle.memory.specs.Slots.{opening, Stands}
 use Rattle.memory.proofs.Slots.{stands-made}
-
-pub spaced-length : (t : List ℕ) → length (blanksSpaced t) ≡ length t
-spaced-length [] = refl
-spaced-length (b ∷ bs) = ap suc (spaced-length bs)
 
 -- ---- a byte at which no halt starts
 

@@ -38,7 +38,8 @@ use Rattle.memory.specs.declared.Place.{Place}
 use Rattle.memory.specs.declared.Reached.{Reached}
 use Rattle.memory.specs.declared.Reached.the-variants.{End, Opening, Paused, Stopped}
 use Rattle.memory.proofs.Keeping.{memory-start, memory-none}
-use Rattle.memory.proofs.Stretches.{spaced-length, smooth-whole}
+use Rattle.halts.proofs.Spaces.{spaced-length}
+use Rattle.memory.proofs.Stretches.{smooth-whole}
 use Rattle.memory.proofs.Levels.{placeOf, walk-left, came-start, came-memory}
 use Rattle.memory.proofs.Turns.{turn-end, turn-stopped}
 use Rattle.normalize.specs.Calls.{walkOf, Walks, WalksOn}
