@@ -146,32 +146,73 @@ nothing t i h e = record { is = whole-none t i (omega arith); none = λ _. e }
 pub char-ascii : (t : List ℕ) (i : ℕ) → i < length t → getD t i 0 < 0x80 → Character t i 1
 char-ascii t i h l = found t i 1 (omega arith) (omega arith) (rw (at1 t i h) (unfold WellFormed in first-ascii (getD t i 0) l))
 
-module _ (t : List ℕ) (i : ℕ) (l : Lead) (g : Leads (getD t i 0) l) where
-  pub no-first : i < length t → l .width ≡ 0 → Character t i 0
-  no-first h z = nothing t i h (rw (at1 t i h) (lone _ _ (g .none z)))
+-- ---- and by what is known after each byte, as `char_width` reads them
 
-  module _ (some : l .width ≡ 0 → ⊥) where
-    pub no-room : i < length t → length t - i < l .width → Character t i 0
-    no-room h k = nothing t i h (rw (at1 t i h) (cut _ l g some (drop (i + 1) t) (rw (length-drop (i + 1) t) (omega arith))))
+-- after the first byte: what it tells, and that the text has room for the character
+pub record Begun (t : List ℕ) (i : ℕ) (l : Lead) : Type 0 where
+  pub leads : Leads (getD t i 0) l
+  pub some : l .width ≡ 0 → ⊥
+  pub room : i < length t
+  pub reach : l .width ≤ length t - i
 
-    pub no-second : i + 1 < length t → within (l .low) (l .high) (getD t (i + 1) 0) ≡ false → Character t i 0
-    no-second h e = nothing t i (omega arith) (rw (at2 t i h) (second-out _ l g some _ _ e))
+-- after the second, of a character of three or four
+pub record Second (t : List ℕ) (i : ℕ) (l : Lead) : Type 0 where
+  pub begun : Begun t i l
+  pub fits : within (l .low) (l .high) (getD t (i + 1) 0) ≡ true
+  pub wide : l .width ≡ 2 → ⊥
 
-    pub char-two : i + 1 < length t → l .width ≡ 2 → within (l .low) (l .high) (getD t (i + 1) 0) ≡ true → Character t i 2
-    char-two h w e = found t i 2 (omega arith) (omega arith) (rw (at2 t i h) (good2 _ l g some _ w e))
+-- after the third, of a character of four
+pub record Third (t : List ℕ) (i : ℕ) (l : Lead) : Type 0 where
+  pub second : Second t i l
+  pub fits : within 0x80 0xBF (getD t (i + 2) 0) ≡ true
+  pub wide : l .width ≡ 3 → ⊥
 
-    pub no-third : i + 2 < length t → (l .width ≡ 2 → ⊥) → within (l .low) (l .high) (getD t (i + 1) 0) ≡ true
-        → within 0x80 0xBF (getD t (i + 2) 0) ≡ false → Character t i 0
-    no-third h n e x = nothing t i (omega arith) (rw (at3 t i h) (third-out _ l g some _ _ _ e n x))
+module _ {t : List ℕ} {i : ℕ} {l : Lead} where
+  pub no-first : Leads (getD t i 0) l → i < length t → l .width ≡ 0 → Character t i 0
+  no-first g h z = nothing t i h (rw (at1 t i h) (lone _ _ (g .none z)))
 
-    pub char-three : i + 2 < length t → l .width ≡ 3 → within (l .low) (l .high) (getD t (i + 1) 0) ≡ true
-        → within 0x80 0xBF (getD t (i + 2) 0) ≡ true → Character t i 3
-    char-three h w e x = found t i 3 (omega arith) (omega arith) (rw (at3 t i h) (good3 _ l g some _ _ w e x))
+  pub no-room : Leads (getD t i 0) l → (l .width ≡ 0 → ⊥) → i < length t → length t - i < l .width → Character t i 0
+  no-room g some h k = nothing t i h (rw (at1 t i h) (cut _ l g some (drop (i + 1) t) (rw (length-drop (i + 1) t) (omega arith))))
 
-    module _ (n : l .width ≡ 2 → ⊥) (m : l .width ≡ 3 → ⊥) (h : i + 3 < length t)
-        (e : within (l .low) (l .high) (getD t (i + 1) 0) ≡ true) (x : within 0x80 0xBF (getD t (i + 2) 0) ≡ true) where
-      pub no-fourth : within 0x80 0xBF (getD t (i + 3) 0) ≡ false → Character t i 0
-      no-fourth y = nothing t i (omega arith) (rw (at4 t i h) (fourth-out _ l g some _ _ _ _ e n m x y))
+  pub two-inside : Begun t i l → i + 1 < length t
+  two-inside b = omega (arith, b .room, b .reach, b .leads .narrow (b .some) .0)
 
-      pub char-four : within 0x80 0xBF (getD t (i + 3) 0) ≡ true → Character t i 4
-      char-four y = found t i 4 (omega arith) (omega arith) (rw (at4 t i h) (good4 _ l g some _ _ _ n m e x y))
+  pub three-inside : Second t i l → i + 2 < length t
+  three-inside s = omega (arith, s .begun .room, s .begun .reach, s .begun .leads .narrow (s .begun .some) .0, s .wide)
+
+  pub four-inside : Third t i l → i + 3 < length t
+  four-inside r =
+      let b = r .second .begun in
+      omega (arith, b .room, b .reach, b .leads .narrow (b .some) .0, r .second .wide, r .wide)
+
+  pub no-second : Begun t i l → within (l .low) (l .high) (getD t (i + 1) 0) ≡ false → Character t i 0
+  no-second b e = nothing t i (b .room) (rw (at2 t i (two-inside b)) (second-out _ l (b .leads) (b .some) _ _ e))
+
+  pub char-two : Begun t i l → l .width ≡ 2 → within (l .low) (l .high) (getD t (i + 1) 0) ≡ true → Character t i 2
+  char-two b w e =
+      let h = two-inside b in
+      found t i 2 (omega arith) (omega (arith, h)) (rw (at2 t i h) (good2 _ l (b .leads) (b .some) _ w e))
+
+  pub no-third : Second t i l → within 0x80 0xBF (getD t (i + 2) 0) ≡ false → Character t i 0
+  no-third s x =
+      let b = s .begun in
+      nothing t i (b .room) (rw (at3 t i (three-inside s)) (third-out _ l (b .leads) (b .some) _ _ _ (s .fits) (s .wide) x))
+
+  pub char-three : Second t i l → l .width ≡ 3 → within 0x80 0xBF (getD t (i + 2) 0) ≡ true → Character t i 3
+  char-three s w x =
+      let b = s .begun in
+      let h = three-inside s in
+      found t i 3 (omega arith) (omega (arith, h)) (rw (at3 t i h) (good3 _ l (b .leads) (b .some) _ _ w (s .fits) x))
+
+  pub no-fourth : Third t i l → within 0x80 0xBF (getD t (i + 3) 0) ≡ false → Character t i 0
+  no-fourth r y =
+      let s = r .second in
+      let b = s .begun in
+      nothing t i (b .room) (rw (at4 t i (four-inside r)) (fourth-out _ l (b .leads) (b .some) _ _ _ _ (s .fits) (s .wide) (r .wide) (r .fits) y))
+
+  pub char-four : Third t i l → within 0x80 0xBF (getD t (i + 3) 0) ≡ true → Character t i 4
+  char-four r y =
+      let s = r .second in
+      let b = s .begun in
+      let h = four-inside r in
+      found t i 4 (omega arith) (omega (arith, h)) (rw (at4 t i h) (good4 _ l (b .leads) (b .some) _ _ _ (s .wide) (r .wide) (s .fits) (r .fits) y))

@@ -29,7 +29,9 @@ check-utf8-requires : tie.Need-check-utf8-requires
 check-utf8-requires c κs = search needs
 
 returns-3 : tie.Need-returns-3
-returns-3 c = c .check-utf8 .ensures ∙ goes-on _ refl (c .before .enum-told3 .given .1) ∙ goes-on _ (c .before .before .before .before .before .check-length .ensures) (c .before .before .before .enum-told .given .1)
+returns-3 c =
+    let length = c .before .before .before .before .before .check-length in
+    c .check-utf8 .ensures ∙ goes-on _ refl (c .before .enum-told3 .given .1) ∙ goes-on _ (length .ensures) (c .before .before .before .enum-told .given .1)
 
 pub check-arguments-spec : {M : Type 1} → statement M
 check-arguments-spec =

@@ -32,9 +32,10 @@ loop-less c = omega (arith, c .before .before .loop-test .taken)
 
 loop-again : tie.Need-loop-again Inv-loop μ-loop
 loop-again c =
+    let kept = c .before .before .before .loop in
     let t = c .before .before .before .before .args .text .now in
-    let i = c .before .before .before .loop .i in
-    simple-join t i (c .before .before .before .loop .inv) (simple-byte t i (c .before .before .loop-test .taken) (c .if1 .left))
+    let i = kept .i in
+    simple-join t i (kept .inv) (simple-byte t i (c .before .before .loop-test .taken) (c .if1 .left))
 
 returns-2 : tie.Need-returns-2 Inv-loop μ-loop
 returns-2 c =

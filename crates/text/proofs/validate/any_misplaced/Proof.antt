@@ -1,3 +1,4 @@
+-- `any_misplaced` keeps: while nothing is hit, the k bytes tested so far fit; each turn adds one (`below-more`).
 use mathlib.Core.Path.{_≡_, sym, _∙_}
 use mathlib.Core.Bool.{false}
 use Prim.Native.Nat.{_-_, _≤_}
@@ -61,7 +62,9 @@ loop-less : tie.Need-loop-less Inv-loop μ-loop
 loop-less c = search needs
 
 loop-again : tie.Need-loop-again Inv-loop μ-loop
-loop-again c = (search needs, λ e. record { fit = below-more _ _ (c .before .before .before .before .before .before .loop .inv .1 (or-left _ _ e) .fit) (sym (c .misplaced .ensures) ∙ or-right (c .before .before .before .before .before .before .loop .hit) _ e) })
+loop-again c =
+    let kept = c .before .before .before .before .before .before .loop in
+    (search needs, λ e. record { fit = below-more _ _ (kept .inv .1 (or-left _ _ e) .fit) (sym (c .misplaced .ensures) ∙ or-right (kept .hit) _ e) })
 
 returns : tie.Need-returns Inv-loop μ-loop
 returns c = λ e. record { fit = λ m h. c .before .loop .inv .1 e .fit m (omega arith) }

@@ -1,3 +1,5 @@
+-- `any_misplaced2` keeps: while nothing is hit, the k bytes tested so far fit; each turn adds one, whose short test tells as much as
+-- the whole one (`fits2-at`), since no byte before it is 0xe0 or more.
 use Rattle.text.proofs.Blocks.{fits2-at}
 use mathlib.Core.Path.{_≡_, sym, _∙_}
 use mathlib.Core.Bool.{false}
@@ -47,7 +49,12 @@ loop-less : tie.Need-loop-less Inv-loop μ-loop
 loop-less c = search needs
 
 loop-again : tie.Need-loop-again Inv-loop μ-loop
-loop-again c = (search needs, λ e. record { fit = below-more _ _ (c .before .before .before .before .loop .inv .1 (or-left _ _ e) .fit) (fits2-at (c .before .before .before .before .before .before .args .text .now) (c .before .before .before .before .before .before .args .j) 0xDF (c .before .before .before .before .before .before .pre .1 .0) (c .before .before .before .before .before .before .pre .1 .1) (omega arith) (c .before .before .before .before .loop .k) (omega arith) (sym (c .misplaced2 .ensures) ∙ or-right (c .before .before .before .before .loop .hit) _ e)) })
+loop-again c =
+    let kept = c .before .before .before .before .loop in
+    let given = c .before .before .before .before .before .before .args in
+    let asked = c .before .before .before .before .before .before .pre in
+    let fits = fits2-at (given .text .now) (given .j) 0xDF (asked .1 .0) (asked .1 .1) (omega arith) (kept .k) (omega arith) in
+    (omega arith, λ e. record { fit = below-more _ _ (kept .inv .1 (or-left _ _ e) .fit) (fits (sym (c .misplaced2 .ensures) ∙ or-right (kept .hit) _ e)) })
 
 returns : tie.Need-returns Inv-loop μ-loop
 returns c = λ e. record { fit = λ m h. c .before .loop .inv .1 e .fit m (omega arith) }

@@ -1,3 +1,4 @@
+-- `ascii_blocks` keeps: the bytes before i are whole characters. A block without high bits is ASCII, which makes the prefix longer (`grown`).
 use native.Mathlib.Omega.{arith}
 use Prim.Native.Nat.{_*_, _-_}
 use lib.ListN.{length}
@@ -37,7 +38,10 @@ loop-less : tie.Need-loop-less Inv-loop μ-loop
 loop-less c = omega (arith, c .before .before .before .loop .inv .fits, c .before .before .before .before .before .pre .1)
 
 loop-again : tie.Need-loop-again Inv-loop μ-loop
-loop-again c = grown _ _ _ (c .before .before .before .loop .inv) (ascii-whole (c .before .before .before .before .before .args .text .now) (c .before .before .before .loop .i) (8 * c .before .before .before .before .before .args .words) 0x7f (c .before .joined-bits .ensures (c .if1 .left)) (omega arith) (omega (arith, c .before .before .before .loop .inv .fits)))
+loop-again c =
+    let kept = c .before .before .before .loop in
+    let given = c .before .before .before .before .before .args in
+    grown _ _ _ (kept .inv) (ascii-whole (given .text .now) (kept .i) (8 * given .words) 0x7f (c .before .joined-bits .ensures (c .if1 .left)) (omega arith) (omega (arith, kept .inv .fits)))
 
 returns-2 : tie.Need-returns-2 Inv-loop μ-loop
 returns-2 c = c .before .loop .inv

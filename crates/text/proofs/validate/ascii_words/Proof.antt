@@ -1,3 +1,4 @@
+-- `ascii_words` keeps: the bytes before i are ASCII; a block without high bits adds its own (`ascii-more`).
 use native.Mathlib.Omega.{arith}
 use Prim.Native.Nat.{_-_}
 use lib.ListN.{length}

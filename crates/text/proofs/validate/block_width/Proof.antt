@@ -1,3 +1,5 @@
+-- `block_width`, return by return: ASCII is whole; 0 bytes always are; else the three bytes before are an edge (`edge-of`), and the
+-- block fits, so that `whole_part` tells how far it is whole.
 use native.Mathlib.Omega.{arith}
 use Prim.Native.Nat.{_+_}
 use Rattle.text.proofs.Blocks.{ascii-whole, whole-none, edge-of}
@@ -6,7 +8,10 @@ use Rattle.text.proofs.validate.block_width.Statement.{statement}
 use Rattle.text.proofs.validate.block_width.Tie as tie
 
 returns : tie.Need-returns
-returns c = ascii-whole (c .before .before .args .text .now) (c .before .before .args .j + 3) 32 (c .before .before .args .top) (c .before .before .pre .1) (c .if1 .taken) (omega (arith, c .before .before .pre .0))
+returns c =
+    let given = c .before .before .args in
+    let asked = c .before .before .pre in
+    ascii-whole (given .text .now) (given .j + 3) 32 (given .top) (asked .1) (c .if1 .taken) (omega (arith, asked .0))
 
 add-if2 : tie.Need-add-if2
 add-if2 c = search needs
@@ -24,13 +29,19 @@ shared-slice-read-if2-3 : tie.Need-shared-slice-read-if2-3
 shared-slice-read-if2-3 c = search needs
 
 returns-2 : tie.Need-returns-2
-returns-2 c = whole-none (c .before .before .before .before .before .before .args .text .now) (c .before .before .before .before .before .before .args .j + 3) (omega (arith, c .before .before .before .before .before .before .pre .0))
+returns-2 c =
+    let given = c .before .before .before .before .before .before .args in
+    whole-none (given .text .now) (given .j + 3) (omega (arith, c .before .before .before .before .before .before .pre .0))
 
 unfit-requires : tie.Need-unfit-requires
-unfit-requires c κs = (c .before .before .before .before .before .before .pre .0, (edge-of _ _ (c .if2 .left), c .before .before .before .before .before .before .pre .1))
+unfit-requires c κs =
+    let asked = c .before .before .before .before .before .before .pre in
+    (asked .0, (edge-of _ _ (c .if2 .left), asked .1))
 
 returns-3 : tie.Need-returns-3
-returns-3 c = whole-none (c .before .before .before .before .before .before .before .before .args .text .now) (c .before .before .before .before .before .before .before .before .args .j + 3) (omega (arith, c .before .before .before .before .before .before .before .before .pre .0))
+returns-3 c =
+    let given = c .before .before .before .before .before .before .before .before .args in
+    whole-none (given .text .now) (given .j + 3) (omega (arith, c .before .before .before .before .before .before .before .before .pre .0))
 
 whole-part-requires : tie.Need-whole-part-requires
 whole-part-requires c κs = (c .before .before .before .before .before .before .before .before .pre .0, (edge-of _ _ (c .before .before .if2 .left), c .before .unfit .ensures (c .if3 .left)))

@@ -1,3 +1,4 @@
+-- `joined_bits` keeps: if no bit is set, the bytes of the k words so far are ASCII; a word more adds its eight (`at-most-append`).
 use mathlib.Core.Path.{_≡_}
 use Prim.Native.Nat.{_+_, _*_, _-_, _≤_}
 use native.Mathlib.Omega.{arith}
@@ -33,13 +34,14 @@ loop-less : tie.Need-loop-less Inv-loop μ-loop
 loop-less c = search needs
 
 loop-again : tie.Need-loop-again Inv-loop μ-loop
-loop-again c = (
-  search needs,
-  λ e.
-      let z = or-none (c .before .before .loop .bits) (c .high-bits .result) e in
-      let q : 8 * c .before .before .loop .k + 8 ≡ 8 * (c .before .before .loop .k + 1) = omega arith in
-      rw q at (at-most-append _ _ _ 8 _ (c .before .before .loop .inv .1 (z .0)) (c .high-bits .ensures (z .1))),
-)
+loop-again c =
+    let kept = c .before .before .loop in (
+      search needs,
+      λ e.
+          let z = or-none (kept .bits) (c .high-bits .result) e in
+          let q : 8 * kept .k + 8 ≡ 8 * (kept .k + 1) = omega arith in
+          rw q at (at-most-append _ _ _ 8 _ (kept .inv .1 (z .0)) (c .high-bits .ensures (z .1))),
+    )
 
 returns : tie.Need-returns Inv-loop μ-loop
 returns c =

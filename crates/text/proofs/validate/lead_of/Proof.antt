@@ -1,3 +1,4 @@
+-- `lead_of`, return by return: the state after the first byte (laws of FirstByte.antt), and what it wants next (`leads`, `leads-none`).
 use mathlib.Core.Path.{refl, sym, subst}
 use native.Mathlib.Omega.{arith}
 use Rattle.text.specs.Blocks.{Leads}
@@ -13,8 +14,9 @@ leading-requires c κs = search needs
 
 returns : tie.Need-returns
 returns c =
-    subst (Leads (c .before .before .args .b)) (sym (c .leading .ensures))
-    (leads-none (c .before .before .args .b) 0x80 0xBF (first-low _ (c .before .before .pre) (c .before .if1 .taken)))
+    let given = c .before .before .args in
+    subst (Leads (given .b)) (sym (c .leading .ensures))
+    (leads-none (given .b) 0x80 0xBF (first-low _ (c .before .before .pre) (c .before .if1 .taken)))
 
 leading-requires-2 : tie.Need-leading-requires-2
 leading-requires-2 c κs = search needs
@@ -22,8 +24,9 @@ leading-requires-2 c κs = search needs
 returns-2 : tie.Need-returns-2
 unfolding isBetween next
 returns-2 c =
-    subst (Leads (c .before .before .before .args .b)) (sym (c .leading2 .ensures))
-    (leads (c .before .before .before .args .b) 2 0x80 0xBF one (first-one _ (c .before .before .if1 .left) (c .before .if2 .taken)) refl (λ x. refl) (omega arith) (omega arith))
+    let given = c .before .before .before .args in
+    subst (Leads (given .b)) (sym (c .leading2 .ensures))
+    (leads (given .b) 2 0x80 0xBF one (first-one _ (c .before .before .if1 .left) (c .before .if2 .taken)) refl (λ x. refl) (omega arith) (omega arith))
 
 leading-requires-3 : tie.Need-leading-requires-3
 leading-requires-3 c κs = search needs
@@ -31,8 +34,9 @@ leading-requires-3 c κs = search needs
 returns-3 : tie.Need-returns-3
 unfolding isBetween next
 returns-3 c =
-    subst (Leads (c .before .before .before .before .args .b)) (sym (c .leading3 .ensures))
-    (leads (c .before .before .before .before .args .b) 3 0xA0 0xBF after-e0 (first-e0 _ (c .before .if3 .taken)) refl (λ x. refl) (omega arith) (omega arith))
+    let given = c .before .before .before .before .args in
+    subst (Leads (given .b)) (sym (c .leading3 .ensures))
+    (leads (given .b) 3 0xA0 0xBF after-e0 (first-e0 _ (c .before .if3 .taken)) refl (λ x. refl) (omega arith) (omega arith))
 
 leading-requires-4 : tie.Need-leading-requires-4
 leading-requires-4 c κs = search needs
@@ -40,8 +44,9 @@ leading-requires-4 c κs = search needs
 returns-4 : tie.Need-returns-4
 unfolding isBetween next
 returns-4 c =
-    subst (Leads (c .before .before .before .before .before .args .b)) (sym (c .leading4 .ensures))
-    (leads (c .before .before .before .before .before .args .b) 3 0x80 0x9F after-ed (first-ed _ (c .before .if4 .taken)) refl (λ x. refl) (omega arith) (omega arith))
+    let given = c .before .before .before .before .before .args in
+    subst (Leads (given .b)) (sym (c .leading4 .ensures))
+    (leads (given .b) 3 0x80 0x9F after-ed (first-ed _ (c .before .if4 .taken)) refl (λ x. refl) (omega arith) (omega arith))
 
 leading-requires-5 : tie.Need-leading-requires-5
 leading-requires-5 c κs = search needs
@@ -49,8 +54,9 @@ leading-requires-5 c κs = search needs
 returns-5 : tie.Need-returns-5
 unfolding isBetween next
 returns-5 c =
-    subst (Leads (c .before .before .before .before .before .before .args .b)) (sym (c .leading5 .ensures))
-    (leads (c .before .before .before .before .before .before .args .b) 3 0x80 0xBF two (first-two (c .before .before .before .before .before .before .args .b) (omega arith) (c .before .if5 .taken) (c .before .before .if4 .left)) refl (λ x. refl) (omega arith) (omega arith))
+    let given = c .before .before .before .before .before .before .args in
+    subst (Leads (given .b)) (sym (c .leading5 .ensures))
+    (leads (given .b) 3 0x80 0xBF two (first-two (given .b) (omega arith) (c .before .if5 .taken) (c .before .before .if4 .left)) refl (λ x. refl) (omega arith) (omega arith))
 
 leading-requires-6 : tie.Need-leading-requires-6
 leading-requires-6 c κs = search needs
@@ -58,8 +64,9 @@ leading-requires-6 c κs = search needs
 returns-6 : tie.Need-returns-6
 unfolding isBetween next
 returns-6 c =
-    subst (Leads (c .before .before .before .before .before .before .before .args .b)) (sym (c .leading6 .ensures))
-    (leads (c .before .before .before .before .before .before .before .args .b) 4 0x90 0xBF after-f0 (first-f0 _ (c .before .if6 .taken)) refl (λ x. refl) (omega arith) (omega arith))
+    let given = c .before .before .before .before .before .before .before .args in
+    subst (Leads (given .b)) (sym (c .leading6 .ensures))
+    (leads (given .b) 4 0x90 0xBF after-f0 (first-f0 _ (c .before .if6 .taken)) refl (λ x. refl) (omega arith) (omega arith))
 
 leading-requires-7 : tie.Need-leading-requires-7
 leading-requires-7 c κs = search needs
@@ -67,8 +74,9 @@ leading-requires-7 c κs = search needs
 returns-7 : tie.Need-returns-7
 unfolding isBetween next
 returns-7 c =
-    subst (Leads (c .before .before .before .before .before .before .before .before .args .b)) (sym (c .leading7 .ensures))
-    (leads (c .before .before .before .before .before .before .before .before .args .b) 4 0x80 0xBF three (first-three (c .before .before .before .before .before .before .before .before .args .b) (omega arith) (c .before .if7 .taken)) refl (λ x. refl) (omega arith) (omega arith))
+    let given = c .before .before .before .before .before .before .before .before .args in
+    subst (Leads (given .b)) (sym (c .leading7 .ensures))
+    (leads (given .b) 4 0x80 0xBF three (first-three (given .b) (omega arith) (c .before .if7 .taken)) refl (λ x. refl) (omega arith) (omega arith))
 
 leading-requires-8 : tie.Need-leading-requires-8
 leading-requires-8 c κs = search needs
@@ -76,16 +84,18 @@ leading-requires-8 c κs = search needs
 returns-8 : tie.Need-returns-8
 unfolding isBetween next
 returns-8 c =
-    subst (Leads (c .before .before .before .before .before .before .before .before .before .args .b)) (sym (c .leading8 .ensures))
-    (leads (c .before .before .before .before .before .before .before .before .before .args .b) 4 0x80 0x8F after-f4 (first-f4 _ (c .before .if8 .taken)) refl (λ x. refl) (omega arith) (omega arith))
+    let given = c .before .before .before .before .before .before .before .before .before .args in
+    subst (Leads (given .b)) (sym (c .leading8 .ensures))
+    (leads (given .b) 4 0x80 0x8F after-f4 (first-f4 _ (c .before .if8 .taken)) refl (λ x. refl) (omega arith) (omega arith))
 
 leading-requires-9 : tie.Need-leading-requires-9
 leading-requires-9 c κs = search needs
 
 returns-9 : tie.Need-returns-9
 returns-9 c =
-    subst (Leads (c .before .before .before .before .before .before .before .before .before .args .b)) (sym (c .leading9 .ensures))
-    (leads-none (c .before .before .before .before .before .before .before .before .before .args .b) 0x80 0xBF (first-high (c .before .before .before .before .before .before .before .before .before .args .b) (omega arith)))
+    let given = c .before .before .before .before .before .before .before .before .before .args in
+    subst (Leads (given .b)) (sym (c .leading9 .ensures))
+    (leads-none (given .b) 0x80 0xBF (first-high (given .b) (omega arith)))
 
 pub lead-of-spec : {M : Type 1} → statement M
 lead-of-spec =

@@ -1,3 +1,4 @@
+-- `whole_blocks` keeps: three bytes lie behind, and those before i are whole characters; what `block_width` passes makes them more (`grown`).
 use mathlib.Core.Path.{_≡_}
 use native.Mathlib.Omega.{arith}
 use Prim.Native.Nat.{_+_, _-_, _≤_}
@@ -30,26 +31,30 @@ sub-block-width c = omega (arith, c .before .before .loop .inv .0)
 
 block-width-requires : tie.Need-block-width-requires Inv-loop μ-loop
 block-width-requires c κs =
-    let q : c .before .before .loop .i - 3 + 3 ≡ c .before .before .loop .i = omega (arith, c .before .before .loop .inv .0) in
-    (omega (arith, c .before .before .loop .inv .0, c .before .before .loop .inv .1 .fits), rw q (c .highest .ensures))
+    let kept = c .before .before .loop in
+    let q : kept .i - 3 + 3 ≡ kept .i = omega (arith, kept .inv .0) in
+    (omega (arith, kept .inv .0, kept .inv .1 .fits), rw q (c .highest .ensures))
 
 returns-2 : tie.Need-returns-2 Inv-loop μ-loop
 returns-2 c = c .before .before .before .before .loop .inv .1
 
 add-i : tie.Need-add-i Inv-loop μ-loop
 add-i c =
-    let q : c .before .before .before .before .loop .i - 3 + 3 ≡ c .before .before .before .before .loop .i = omega (arith, c .before .before .before .before .loop .inv .0) in
+    let kept = c .before .before .before .before .loop in
+    let q : kept .i - 3 + 3 ≡ kept .i = omega (arith, kept .inv .0) in
     omega (arith, rw q at (c .before .block-width .ensures .fits))
 
 loop-less : tie.Need-loop-less Inv-loop μ-loop
 loop-less c =
-    let q : c .before .before .before .before .loop .i - 3 + 3 ≡ c .before .before .before .before .loop .i = omega (arith, c .before .before .before .before .loop .inv .0) in
+    let kept = c .before .before .before .before .loop in
+    let q : kept .i - 3 + 3 ≡ kept .i = omega (arith, kept .inv .0) in
     omega (arith, c .if2 .left, rw q at (c .before .block-width .ensures .fits))
 
 loop-again : tie.Need-loop-again Inv-loop μ-loop
 loop-again c =
-    let q : c .before .before .before .before .loop .i - 3 + 3 ≡ c .before .before .before .before .loop .i = omega (arith, c .before .before .before .before .loop .inv .0) in
-    (omega (arith, c .before .before .before .before .loop .inv .0), grown _ _ _ (c .before .before .before .before .loop .inv .1) (rw q at (c .before .block-width .ensures)))
+    let kept = c .before .before .before .before .loop in
+    let q : kept .i - 3 + 3 ≡ kept .i = omega (arith, kept .inv .0) in
+    (omega (arith, kept .inv .0), grown _ _ _ (kept .inv .1) (rw q at (c .before .block-width .ensures)))
 
 returns-3 : tie.Need-returns-3 Inv-loop μ-loop
 returns-3 c = c .before .loop .inv .1

@@ -1,3 +1,4 @@
+-- `whole_part`, return by return: the block is whole before a character that is cut off (`ends-before`), or to its end (`ends-after`).
 use mathlib.Core.Path.{_≡_}
 use Prim.Native.Nat.{_+_}
 use native.Mathlib.Omega.{arith}
@@ -14,8 +15,10 @@ shared-slice-read-if1 c = search needs
 
 returns : tie.Need-returns
 returns c =
-    let q : c .before .before .args .j + 34 ≡ c .before .before .args .j + 31 + 3 = omega arith in
-    ends-before (c .before .before .args .text .now) (c .before .before .args .j) (c .before .before .pre .1 .0) (c .before .before .pre .1 .1) (c .before .before .pre .0) 31 (omega arith) (rw q at (c .if1 .taken))
+    let given = c .before .before .args in
+    let asked = c .before .before .pre in
+    let q : given .j + 34 ≡ given .j + 31 + 3 = omega arith in
+    ends-before (given .text .now) (given .j) (asked .1 .0) (asked .1 .1) (asked .0) 31 (omega arith) (rw q at (c .if1 .taken))
 
 add-if2 : tie.Need-add-if2
 add-if2 c = search needs
@@ -25,8 +28,10 @@ shared-slice-read-if2 c = search needs
 
 returns-2 : tie.Need-returns-2
 returns-2 c =
-    let q : c .before .before .before .before .args .j + 30 + 3 ≡ c .before .before .before .before .args .j + 33 = omega arith in
-    ends-before (c .before .before .before .before .args .text .now) (c .before .before .before .before .args .j) (c .before .before .before .before .pre .1 .0) (c .before .before .before .before .pre .1 .1) (c .before .before .before .before .pre .0) 30 (omega arith) (rw q (omega (arith, c .if2 .taken)))
+    let given = c .before .before .before .before .args in
+    let asked = c .before .before .before .before .pre in
+    let q : given .j + 30 + 3 ≡ given .j + 33 = omega arith in
+    ends-before (given .text .now) (given .j) (asked .1 .0) (asked .1 .1) (asked .0) 30 (omega arith) (rw q (omega (arith, c .if2 .taken)))
 
 add-if3 : tie.Need-add-if3
 add-if3 c = search needs
@@ -36,11 +41,16 @@ shared-slice-read-if3 c = search needs
 
 returns-3 : tie.Need-returns-3
 returns-3 c =
-    let q : c .before .before .before .before .before .before .args .j + 29 + 3 ≡ c .before .before .before .before .before .before .args .j + 32 = omega arith in
-    ends-before (c .before .before .before .before .before .before .args .text .now) (c .before .before .before .before .before .before .args .j) (c .before .before .before .before .before .before .pre .1 .0) (c .before .before .before .before .before .before .pre .1 .1) (c .before .before .before .before .before .before .pre .0) 29 (omega arith) (rw q (omega (arith, c .if3 .taken)))
+    let given = c .before .before .before .before .before .before .args in
+    let asked = c .before .before .before .before .before .before .pre in
+    let q : given .j + 29 + 3 ≡ given .j + 32 = omega arith in
+    ends-before (given .text .now) (given .j) (asked .1 .0) (asked .1 .1) (asked .0) 29 (omega arith) (rw q (omega (arith, c .if3 .taken)))
 
 returns-4 : tie.Need-returns-4
-returns-4 c = ends-after (c .before .before .before .before .before .before .args .text .now) (c .before .before .before .before .before .before .args .j) (c .before .before .before .before .before .before .pre .1 .0) (c .before .before .before .before .before .before .pre .1 .1) (c .before .before .before .before .before .before .pre .0) (c .if3 .left) (c .before .before .if2 .left) (c .before .before .before .before .if1 .left)
+returns-4 c =
+    let asked = c .before .before .before .before .before .before .pre in
+    let given = c .before .before .before .before .before .before .args in
+    ends-after (given .text .now) (given .j) (asked .1 .0) (asked .1 .1) (asked .0) (c .if3 .left) (c .before .before .if2 .left) (c .before .before .before .before .if1 .left)
 
 pub whole-part-spec : {M : Type 1} → statement M
 whole-part-spec =
