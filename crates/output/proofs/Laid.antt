@@ -1,11 +1,11 @@
 -- Writing after what is already written: the laws of `laid`, a value in the first bytes of a buffer whose rest keeps its bytes. Assumes nothing.
-use mathlib.Core.Path.{_≡_, sym, ap, _∙_}
+use mathlib.Core.Path.{_≡_, refl, sym, ap, _∙_}
 use mathlib.Core.List.{List, [], _∷_, _++_, append-assoc, append-nil}
-use Prim.Native.Nat.{ℕ, suc, _+_, _-_, _≤_, _<_}
+use Prim.Native.Nat.{ℕ, suc, _+_, _-_, _≤_, _<_, zero-le}
 use native.Mathlib.Omega.{arith}
 use native.Mathlib.Nat.{le-refl}
 use native.Mathlib.Numerals.{add-one}
-use lib.ListN.{length, take, drop, getD, set, length-append, length-drop, drop-of-length-le, take-append-drop}
+use lib.ListN.{length, take, drop, getD, set, length-set, length-append, length-drop, drop-of-length-le, take-append-drop}
 use lib.Seq.{length-take-le, take-suc, take-add, take-all, take-length, take-take, take-append-le, take-append-seam, drop-append-add, drop-append-seam, drop-drop, drop-cons, set-append-seam}
 use borrow.Rule.Slice.PartMut.{midOf, putMid}
 use Rattle.text.specs.Call.{laid}
@@ -52,6 +52,27 @@ pub laid-next : (run old : List ℕ) (i : ℕ) → i < length run → i < length
 laid-next run old i h g =
     let e : length (take i run) ≡ i = length-take-le i run (omega arith) in
     rw (add-one i, take-suc run i 0 h) (ap (λ (n : ℕ). set (laid (take i run) old) n (getD run i 0)) (sym e) ∙ laid-byte (take i run) old (getD run i 0) (rw e g))
+
+-- the first `i` bytes of a run lie at the start of the output, which keeps its length
+pub record Laying (run old out : List ℕ) (i : ℕ) : Type 0 where
+  pub to : i ≤ length run
+  pub holds : out ≡ laid (take i run) old
+  pub size : length out ≡ length old
+
+pub laying-none : (run old : List ℕ) → Laying run old old 0
+laying-none run old = record { to = zero-le; holds = refl; size = refl }
+
+pub laying-next : (run old : List ℕ) {out : List ℕ} {i : ℕ} → Laying run old out i → i < length run → length run ≤ length old
+    → Laying run old (set out i (getD run i 0)) (i + 1)
+laying-next run old {out} {i} l h g =
+    record {
+      to = omega arith;
+      holds = ap (λ (o : List ℕ). set o i (getD run i 0)) (l .holds) ∙ laid-next run old i h (omega arith);
+      size = length-set out i (getD run i 0) ∙ l .size;
+    }
+
+pub laying-all : (run old : List ℕ) {out : List ℕ} {i : ℕ} → Laying run old out i → length run ≤ i → out ≡ laid run old
+laying-all run old {out} {i} l h = l .holds ∙ ap (λ (s : List ℕ). laid s old) (take-all i run h)
 
 -- after a part of a run more, by a call that is lent the rest of the output
 pub laid-part : (run old : List ℕ) (i e : ℕ) {buffer part : List ℕ} → i ≤ e → e ≤ length run

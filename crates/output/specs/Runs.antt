@@ -1,5 +1,5 @@
 -- Runs of bytes that are copied as they stand, over any test for the bytes at which a run stops: the terms in which writers are proved. Assumes nothing.
-use Prim.Native.Nat.{ℕ, _≤_, _<_}
+use Prim.Native.Nat.{ℕ, _+_, _≤_, _<_}
 use mathlib.Core.Path.{_≡_}
 use mathlib.Core.Bool.{Bool, true, false, _||_}
 use mathlib.Core.List.{List}
@@ -29,3 +29,10 @@ Ends stop text e = e < length text → stop (getD text e 0) ≡ true
 -- the output has room for any run at the text's start
 abbrev pub Room : (ℕ → Bool) → List ℕ → List ℕ → Type 0
 Room stop text out = (e : ℕ) → Plain stop text 0 e → e ≤ length out
+
+-- a run that two pieces of `size` bytes cover, its first and its last, and an output with room for it
+pub record TwoPieces (src out : List ℕ) (size : ℕ) : Type 0 where
+  pub small : size ≤ 16
+  pub reaches : size ≤ length src
+  pub covers : length src ≤ size + size
+  pub room : length src ≤ length out

@@ -6,7 +6,7 @@ ghost use mathlib.Core.Bool.{false};
 ghost use lib.ListN.{length, set};
 ghost use Rattle.text.specs.Call.{laid};
 ghost use Rattle.output.specs.Over.{over};
-ghost use Rattle.output.specs.Runs.{Plain, eitherByte};
+ghost use Rattle.output.specs.Runs.{Plain, eitherByte, TwoPieces};
 
 // Copies the run to the start of `out`, and keeps the rest.
 pub fn put_run(src: &[u8], out: &mut [u8])
@@ -44,8 +44,7 @@ pub fn put_block(src: &[u8], out: &mut [u8])
 
 // A run of `size` bytes up to twice as many: its first and its last `size`, which may overlap, so that there is no loop.
 fn put_ends(src: &[u8], size: usize, out: &mut [u8])
-    requires { ⌜ (size ≤ 16) × (size ≤ length (now src)) × (length (now src) ≤ size + size) ⌝ }
-    requires { ⌜ length (now src) ≤ length (now out) ⌝ }
+    requires { ⌜ TwoPieces (now src) (now out) size ⌝ }
     ensures { λ _. ⌜ now (out .exit) ≡ laid (now (src .entry)) (now (out .entry)) ⌝ }
 {
     put_piece(&src[..size], out);

@@ -1,3 +1,4 @@
+-- `any_of` keeps: while nothing is hit, the k bytes tested so far are neither a nor b; each turn adds one (`below-more`).
 use mathlib.Core.Path.{_≡_}
 use mathlib.Core.Bool.{false}
 use Prim.Native.Nat.{ℕ, _+_, _-_, _≤_, _<_}
@@ -40,8 +41,9 @@ loop-less c = search needs
 
 loop-again : tie.Need-loop-again Inv-loop μ-loop
 loop-again c =
+    let kept = c .before .before .before .loop in
     let s = c .before .before .before .before .args in
-    (search needs, λ e. below-more (λ (m : ℕ). eitherByte (s .a) (s .b) (getD (s .text .now) (s .i + m) 0) ≡ false) _ (c .before .before .before .loop .inv .1 (or-left _ _ e)) (or-right (c .before .before .before .loop .hit) _ e))
+    (search needs, λ e. below-more (λ (m : ℕ). eitherByte (s .a) (s .b) (getD (s .text .now) (s .i + m) 0) ≡ false) _ (kept .inv .1 (or-left _ _ e)) (or-right (kept .hit) _ e))
 
 returns : tie.Need-returns Inv-loop μ-loop
 returns c = λ e. plain-of _ _ _ (c .before .before .args .size) (c .before .before .pre) (λ m h. c .before .loop .inv .1 e m (omega arith))

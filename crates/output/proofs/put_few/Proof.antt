@@ -1,3 +1,4 @@
+-- `put_few` keeps: the first k bytes of the run, or all of it where it is shorter, are laid over the output.
 use mathlib.Core.Path.{_≡_, refl, sym, ap, _∙_}
 use mathlib.Core.Logic.{⊎-elim}
 use mathlib.Core.List.{List}
@@ -34,9 +35,10 @@ loop-less c = search needs
 
 loop-again : tie.Need-loop-again Inv-loop μ-loop
 loop-again c =
+    let given = c .before .before .before .args in
     let l = c .before .before .loop in
-    let src = c .before .before .before .args .src .now in
-    let old = c .before .before .before .args .out .now in
+    let src = given .src .now in
+    let old = given .out .now in
     let k = l .k in (
       omega arith,
       ⊎-elim
@@ -51,7 +53,8 @@ same-length c = c .before .loop .inv .2
 
 returns : tie.Need-returns Inv-loop μ-loop
 returns c =
-    c .before .loop .inv .1 ∙ ap (λ (s : List ℕ). laid s (c .before .before .args .out .now)) (take-all (c .before .loop .k) (c .before .before .args .src .now) (omega arith))
+    let given = c .before .before .args in
+    c .before .loop .inv .1 ∙ ap (λ (s : List ℕ). laid s (given .out .now)) (take-all (c .before .loop .k) (given .src .now) (omega arith))
 
 pub put-few-spec : {M : Type 1} → statement M
 put-few-spec =

@@ -20,7 +20,9 @@ same-length : tie.Need-same-length
 same-length c = search needs
 
 returns : tie.Need-returns
-returns c = c .before .before .put-part .ensures ∙ over-clipped (c .before .before .before .before .before .before .before .before .args .src .now) (c .before .before .before .before .before .before .before .before .args .out .now) (c .before .before .before .before .before .least .ensures)
+returns c =
+    let given = c .before .before .before .before .before .before .before .before .args in
+    c .before .before .put-part .ensures ∙ over-clipped (given .src .now) (given .out .now) (c .before .before .before .before .before .least .ensures)
 
 pub put-over-spec : {M : Type 1} → statement M
 put-over-spec =

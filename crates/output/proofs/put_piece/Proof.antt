@@ -1,3 +1,4 @@
+-- `put_piece` copies the run to the block, whose front is then the run (`laid-front`), and from there to the output.
 use mathlib.Core.Path.{sym, ap, _∙_}
 use mathlib.Core.List.{List}
 use Prim.Native.Nat.{ℕ}
@@ -21,13 +22,18 @@ slice-aggregate-put-run-2 : tie.Need-slice-aggregate-put-run-2
 slice-aggregate-put-run-2 c = ap length (sym (laid-front (c .before .before .before .before .before .before .args .src .now) _ (c .before .before .put-run .ensures)))
 
 put-run-requires-2 : tie.Need-put-run-requires-2
-put-run-requires-2 c κs = rw (laid-front (c .before .before .before .before .before .before .before .args .src .now) _ (c .before .before .before .put-run .ensures)) (c .before .before .before .before .before .before .before .pre .1)
+put-run-requires-2 c κs =
+    let start = c .before .before .before .before .before .before .before in
+    rw (laid-front (start .args .src .now) _ (c .before .before .before .put-run .ensures)) (start .pre .1)
 
 same-length : tie.Need-same-length
 same-length c = search needs
 
 returns : tie.Need-returns
-returns c = c .before .before .put-run2 .ensures ∙ ap (λ (l : List ℕ). laid l (c .before .before .before .before .before .before .before .before .before .before .args .out .now)) (laid-front (c .before .before .before .before .before .before .before .before .before .before .args .src .now) _ (c .before .before .before .before .before .before .put-run .ensures))
+returns c =
+    let given = c .before .before .before .before .before .before .before .before .before .before .args in
+    let front = laid-front (given .src .now) _ (c .before .before .before .before .before .before .put-run .ensures) in
+    c .before .before .put-run2 .ensures ∙ ap (λ (l : List ℕ). laid l (given .out .now)) front
 
 pub put-piece-spec : {M : Type 1} → statement M
 put-piece-spec =
