@@ -29,8 +29,9 @@ digit-requires c κs = search needs
 
 returns : tie.Need-returns Inv-loop μ-loop
 returns c =
+    let given = c .before .before .before .before .before .before .before .args in
     let l = c .before .before .before .before .loop in
-    sym (at-none (c .before .before .before .before .before .before .before .args .base) (l .value) (l .i) (c .before .before .before .before .before .before .before .args .text .now) (omega arith) (c .before .digit .result) (c .before .digit .ensures) (c .if1 .taken)) ∙ l .inv .2
+    sym (at-none (given .base) (l .value) (l .i) (given .text .now) (omega arith) (c .before .digit .result) (c .before .digit .ensures) (c .if1 .taken)) ∙ l .inv .2
 
 mul-value : tie.Need-mul-value Inv-loop μ-loop
 mul-value c = omega (arith, product (c .before .before .before .before .before .before .before .args .base) (c .before .before .before .before .loop .value) (omega arith) (omega arith))
@@ -40,12 +41,14 @@ add-value c = omega (arith, product (c .before .before .before .before .before .
 
 returns-2 : tie.Need-returns-2 Inv-loop μ-loop
 returns-2 c =
+    let given = c .before .before .before .before .before .before .before .before .args in
+    let at-digit-2 = c .before .before .digit in
     let l = c .before .before .before .before .before .loop in
-    let base = c .before .before .before .before .before .before .before .before .args .base in
-    let text = c .before .before .before .before .before .before .before .before .args .text .now in
-    let d = c .before .before .digit .result in
+    let base = given .base in
+    let text = given .text .now in
+    let d = at-digit-2 .result in
     sym (too-large base (base * l .value + d) (drop (l .i + 1) text) (omega arith) (c .if2 .taken))
-    ∙ ap small (sym (at-digit base (l .value) (l .i) text (omega arith) d (c .before .before .digit .ensures) (omega arith))) ∙ l .inv .2
+    ∙ ap small (sym (at-digit base (l .value) (l .i) text (omega arith) d (at-digit-2 .ensures) (omega arith))) ∙ l .inv .2
 
 add-i : tie.Need-add-i Inv-loop μ-loop
 add-i c = search needs
@@ -55,10 +58,12 @@ loop-less c = search needs
 
 loop-again : tie.Need-loop-again Inv-loop μ-loop
 loop-again c =
+    let given = c .before .before .before .before .before .before .before .before .args in
+    let at-digit-2 = c .before .before .digit in
     let l = c .before .before .before .before .before .loop in (
       omega arith,
       omega arith,
-      ap small (sym (at-digit (c .before .before .before .before .before .before .before .before .args .base) (l .value) (l .i) (c .before .before .before .before .before .before .before .before .args .text .now) (omega arith) (c .before .before .digit .result) (c .before .before .digit .ensures) (omega arith)))
+      ap small (sym (at-digit (given .base) (l .value) (l .i) (given .text .now) (omega arith) (at-digit-2 .result) (at-digit-2 .ensures) (omega arith)))
           ∙ l .inv .2,
     )
 
@@ -67,8 +72,9 @@ cast-t11 c = search needs
 
 returns-3 : tie.Need-returns-3 Inv-loop μ-loop
 returns-3 c =
+    let given = c .before .before .before .before .args in
     let l = c .before .loop in
-    sym (at-end (c .before .before .before .before .args .base) (l .value) (l .i) (c .before .before .before .before .args .text .now) (omega arith) (omega arith)) ∙ l .inv .2
+    sym (at-end (given .base) (l .value) (l .i) (given .text .now) (omega arith) (omega arith)) ∙ l .inv .2
 
 pub digits-spec : {M : Type 1} → statement M
 digits-spec =

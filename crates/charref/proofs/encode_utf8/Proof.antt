@@ -31,8 +31,9 @@ cast-out-2 c = search needs
 
 slice-write-out-2 : tie.Need-slice-write-out-2
 slice-write-out-2 c =
-    let n = c .before .before .args .n in
-    room n 0 [] (c .before .before .args .out .now) (c .before .before .pre .1) (omega (arith, least-2 n (c .before .if1 .left)))
+    let given = c .before .before .args in
+    let n = given .n in
+    room n 0 [] (given .out .now) (c .before .before .pre .1) (omega (arith, least-2 n (c .before .if1 .left)))
 
 add-out-2 : tie.Need-add-out-2
 add-out-2 c = search needs
@@ -42,16 +43,18 @@ cast-out-3 c = search needs
 
 slice-write-out-3 : tie.Need-slice-write-out-3
 slice-write-out-3 c =
-    let n = c .before .before .args .n in
-    room n 1 ((0xC0 + n / 64) ∷ []) (c .before .before .args .out .now) (c .before .before .pre .1) (least-2 n (c .before .if1 .left))
+    let given = c .before .before .args in
+    let n = given .n in
+    room n 1 ((0xC0 + n / 64) ∷ []) (given .out .now) (c .before .before .pre .1) (least-2 n (c .before .if1 .left))
 
 same-length-2 : tie.Need-same-length-2
 same-length-2 c = search needs
 
 returns-2 : tie.Need-returns-2
 returns-2 c =
-    let n = c .before .before .args .n in
-    written n ((0xC0 + n / 64) ∷ (0x80 + n % 64) ∷ []) (c .before .before .args .out .now) (encode-2 n (c .before .if1 .left) (c .if2 .taken)) (c .before .before .pre .1)
+    let given = c .before .before .args in
+    let n = given .n in
+    written n ((0xC0 + n / 64) ∷ (0x80 + n % 64) ∷ []) (given .out .now) (encode-2 n (c .before .if1 .left) (c .if2 .taken)) (c .before .before .pre .1)
 
 add-out-3 : tie.Need-add-out-3
 add-out-3 c = search needs
@@ -61,8 +64,9 @@ cast-out-4 c = search needs
 
 slice-write-out-4 : tie.Need-slice-write-out-4
 slice-write-out-4 c =
-    let n = c .before .before .before .args .n in
-    room n 0 [] (c .before .before .before .args .out .now) (c .before .before .before .pre .1) (omega (arith, least-3 n (c .before .if2 .left)))
+    let given = c .before .before .before .args in
+    let n = given .n in
+    room n 0 [] (given .out .now) (c .before .before .before .pre .1) (omega (arith, least-3 n (c .before .if2 .left)))
 
 add-out-4 : tie.Need-add-out-4
 add-out-4 c = search needs
@@ -72,8 +76,9 @@ cast-out-5 c = search needs
 
 slice-write-out-5 : tie.Need-slice-write-out-5
 slice-write-out-5 c =
-    let n = c .before .before .before .args .n in
-    room n 1 ((0xE0 + n / 4096) ∷ []) (c .before .before .before .args .out .now) (c .before .before .before .pre .1) (omega (arith, least-3 n (c .before .if2 .left)))
+    let given = c .before .before .before .args in
+    let n = given .n in
+    room n 1 ((0xE0 + n / 4096) ∷ []) (given .out .now) (c .before .before .before .pre .1) (omega (arith, least-3 n (c .before .if2 .left)))
 
 add-out-5 : tie.Need-add-out-5
 add-out-5 c = search needs
@@ -83,16 +88,18 @@ cast-out-6 c = search needs
 
 slice-write-out-6 : tie.Need-slice-write-out-6
 slice-write-out-6 c =
-    let n = c .before .before .before .args .n in
-    room n 2 ((0xE0 + n / 4096) ∷ (0x80 + n / 64 % 64) ∷ []) (c .before .before .before .args .out .now) (c .before .before .before .pre .1) (least-3 n (c .before .if2 .left))
+    let given = c .before .before .before .args in
+    let n = given .n in
+    room n 2 ((0xE0 + n / 4096) ∷ (0x80 + n / 64 % 64) ∷ []) (given .out .now) (c .before .before .before .pre .1) (least-3 n (c .before .if2 .left))
 
 same-length-3 : tie.Need-same-length-3
 same-length-3 c = search needs
 
 returns-3 : tie.Need-returns-3
 returns-3 c =
-    let n = c .before .before .before .args .n in
-    written n ((0xE0 + n / 4096) ∷ (0x80 + n / 64 % 64) ∷ (0x80 + n % 64) ∷ []) (c .before .before .before .args .out .now) (encode-3 n (c .before .if2 .left) (c .if3 .taken)) (c .before .before .before .pre .1)
+    let given = c .before .before .before .args in
+    let n = given .n in
+    written n ((0xE0 + n / 4096) ∷ (0x80 + n / 64 % 64) ∷ (0x80 + n % 64) ∷ []) (given .out .now) (encode-3 n (c .before .if2 .left) (c .if3 .taken)) (c .before .before .before .pre .1)
 
 add-out-6 : tie.Need-add-out-6
 add-out-6 c = search needs
@@ -102,8 +109,9 @@ cast-out-7 c = search needs
 
 slice-write-out-7 : tie.Need-slice-write-out-7
 slice-write-out-7 c =
-    let n = c .before .before .before .args .n in
-    room n 0 [] (c .before .before .before .args .out .now) (c .before .before .before .pre .1) (omega (arith, least-4 n (c .if3 .left)))
+    let given = c .before .before .before .args in
+    let n = given .n in
+    room n 0 [] (given .out .now) (c .before .before .before .pre .1) (omega (arith, least-4 n (c .if3 .left)))
 
 add-out-7 : tie.Need-add-out-7
 add-out-7 c = search needs
@@ -113,8 +121,9 @@ cast-out-8 c = search needs
 
 slice-write-out-8 : tie.Need-slice-write-out-8
 slice-write-out-8 c =
-    let n = c .before .before .before .args .n in
-    room n 1 ((0xF0 + n / 262144) ∷ []) (c .before .before .before .args .out .now) (c .before .before .before .pre .1) (omega (arith, least-4 n (c .if3 .left)))
+    let given = c .before .before .before .args in
+    let n = given .n in
+    room n 1 ((0xF0 + n / 262144) ∷ []) (given .out .now) (c .before .before .before .pre .1) (omega (arith, least-4 n (c .if3 .left)))
 
 add-out-8 : tie.Need-add-out-8
 add-out-8 c = search needs
@@ -124,8 +133,9 @@ cast-out-9 c = search needs
 
 slice-write-out-9 : tie.Need-slice-write-out-9
 slice-write-out-9 c =
-    let n = c .before .before .before .args .n in
-    room n 2 ((0xF0 + n / 262144) ∷ (0x80 + n / 4096 % 64) ∷ []) (c .before .before .before .args .out .now) (c .before .before .before .pre .1) (omega (arith, least-4 n (c .if3 .left)))
+    let given = c .before .before .before .args in
+    let n = given .n in
+    room n 2 ((0xF0 + n / 262144) ∷ (0x80 + n / 4096 % 64) ∷ []) (given .out .now) (c .before .before .before .pre .1) (omega (arith, least-4 n (c .if3 .left)))
 
 add-out-9 : tie.Need-add-out-9
 add-out-9 c = search needs
@@ -135,16 +145,18 @@ cast-out-10 c = search needs
 
 slice-write-out-10 : tie.Need-slice-write-out-10
 slice-write-out-10 c =
-    let n = c .before .before .before .args .n in
-    room n 3 ((0xF0 + n / 262144) ∷ (0x80 + n / 4096 % 64) ∷ (0x80 + n / 64 % 64) ∷ []) (c .before .before .before .args .out .now) (c .before .before .before .pre .1) (least-4 n (c .if3 .left))
+    let given = c .before .before .before .args in
+    let n = given .n in
+    room n 3 ((0xF0 + n / 262144) ∷ (0x80 + n / 4096 % 64) ∷ (0x80 + n / 64 % 64) ∷ []) (given .out .now) (c .before .before .before .pre .1) (least-4 n (c .if3 .left))
 
 same-length-4 : tie.Need-same-length-4
 same-length-4 c = search needs
 
 returns-4 : tie.Need-returns-4
 returns-4 c =
-    let n = c .before .before .before .args .n in
-    written n ((0xF0 + n / 262144) ∷ (0x80 + n / 4096 % 64) ∷ (0x80 + n / 64 % 64) ∷ (0x80 + n % 64) ∷ []) (c .before .before .before .args .out .now) (encode-4 n (c .if3 .left)) (c .before .before .before .pre .1)
+    let given = c .before .before .before .args in
+    let n = given .n in
+    written n ((0xF0 + n / 262144) ∷ (0x80 + n / 4096 % 64) ∷ (0x80 + n / 64 % 64) ∷ (0x80 + n % 64) ∷ []) (given .out .now) (encode-4 n (c .if3 .left)) (c .before .before .before .pre .1)
 
 pub encode-utf8-spec : {M : Type 1} → statement M
 encode-utf8-spec =

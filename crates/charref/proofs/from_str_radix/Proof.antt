@@ -6,7 +6,9 @@ use Rattle.charref.proofs.from_str_radix.Statement.{statement}
 use Rattle.charref.proofs.from_str_radix.Tie as tie
 
 returns : tie.Need-returns
-returns c = base-none (c .before .before .args .base) (c .before .before .args .text .now) (c .if1 .taken)
+returns c =
+    let given = c .before .before .args in
+    base-none (given .base) (given .text .now) (c .if1 .taken)
 
 shared-slice-read-match : tie.Need-shared-slice-read-match
 shared-slice-read-match c = search needs
@@ -15,10 +17,14 @@ digits-requires : tie.Need-digits-requires
 digits-requires c κs = search needs
 
 returns-2 : tie.Need-returns-2
-returns-2 c = base-sign (c .before .before .before .before .args .base) (c .before .before .before .before .args .text .now) (c .before .before .if1 .left) (c .match .keys1)
+returns-2 c =
+    let given = c .before .before .before .before .args in
+    base-sign (given .base) (given .text .now) (c .before .before .if1 .left) (c .match .keys1)
 
 returns-3 : tie.Need-returns-3
-returns-3 c = c .digits .ensures ∙ base-digits (c .before .before .before .before .before .args .base) (c .before .before .before .before .before .args .text .now) (c .before .before .before .if1 .left) (c .before .match .rest .1)
+returns-3 c =
+    let given = c .before .before .before .before .before .args in
+    c .digits .ensures ∙ base-digits (given .base) (given .text .now) (c .before .before .before .if1 .left) (c .before .match .rest .1)
 
 pub from-str-radix-spec : {M : Type 1} → statement M
 from-str-radix-spec =

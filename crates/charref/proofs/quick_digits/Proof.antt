@@ -25,7 +25,9 @@ cast-t12 : tie.Need-cast-t12 Inv-loop μ-loop
 cast-t12 c = omega (arith, c .before .before .before .loop .inv .low)
 
 returns : tie.Need-returns Inv-loop μ-loop
-returns c = read-end (c .before .before .before .before .before .args .base) (c .before .before .before .before .before .args .text .now) (c .before .before .before .before .before .args .from) (c .before .before .before .loop .inv) (c .before .before .loop-test .taken) (omega arith) (c .if1 .taken)
+returns c =
+    let given = c .before .before .before .before .before .args in
+    read-end (given .base) (given .text .now) (given .from) (c .before .before .before .loop .inv) (c .before .before .loop-test .taken) (omega arith) (c .if1 .taken)
 
 digit-requires : tie.Need-digit-requires Inv-loop μ-loop
 digit-requires c κs = search needs
@@ -34,10 +36,14 @@ returns-2 : tie.Need-returns-2 Inv-loop μ-loop
 returns-2 c = λ n. absurd (n refl)
 
 mul-value : tie.Need-mul-value Inv-loop μ-loop
-mul-value c = omega (arith, product (c .before .before .before .before .before .before .before .args .base) (c .before .before .before .before .before .loop .value) (omega arith) (omega (arith, c .before .before .before .before .before .loop .inv .low)))
+mul-value c =
+    let kept = c .before .before .before .before .before .loop in
+    omega (arith, product (c .before .before .before .before .before .before .before .args .base) (kept .value) (omega arith) (omega (arith, kept .inv .low)))
 
 add-value : tie.Need-add-value Inv-loop μ-loop
-add-value c = omega (arith, product (c .before .before .before .before .before .before .before .args .base) (c .before .before .before .before .before .loop .value) (omega arith) (omega (arith, c .before .before .before .before .before .loop .inv .low)))
+add-value c =
+    let kept = c .before .before .before .before .before .loop in
+    omega (arith, product (c .before .before .before .before .before .before .before .args .base) (kept .value) (omega arith) (omega (arith, kept .inv .low)))
 
 returns-3 : tie.Need-returns-3 Inv-loop μ-loop
 returns-3 c = λ n. absurd (n refl)
@@ -49,7 +55,12 @@ loop-less : tie.Need-loop-less Inv-loop μ-loop
 loop-less c = search needs
 
 loop-again : tie.Need-loop-again Inv-loop μ-loop
-loop-again c = read-digit (c .before .before .before .before .before .before .before .before .args .base) (c .before .before .before .before .before .before .before .before .args .text .now) (c .before .before .before .before .before .before .before .before .args .from) (c .before .before .before .before .before .before .loop .inv) (c .before .before .before .before .before .loop-test .taken) (c .before .before .digit .result) (c .before .before .digit .ensures) (omega arith) (omega arith)
+loop-again c =
+    let turn = c .before .before .before .before .before .before in
+    let given = turn .before .before .args in
+    let digit = c .before .before .digit in
+    read-digit (given .base) (given .text .now) (given .from) (turn .loop .inv) (c .before .before .before .before .before .loop-test .taken)
+    (digit .result) (digit .ensures) (omega arith) (omega arith)
 
 returns-4 : tie.Need-returns-4 Inv-loop μ-loop
 returns-4 c = λ n. absurd (n refl)

@@ -14,13 +14,17 @@ quick-digits-requires : tie.Need-quick-digits-requires
 quick-digits-requires c κs = search needs
 
 returns : tie.Need-returns
-returns c = λ n. found-hex (c .before .before .before .before .before .args .text .now) (c .before .before .before .before .before .args .from) (c .quick-digits .result) n (c .before .if2 .taken) (c .quick-digits .ensures n)
+returns c =
+    let given = c .before .before .before .before .before .args in
+    λ n. found-hex (given .text .now) (given .from) (c .quick-digits .result) n (c .before .if2 .taken) (c .quick-digits .ensures n)
 
 quick-digits-requires-2 : tie.Need-quick-digits-requires-2
 quick-digits-requires-2 c κs = search needs
 
 returns-2 : tie.Need-returns-2
-returns-2 c = λ n. found-decimal (c .before .before .before .args .text .now) (c .before .before .before .args .from) (c .quick-digits2 .result) n (c .quick-digits2 .ensures n)
+returns-2 c =
+    let given = c .before .before .before .args in
+    λ n. found-decimal (given .text .now) (given .from) (c .quick-digits2 .result) n (c .quick-digits2 .ensures n)
 
 pub quick-number-spec : {M : Type 1} → statement M
 quick-number-spec =
