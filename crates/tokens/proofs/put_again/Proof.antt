@@ -1,3 +1,5 @@
+-- `put_again`: one byte is one store (`again-one`); else the loop keeps, of whatever value lay in the output at its start, that k bytes of it
+-- from `from` on follow it (`again-byte`).
 use Rattle.output.proofs.Clip.{length-over}
 use Rattle.tokens.proofs.Repeats.{again-byte, again-one}
 use borrow.Author.Needs.{needs}
@@ -11,7 +13,9 @@ use Rattle.tokens.proofs.put_again.Statement.{statement}
 use Rattle.tokens.proofs.put_again.Tie as tie
 
 abbrev Inv-loop : tie.InvT-loop
-Inv-loop from count at out₀ k₀ out k = (k ≤ count) × (length out ≡ length out₀) × ((value whole : List ℕ) → out₀ ≡ over value whole → length value ≡ at → out ≡ over (value ++ take k (drop from value)) whole)
+Inv-loop from count at out₀ k₀ out k =
+    (k ≤ count) × (length out ≡ length out₀)
+    × ((value whole : List ℕ) → out₀ ≡ over value whole → length value ≡ at → out ≡ over (value ++ take k (drop from value)) whole)
 
 abbrev μ-loop : tie.MeasureT-loop
 μ-loop from count at out₀ k₀ out k = count - k
@@ -23,12 +27,19 @@ slice-write-out : tie.Need-slice-write-out Inv-loop μ-loop
 slice-write-out c = omega (arith, c .before .before .pre, c .before .if1 .taken)
 
 same-length : tie.Need-same-length Inv-loop μ-loop
-same-length c = length-set (c .before .before .args .out .now) (c .before .before .args .at) (getD (c .before .before .args .out .now) (c .before .before .args .from) 0)
+same-length c =
+    let given = c .before .before .args in
+    length-set (given .out .now) (given .at) (getD (given .out .now) (given .from) 0)
 
 returns : tie.Need-returns Inv-loop μ-loop
 returns c =
-    let a = c .before .before .args in
-    (length-set (a .out .now) (a .at) (getD (a .out .now) (a .from) 0), λ value whole e n. again-one value whole (a .from) (a .at) (a .count) (c .before .if1 .taken) n (omega (arith, c .before .before .pre, c .before .if1 .taken)) (omega (arith, c .before .before .pre, ap length e, length-over value whole)) e)
+    let asked = c .before .before .pre in
+    let one = c .before .if1 .taken in
+    let a = c .before .before .args in (
+      length-set (a .out .now) (a .at) (getD (a .out .now) (a .from) 0),
+      λ value whole e n.
+          again-one value whole (a .from) (a .at) (a .count) one n (omega (arith, asked, one)) (omega (arith, asked, ap length e, length-over value whole)) e,
+    )
 
 loop-holds : tie.Need-loop-holds Inv-loop μ-loop
 loop-holds c = (zero-le, refl, λ value whole e n. e ∙ ap (λ (l : List ℕ). over l whole) (sym (append-nil value)))

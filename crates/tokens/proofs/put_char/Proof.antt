@@ -16,10 +16,15 @@ same-length : tie.Need-same-length
 same-length c = search needs
 
 returns : tie.Need-returns
-returns c = (c .before .before .encode-utf8 .ensures .0, c .before .before .encode-utf8 .ensures .1 ∙ sym (over-fits (encode (c .before .before .before .before .before .before .before .args .c)) (c .before .before .before .before .before .before .before .args .out .now) (omega (arith, c .before .before .before .before .before .utf8-length .ensures))))
+returns c =
+    let at-encode-utf8 = c .before .before .encode-utf8 in
+    let given = c .before .before .before .before .before .before .before .args in
+    (at-encode-utf8 .ensures .0, at-encode-utf8 .ensures .1 ∙ sym (over-fits (encode (given .c)) (given .out .now) (omega (arith, c .before .before .before .before .before .utf8-length .ensures))))
 
 returns-2 : tie.Need-returns-2
-returns-2 c = (c .before .before .utf8-length .ensures, over-empty (encode (c .before .before .before .before .args .c)) (c .before .before .before .before .args .out .now) (c .if2 .taken))
+returns-2 c =
+    let given = c .before .before .before .before .args in
+    (c .before .before .utf8-length .ensures, over-empty (encode (given .c)) (given .out .now) (c .if2 .taken))
 
 put-clipped-requires : tie.Need-put-clipped-requires
 put-clipped-requires c κs = search needs

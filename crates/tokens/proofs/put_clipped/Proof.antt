@@ -1,3 +1,4 @@
+-- `put_clipped` encodes to four bytes of its own, and lays as much of them over the output as there is room for.
 use Prim.Native.Nat.{ℕ}
 use mathlib.Core.Path.{sym, ap, _∙_}
 use mathlib.Core.List.{List}
@@ -21,7 +22,10 @@ array-share-prefix-bytes : tie.Need-array-share-prefix-bytes
 array-share-prefix-bytes c = omega (arith, c .before .encode-utf8 .ensures .0, c .before .encode-utf8 .kept .1 .0, encode-at-most (c .before .before .before .before .args .c))
 
 slice-aggregate-put-over : tie.Need-slice-aggregate-put-over
-slice-aggregate-put-over c = sym (length-take-le (c .before .before .encode-utf8 .result) (c .before .before .encode-utf8 .last .1 .0) (omega (arith, c .before .before .encode-utf8 .ensures .0, c .before .before .encode-utf8 .kept .1 .0, encode-at-most (c .before .before .before .before .before .args .c))))
+slice-aggregate-put-over c =
+    let made = c .before .before .encode-utf8 in
+    let fits = encode-at-most (c .before .before .before .before .before .args .c) in
+    sym (length-take-le (made .result) (made .last .1 .0) (omega (arith, made .ensures .0, made .kept .1 .0, fits)))
 
 put-over-requires : tie.Need-put-over-requires
 put-over-requires c κs = search needs
@@ -30,7 +34,12 @@ same-length : tie.Need-same-length
 same-length c = search needs
 
 returns : tie.Need-returns
-returns c = (c .before .before .before .before .before .before .encode-utf8 .ensures .0, c .before .before .put-over .ensures ∙ ap (λ (l : List ℕ). over l (c .before .before .before .before .before .before .before .before .before .args .out .now)) (ap (take (c .before .before .before .before .before .before .encode-utf8 .result)) (c .before .before .before .before .before .before .encode-utf8 .ensures .1) ∙ take-at (encode (c .before .before .before .before .before .before .before .before .before .args .c)) _ (c .before .before .before .before .before .before .encode-utf8 .result) (sym (c .before .before .before .before .before .before .encode-utf8 .ensures .0))))
+returns c =
+    let place = c .before .before .before .before .before .before in
+    let given = place .before .before .before .args in
+    let made = place .encode-utf8 in
+    let bytes = ap (take (made .result)) (made .ensures .1) ∙ take-at (encode (given .c)) _ (made .result) (sym (made .ensures .0)) in
+    (made .ensures .0, c .before .before .put-over .ensures ∙ ap (λ (l : List ℕ). over l (given .out .now)) bytes)
 
 pub put-clipped-spec : {M : Type 1} → statement M
 put-clipped-spec =

@@ -1,3 +1,5 @@
+-- `remember` enters the reference where it is short and eight bytes stand at its place: its word, shifted to its width, and its numbers go
+-- into the next of the four places, and nothing else of the memory changes; else the memory stays as it is.
 use mathlib.Core.Path.{_≡_, refl, sym, ap, _∙_}
 use mathlib.Core.Logic.{⊎-elim, _≢_}
 use mathlib.Core.Bool.{Bool, true, false, _||_}
@@ -124,7 +126,9 @@ sub-if1 : tie.Need-sub-if1
 sub-if1 c = search needs
 
 returns : tie.Need-returns
-returns c = record { size = c .before .before .before .pre .1 .0; next = c .before .before .before .pre .1 .1; entries = λ k l. stays refl }
+returns c =
+    let asked = c .before .before .before .pre in
+    record { size = asked .1 .0; next = asked .1 .1; entries = λ k l. stays refl }
 
 mul-shift : tie.Need-mul-shift
 mul-shift c =

@@ -1,3 +1,4 @@
+-- `seen_at` compares the word that is read with the four keys one by one: it leaves at the first that is the same, or with 4.
 use lib.ListN.{getD}
 use mathlib.Core.Path.{sym, ap, _∙_}
 use native.Mathlib.Omega.{arith}
@@ -45,10 +46,11 @@ shared-slice-read-if2 c = omega arith
 
 returns-2 : tie.Need-returns-2 Inv-loop μ-loop
 returns-2 c =
-    let a = c .before .before .before .before .before .before .before .before .before .before .args in
-    let l = c .before .before .before .before .before .loop in
-    let w = c .before .before .before .before .before .before .word in
-    (l .inv, λ h. record { room = omega arith; same = ap (λ (n : ℕ). movedUp (getD (a .seen .now) (l .k + 4) 0) n) (sym (w .ensures)) ∙ sym (c .before .before .moved-up .ensures) ∙ c .if2 .taken })
+    let turn = c .before .before .before .before .before in
+    let read = turn .before in
+    let seen = read .before .before .before .before .args .seen .now in
+    let word = ap (λ (n : ℕ). movedUp (getD seen (turn .loop .k + 4) 0) n) (sym (read .word .ensures)) in
+    (turn .loop .inv, λ h. record { room = omega arith; same = word ∙ sym (c .before .before .moved-up .ensures) ∙ c .if2 .taken })
 
 add-k : tie.Need-add-k Inv-loop μ-loop
 add-k c = search needs
