@@ -37,8 +37,9 @@ loop-less c = search needs
 
 loop-again : tie.Need-loop-again Inv-loop μ-loop
 loop-again c =
+    let given = c .before .before .before .args in
     let l = c .before .before .loop in
-    (omega arith, λ e. record { clear = below-more _ _ (l .inv .1 (or-left _ _ e) .clear) (no-gt (c .before .before .before .args .text .now) (c .before .before .before .args .i + l .k) (or-right (l .hit) _ e)) })
+    (omega arith, λ e. record { clear = below-more _ _ (l .inv .1 (or-left _ _ e) .clear) (no-gt (given .text .now) (given .i + l .k) (or-right (l .hit) _ e)) })
 
 returns : tie.Need-returns Inv-loop μ-loop
 returns c = λ e. record { clear = λ m h. c .before .loop .inv .1 e .clear m (omega arith) }

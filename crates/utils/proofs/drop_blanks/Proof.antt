@@ -40,7 +40,9 @@ loop-less : tie.Need-loop-less Inv-loop μ-loop
 loop-less c = search needs
 
 loop-again : tie.Need-loop-again Inv-loop μ-loop
-loop-again c = dropped-block (c .before .before .before .before .before .before .before .before .before .args .text .now) (c .before .before .before .loop .end) 32 (c .before .before .before .loop .inv) (omega arith) (c .before .any-other .ensures (c .if3 .left))
+loop-again c =
+    let kept = c .before .before .before .loop in
+    dropped-block (c .before .before .before .before .before .before .before .before .before .args .text .now) (kept .end) 32 (kept .inv) (omega arith) (c .before .any-other .ensures (c .if3 .left))
 
 returns-4 : tie.Need-returns-4 Inv-loop μ-loop
 returns-4 c = search needs

@@ -23,7 +23,8 @@ any-gt-requires c κs = search needs
 
 returns-3 : tie.Need-returns-3
 returns-3 c =
-    λ e. clear-part (c .before .before .before .before .args .text .now) (length (c .before .before .before .before .args .text .now) - 34) 32 (c .before .before .before .before .args .i) _ (c .any-gt .ensures (not-true _ e)) (omega arith) (omega arith)
+    let given = c .before .before .before .before .args in
+    λ e. clear-part (given .text .now) (length (given .text .now) - 34) 32 (given .i) _ (c .any-gt .ensures (not-true _ e)) (omega arith) (omega arith)
 
 pub ends-clear-spec : {M : Type 1} → statement M
 ends-clear-spec = tie.close (tie.spec returns sub-last returns-2 any-gt-requires returns-3)

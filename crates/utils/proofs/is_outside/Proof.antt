@@ -13,7 +13,9 @@ unfolding outside
 returns c = simp (lt-ltb _ _ (c .if1 .taken))
 
 returns-2 : tie.Need-returns-2
-returns-2 c = sym (at-end (c .before .before .args .text .now) (c .before .before .args .offset) (omega arith))
+returns-2 c =
+    let given = c .before .before .args in
+    sym (at-end (given .text .now) (given .offset) (omega arith))
 
 shared-slice-read-b : tie.Need-shared-slice-read-b
 shared-slice-read-b c = search needs

@@ -15,6 +15,13 @@ Inv-loop text from near i₀ i = Passed text from i
 abbrev μ-loop : tie.MeasureT-loop
 μ-loop text from near i₀ i = length text - i
 
+-- the entry, seen from after the blocks; the piece goes on to there
+abbrev entry : tie.After-skip-blocks2 Inv-loop μ-loop → tie.Start Inv-loop μ-loop
+entry c = c .before .before .before .before
+
+passed : (c : tie.After-skip-blocks2 Inv-loop μ-loop) → Passed (entry c .args .text .now) (entry c .args .from) (c .skip-blocks2 .result)
+passed c = passed-on _ _ _ _ (passed-on _ _ _ _ (c .before .before .skip-first .ensures) (c .before .skip-blocks .ensures)) (c .skip-blocks2 .ensures)
+
 skip-first-requires : tie.Need-skip-first-requires Inv-loop μ-loop
 skip-first-requires c κs = search needs
 
@@ -28,10 +35,13 @@ ends-clear-requires : tie.Need-ends-clear-requires Inv-loop μ-loop
 ends-clear-requires c κs = search needs
 
 returns : tie.Need-returns Inv-loop μ-loop
-returns c = end-clear (c .before .before .before .before .before .before .args .text .now) (c .before .before .before .before .before .before .args .from) (c .before .before .skip-blocks2 .result) (passed-on _ _ _ _ (passed-on _ _ _ _ (c .before .before .before .before .skip-first .ensures) (c .before .before .before .skip-blocks .ensures)) (c .before .before .skip-blocks2 .ensures)) (c .before .ends-clear .ensures (c .if1 .taken))
+returns c =
+    let skipped = c .before .before in
+    let given = entry skipped .args in
+    end-clear (given .text .now) (given .from) (skipped .skip-blocks2 .result) (passed skipped) (c .before .ends-clear .ensures (c .if1 .taken))
 
 loop-holds : tie.Need-loop-holds Inv-loop μ-loop
-loop-holds c = passed-on _ _ _ _ (passed-on _ _ _ _ (c .before .before .before .before .skip-first .ensures) (c .before .before .before .skip-blocks .ensures)) (c .before .before .skip-blocks2 .ensures)
+loop-holds c = passed (c .before .before)
 
 sub-loop : tie.Need-sub-loop Inv-loop μ-loop
 sub-loop c = search needs
@@ -43,7 +53,9 @@ add-result : tie.Need-add-result Inv-loop μ-loop
 add-result c = search needs
 
 returns-2 : tie.Need-returns-2 Inv-loop μ-loop
-returns-2 c = end-cut _ _ _ (c .before .before .before .loop .inv) (omega (arith, c .before .before .before .loop .inv .fits)) (sym (c .before .closes-at .ensures) ∙ c .if2 .taken)
+returns-2 c =
+    let kept = c .before .before .before .loop in
+    end-cut _ _ _ (kept .inv) (omega (arith, kept .inv .fits)) (sym (c .before .closes-at .ensures) ∙ c .if2 .taken)
 
 add-i : tie.Need-add-i Inv-loop μ-loop
 add-i c = search needs
@@ -52,7 +64,11 @@ loop-less : tie.Need-loop-less Inv-loop μ-loop
 loop-less c = search needs
 
 loop-again : tie.Need-loop-again Inv-loop μ-loop
-loop-again c = passed-block (c .before .before .before .before .before .before .before .before .before .before .args .text .now) (c .before .before .before .before .before .before .before .before .before .before .args .from) (c .before .before .before .loop .i) 1 (c .before .before .before .loop .inv) (omega (arith, c .before .before .before .loop .inv .fits)) (clear-one (c .before .before .before .before .before .before .before .before .before .before .args .text .now) (c .before .before .before .loop .i) (sym (c .before .closes-at .ensures) ∙ c .if2 .left))
+loop-again c =
+    let turn = c .before .before .before in
+    let given = entry (turn .before .before .before) .args in
+    passed-block (given .text .now) (given .from) (turn .loop .i) 1 (turn .loop .inv) (omega (arith, turn .loop .inv .fits))
+    (clear-one (given .text .now) (turn .loop .i) (sym (c .before .closes-at .ensures) ∙ c .if2 .left))
 
 returns-3 : tie.Need-returns-3 Inv-loop μ-loop
 returns-3 c = end-last _ _ _ (c .before .loop .inv) (omega (arith, c .before .loop .inv .fits))

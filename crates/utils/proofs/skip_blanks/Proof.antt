@@ -45,7 +45,10 @@ loop-less : tie.Need-loop-less Inv-loop μ-loop
 loop-less c = search needs
 
 loop-again : tie.Need-loop-again Inv-loop μ-loop
-loop-again c = skipped-block (c .before .before .before .before .before .before .before .before .before .args .text .now) (c .before .before .before .loop .i) 32 (c .before .before .before .loop .inv) (omega (arith, c .before .before .before .loop .inv .fits)) (c .before .any-other .ensures (c .if3 .left))
+loop-again c =
+    let turn = c .before .before .before in
+    let text = turn .before .before .before .before .before .before .args .text .now in
+    skipped-block text (turn .loop .i) 32 (turn .loop .inv) (omega (arith, turn .loop .inv .fits)) (c .before .any-other .ensures (c .if3 .left))
 
 returns-4 : tie.Need-returns-4 Inv-loop μ-loop
 returns-4 c = search needs

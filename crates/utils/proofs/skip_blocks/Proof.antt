@@ -41,8 +41,9 @@ loop-less c = search needs
 
 loop-again : tie.Need-loop-again Inv-loop μ-loop
 loop-again c =
+    let given = c .before .before .before .before .before .args in
     let l = c .before .before .before .loop in
-    passed-block (c .before .before .before .before .before .args .text .now) (c .before .before .before .before .before .args .from) (l .i) (c .before .before .before .before .before .args .size) (l .inv) (omega (arith, l .inv .fits))
+    passed-block (given .text .now) (given .from) (l .i) (given .size) (l .inv) (omega (arith, l .inv .fits))
     (⊎-elim (λ w. w .1 .ensures (w .2 .left)) (λ w. c .before .any-gt .ensures (w .left)) (c .if1 .came))
 
 returns-2 : tie.Need-returns-2 Inv-loop μ-loop

@@ -21,7 +21,11 @@ add-result : tie.Need-add-result
 add-result c = search needs
 
 returns-3 : tie.Need-returns-3
-returns-3 c = passed-block (c .before .before .before .before .args .text .now) (c .before .before .before .before .args .from) (c .before .before .before .before .args .from) 126 (record { fits = omega (arith, c .before .before .before .before .pre); on = refl }) (omega (arith, c .before .before .if1 .left)) (c .before .any-gt .ensures (c .if2 .left))
+returns-3 c =
+    let start = c .before .before .before .before in
+    let from = start .args .from in
+    passed-block (start .args .text .now) from from 126 (record { fits = start .pre; on = refl }) (omega (arith, c .before .before .if1 .left))
+    (c .before .any-gt .ensures (c .if2 .left))
 
 pub skip-first-spec : {M : Type 1} → statement M
 skip-first-spec =

@@ -20,7 +20,9 @@ trim-xml-end-requires : tie.Need-trim-xml-end-requires
 trim-xml-end-requires c κs = search needs
 
 returns : tie.Need-returns
-returns c = spaces-at (c .before .before .before .before .args .text .now) (c .before .before .trim-xml-start .result) (c .trim-xml-end .result) (c .before .before .trim-xml-start .ensures) (c .trim-xml-end .ensures)
+returns c =
+    let at-trim-xml-start = c .before .before .trim-xml-start in
+    spaces-at (c .before .before .before .before .args .text .now) (at-trim-xml-start .result) (c .trim-xml-end .result) (at-trim-xml-start .ensures) (c .trim-xml-end .ensures)
 
 pub trim-xml-spaces-spec : {M : Type 1} → statement M
 trim-xml-spaces-spec =
