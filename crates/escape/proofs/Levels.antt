@@ -26,12 +26,12 @@ reference-other b lt gt amp apos quot cr lf tab =
     rw (ne-eqb b 60 lt, ne-eqb b 62 gt, ne-eqb b 38 amp, ne-eqb b 39 apos, ne-eqb b 34 quot, ne-eqb b 13 cr, ne-eqb b 10 lf, ne-eqb b 9 tab)
 
 -- a writer of these bytes is a writer of the reference that they are
-pub reference-room : (b : ℕ) (bytes out : List ℕ) → reference b ≡ bytes → length (reference b) ≤ length out → length bytes ≤ length out
-reference-room b bytes out e h = rw e at h
+pub reference-room : {some bytes : List ℕ} {room : ℕ} → some ≡ bytes → length some ≤ room → length bytes ≤ room
+reference-room e h = rw e at h
 
-pub reference-put : (b : ℕ) (bytes out : List ℕ) {count : ℕ} {new : List ℕ} → reference b ≡ bytes
-    → (count ≡ length bytes) × (new ≡ laid bytes out) → (count ≡ length (reference b)) × (new ≡ laid (reference b) out)
-reference-put b bytes out e p = rw e p
+pub reference-put : {some bytes : List ℕ} {count : ℕ} {new : List ℕ} (out : List ℕ) → some ≡ bytes
+    → (count ≡ length bytes) × (new ≡ laid bytes out) → (count ≡ length some) × (new ≡ laid some out)
+reference-put out e p = rw e p
 
 -- the flags of a level name the bytes that it replaces
 pub chars-level : (level : Level) → charsSet (levelChars level) ≡ levelSet level

@@ -30,7 +30,9 @@ added-requires : tie.Need-added-requires Inv-loop μ-loop
 added-requires c κs = search needs
 
 add-n : tie.Need-add-n Inv-loop μ-loop
-add-n c = omega (arith, c .added .ensures, added-most (c .before .before .before .before .before .args .chars) (getD (c .before .before .before .before .before .args .text .now) (c .before .before .before .before .before .args .i + c .before .before .before .loop .k) 0))
+add-n c =
+    let given = c .before .before .before .before .before .args in
+    omega (arith, c .added .ensures, added-most (given .chars) (getD (given .text .now) (given .i + c .before .before .before .loop .k) 0))
 
 add-k : tie.Need-add-k Inv-loop μ-loop
 add-k c = search needs
@@ -41,8 +43,11 @@ loop-less c = search needs
 loop-again : tie.Need-loop-again Inv-loop μ-loop
 loop-again c =
     let a = c .before .before .before .before .before .args in
-    let l = c .before .before .before .loop in
-    (search needs, count-next (a .chars) (a .text .now) (a .i) (l .k) (l .n) (c .added .result) (omega arith) (l .inv .1) (c .added .ensures), omega (arith, c .added .ensures, added-most (a .chars) (getD (a .text .now) (a .i + l .k) 0)))
+    let l = c .before .before .before .loop in (
+      omega arith,
+      count-next (a .chars) (a .text .now) (a .i) (l .k) (l .n) (c .added .result) (omega arith) (l .inv .1) (c .added .ensures),
+      omega (arith, c .added .ensures, added-most (a .chars) (getD (a .text .now) (a .i + l .k) 0)),
+    )
 
 returns : tie.Need-returns Inv-loop μ-loop
 returns c = let l = c .before .loop in let q : l .k ≡ c .before .before .before .args .count = omega arith in rw q at (l .inv .1)

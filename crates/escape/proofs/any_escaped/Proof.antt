@@ -38,8 +38,9 @@ loop-less c = search needs
 
 loop-again : tie.Need-loop-again Inv-loop μ-loop
 loop-again c =
+    let kept = c .before .before .before .loop in
     let a = c .before .before .before .before .before .args in
-    (search needs, λ e. below-more (λ (m : ℕ). escapedBy (a .chars) (getD (a .text .now) (a .i + m) 0) ≡ false) _ (c .before .before .before .loop .inv .1 (or-left _ _ e)) (sym (c .escapes .ensures) ∙ or-right (c .before .before .before .loop .hit) _ e))
+    (search needs, λ e. below-more (λ (m : ℕ). escapedBy (a .chars) (getD (a .text .now) (a .i + m) 0) ≡ false) _ (kept .inv .1 (or-left _ _ e)) (sym (c .escapes .ensures) ∙ or-right (kept .hit) _ e))
 
 returns : tie.Need-returns Inv-loop μ-loop
 returns c = λ e. plain-of _ _ _ 16 (c .before .before .before .pre) (λ m h. c .before .loop .inv .1 e m (omega arith))

@@ -25,27 +25,36 @@ escaped-length-requires c κs = search needs
 
 returns : tie.Need-returns
 returns c =
-    let text = c .before .before .before .before .before .before .args .text .now in
-    let same = ap charsSet (c .before .before .before .escape-chars .ensures) ∙ chars-level (levelOf (c .before .before .before .before .before .before .args .level)) in
-    finish-short (write (levelSet (levelOf (c .before .before .before .before .before .before .args .level))) text) 0 (c .before .before .before .before .before .before .args .out .now)
+    let given = c .before .before .before .before .before .before .args in
+    let text = given .text .now in
+    let same = ap charsSet (c .before .before .before .escape-chars .ensures) ∙ chars-level (levelOf (given .level)) in
+    finish-short (write (levelSet (levelOf (given .level))) text) 0 (given .out .now)
     (c .before .escaped-length .ensures ∙ ap (λ (s : Replacements). length (write s text)) same) (c .if2 .taken)
 
 write-escaped-requires : tie.Need-write-escaped-requires
 write-escaped-requires c κs =
-    ⊎-elim (λ w. omega (arith, w .1 .ensures, w .2)) (λ w. omega (arith, w .left, write-most (charsSet (c .before .before .escape-chars .result)) (chars-sized (c .before .before .escape-chars .result)) (c .before .before .before .before .before .args .text .now))) (c .before .if1 .came)
+    let chars = c .before .before .escape-chars .result in
+    let most = write-most (charsSet chars) (chars-sized chars) (c .before .before .before .before .before .args .text .now) in
+    ⊎-elim (λ w. omega (arith, w .1 .ensures, w .2)) (λ w. omega (arith, w .left, most)) (c .before .if1 .came)
 
 same-length : tie.Need-same-length
 same-length c = search needs
 
 returns-2 : tie.Need-returns-2
 returns-2 c =
-    let text = c .before .before .before .before .before .before .before .before .args .text .now in
-    let out = c .before .before .before .before .before .before .before .before .args .out .now in
-    let same = ap charsSet (c .before .before .before .before .before .escape-chars .ensures) ∙ chars-level (levelOf (c .before .before .before .before .before .before .before .before .args .level)) in
-    let room : length (write (charsSet (c .before .before .before .before .before .escape-chars .result)) text) ≤ length out = ⊎-elim (λ w. omega (arith, w .1 .ensures, w .2)) (λ w. omega (arith, w .left, write-most (charsSet (c .before .before .before .before .before .escape-chars .result)) (chars-sized (c .before .before .before .before .before .escape-chars .result)) text)) (c .before .before .before .before .if1 .came) in
-    finish-laid (write (levelSet (levelOf (c .before .before .before .before .before .before .before .before .args .level))) text) 0 out
-    (c .before .before .write-escaped .ensures .0 ∙ ap (λ (s : Replacements). length (write s text)) same) (omega (arith, room, c .before .before .write-escaped .ensures .0))
-    (c .before .before .write-escaped .ensures .1 ∙ ap (λ (s : Replacements). laid (write s text) out) same)
+    let made = c .before .before .before .before .before in
+    let given = made .before .before .before .args in
+    let text = given .text .now in
+    let out = given .out .now in
+    let chars = made .escape-chars .result in
+    let wrote = c .before .before .write-escaped .ensures in
+    let same = ap charsSet (made .escape-chars .ensures) ∙ chars-level (levelOf (given .level)) in
+    let most = write-most (charsSet chars) (chars-sized chars) text in
+    let room : length (write (charsSet chars) text) ≤ length out =
+    ⊎-elim (λ w. omega (arith, w .1 .ensures, w .2)) (λ w. omega (arith, w .left, most)) (c .before .before .before .before .if1 .came) in
+    finish-laid (write (levelSet (levelOf (given .level))) text) 0 out
+    (wrote .0 ∙ ap (λ (s : Replacements). length (write s text)) same) (omega (arith, room, wrote .0))
+    (wrote .1 ∙ ap (λ (s : Replacements). laid (write s text) out) same)
 
 pub escape-spec : {M : Type 1} → statement M
 escape-spec =

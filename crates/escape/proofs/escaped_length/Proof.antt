@@ -41,8 +41,9 @@ loop-less c = search needs
 
 loop-again : tie.Need-loop-again Inv-loop μ-loop
 loop-again c =
+    let given = c .before .before .before .before .args in
     let l = c .before .before .loop in
-    (search needs, count-part (charsSet (c .before .before .before .before .args .chars)) (c .before .before .before .before .args .text .now) (l .i) (l .n) 32 (c .added-part .result) (l .inv .1) (c .added-part .ensures), omega arith)
+    (search needs, count-part (charsSet (given .chars)) (given .text .now) (l .i) (l .n) 32 (c .added-part .result) (l .inv .1) (c .added-part .ensures), omega arith)
 
 sub-rest : tie.Need-sub-rest Inv-loop μ-loop
 sub-rest c = search needs
@@ -52,22 +53,25 @@ added-rest-requires c κs = search needs
 
 add-result : tie.Need-add-result Inv-loop μ-loop
 add-result c =
+    let given = c .before .before .before .before .args in
     let l = c .before .before .loop in
-    let set = charsSet (c .before .before .before .before .args .chars) in
-    let total = count-rest set (c .before .before .before .before .args .text .now) (l .i) (l .n) (c .added-rest .result) (l .inv .0) (l .inv .1) (c .added-rest .ensures) in
-    omega (arith, total, write-most set (chars-sized (c .before .before .before .before .args .chars)) (c .before .before .before .before .args .text .now), c .before .before .before .before .pre)
+    let set = charsSet (given .chars) in
+    let total = count-rest set (given .text .now) (l .i) (l .n) (c .added-rest .result) (l .inv .0) (l .inv .1) (c .added-rest .ensures) in
+    omega (arith, total, write-most set (chars-sized (given .chars)) (given .text .now), c .before .before .before .before .pre)
 
 add-result-2 : tie.Need-add-result-2 Inv-loop μ-loop
 add-result-2 c =
+    let given = c .before .before .before .before .args in
     let l = c .before .before .loop in
-    let set = charsSet (c .before .before .before .before .args .chars) in
-    let total = count-rest set (c .before .before .before .before .args .text .now) (l .i) (l .n) (c .added-rest .result) (l .inv .0) (l .inv .1) (c .added-rest .ensures) in
-    omega (arith, total, write-most set (chars-sized (c .before .before .before .before .args .chars)) (c .before .before .before .before .args .text .now), c .before .before .before .before .pre)
+    let set = charsSet (given .chars) in
+    let total = count-rest set (given .text .now) (l .i) (l .n) (c .added-rest .result) (l .inv .0) (l .inv .1) (c .added-rest .ensures) in
+    omega (arith, total, write-most set (chars-sized (given .chars)) (given .text .now), c .before .before .before .before .pre)
 
 returns : tie.Need-returns Inv-loop μ-loop
 returns c =
+    let given = c .before .before .before .before .args in
     let l = c .before .before .loop in
-    count-rest (charsSet (c .before .before .before .before .args .chars)) (c .before .before .before .before .args .text .now) (l .i) (l .n) (c .added-rest .result) (l .inv .0) (l .inv .1) (c .added-rest .ensures)
+    count-rest (charsSet (given .chars)) (given .text .now) (l .i) (l .n) (c .added-rest .result) (l .inv .0) (l .inv .1) (c .added-rest .ensures)
 
 pub escaped-length-spec : {M : Type 1} → statement M
 escaped-length-spec =

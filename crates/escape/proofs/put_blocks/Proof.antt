@@ -3,7 +3,7 @@ use mathlib.Core.Path.{_≡_, _∙_}
 use Prim.Native.Nat.{_+_, _-_}
 use native.Mathlib.Omega.{arith}
 use lib.ListN.{length}
-use Rattle.output.specs.Runs.{Copied, Room}
+use Rattle.output.specs.Runs.{Plain, Copied, Room}
 use Rattle.output.proofs.Runs.{copied-none, copied-length, copied-more, run-room, part-length, part-room}
 use Rattle.escape.specs.Scan.{escapedBy}
 use borrow.Author.Needs.{needs}
@@ -16,6 +16,17 @@ Inv-loop text chars out₀ i₀ out i = Copied (escapedBy chars) text out₀ out
 abbrev μ-loop : tie.MeasureT-loop
 μ-loop text chars out₀ i₀ out i = length text - i
 
+-- places: the turn and the entry, seen from after the test of a block that has no byte to escape
+abbrev turn : tie.Else1 Inv-loop μ-loop → tie.At-loop Inv-loop μ-loop
+turn c = c .before .before .before
+
+abbrev entry : tie.Else1 Inv-loop μ-loop → tie.Start Inv-loop μ-loop
+entry c = turn c .before .before .before
+
+plain : (c : tie.Else1 Inv-loop μ-loop)
+    → Plain (escapedBy (entry c .args .chars)) (entry c .args .text .now) (turn c .loop .i) (turn c .loop .i + 16)
+plain c = c .before .any-escaped .ensures (c .if1 .left)
+
 loop-holds : tie.Need-loop-holds Inv-loop μ-loop
 loop-holds c = (copied-none _ _ _, c .before .before .pre)
 
@@ -26,13 +37,15 @@ any-escaped-requires : tie.Need-any-escaped-requires Inv-loop μ-loop
 any-escaped-requires c κs = omega (arith, c .before .loop .inv .0 .run .to)
 
 same-length : tie.Need-same-length Inv-loop μ-loop
-same-length c = copied-length _ _ _ (c .before .before .before .loop .inv .0) (c .before .before .before .loop .inv .1)
+same-length c =
+    let kept = c .before .before .before .loop in
+    copied-length _ _ _ (kept .inv .0) (kept .inv .1)
 
 returns : tie.Need-returns Inv-loop μ-loop
 returns c = c .before .before .before .loop .inv .0
 
 add-put-block : tie.Need-add-put-block Inv-loop μ-loop
-add-put-block c = omega (arith, c .before .any-escaped .ensures (c .if1 .left) .to)
+add-put-block c = omega (arith, plain c .to)
 
 sub-put-block : tie.Need-sub-put-block Inv-loop μ-loop
 sub-put-block c = omega arith
@@ -41,31 +54,35 @@ part-put-block-start : tie.Need-part-put-block-start Inv-loop μ-loop
 part-put-block-start c = omega arith
 
 part-put-block-end : tie.Need-part-put-block-end Inv-loop μ-loop
-part-put-block-end c = c .before .any-escaped .ensures (c .if1 .left) .to
+part-put-block-end c = plain c .to
 
 sub-put-block-2 : tie.Need-sub-put-block-2 Inv-loop μ-loop
-sub-put-block-2 c = omega (arith, run-room _ _ _ (c .before .before .before .before .loop .inv .0) (c .before .before .before .before .loop .inv .1) (c .before .before .any-escaped .ensures (c .before .if1 .left)))
+sub-put-block-2 c = let kept = turn (c .before) .loop .inv in omega (arith, run-room _ _ _ (kept .0) (kept .1) (plain (c .before)))
 
 part-put-block-start-2 : tie.Need-part-put-block-start-2 Inv-loop μ-loop
-part-put-block-start-2 c = omega (arith, run-room _ _ _ (c .before .before .before .before .loop .inv .0) (c .before .before .before .before .loop .inv .1) (c .before .before .any-escaped .ensures (c .before .if1 .left)))
+part-put-block-start-2 c = let kept = turn (c .before) .loop .inv in omega (arith, run-room _ _ _ (kept .0) (kept .1) (plain (c .before)))
 
 part-put-block-end-2 : tie.Need-part-put-block-end-2 Inv-loop μ-loop
 part-put-block-end-2 c = search needs
 
 put-block-requires : tie.Need-put-block-requires Inv-loop μ-loop
 put-block-requires c κs =
-    let p = c .before .before .before .any-escaped .ensures (c .before .before .if1 .left) in
-    let q : c .before .before .before .before .before .loop .i + 16 - c .before .before .before .before .before .loop .i ≡ 16 = omega arith in
-    (part-length _ _ _ (c .before .before .before .before .before .loop .inv .0) (c .before .before .before .before .before .loop .inv .1) p ∙ q, rw q at (part-room _ _ _ (c .before .before .before .before .before .loop .inv .0) (c .before .before .before .before .before .loop .inv .1) p))
+    let block = c .before .before in
+    let kept = turn block .loop in
+    let q : kept .i + 16 - kept .i ≡ 16 = omega arith in
+    (part-length _ _ _ (kept .inv .0) (kept .inv .1) (plain block) ∙ q, rw q at (part-room _ _ _ (kept .inv .0) (kept .inv .1) (plain block)))
 
 add-i : tie.Need-add-i Inv-loop μ-loop
-add-i c = omega (arith, c .before .before .before .before .before .before .any-escaped .ensures (c .before .before .before .before .before .if1 .left) .to)
+add-i c = omega (arith, plain (c .before .before .before .before .before) .to)
 
 loop-less : tie.Need-loop-less Inv-loop μ-loop
-loop-less c = omega (arith, c .before .before .before .before .before .before .any-escaped .ensures (c .before .before .before .before .before .if1 .left) .to)
+loop-less c = omega (arith, plain (c .before .before .before .before .before) .to)
 
 loop-again : tie.Need-loop-again Inv-loop μ-loop
-loop-again c = (copied-more _ _ _ (c .before .before .before .before .before .before .before .before .loop .inv .0) (c .before .before .before .before .before .before .before .before .loop .inv .1) (c .before .before .before .before .before .before .any-escaped .ensures (c .before .before .before .before .before .if1 .left)) (c .before .before .put-block .ensures), c .before .before .before .before .before .before .before .before .loop .inv .1)
+loop-again c =
+    let block = c .before .before .before .before .before in
+    let kept = turn block .loop .inv in
+    (copied-more _ _ _ (kept .0) (kept .1) (plain block) (c .before .before .put-block .ensures), kept .1)
 
 same-length-2 : tie.Need-same-length-2 Inv-loop μ-loop
 same-length-2 c = copied-length _ _ _ (c .before .loop .inv .0) (c .before .loop .inv .1)

@@ -26,13 +26,17 @@ is-escaped-requires : tie.Need-is-escaped-requires Inv-loop μ-loop
 is-escaped-requires c κs = search needs
 
 same-length : tie.Need-same-length Inv-loop μ-loop
-same-length c = copied-length _ _ _ (c .before .before .before .before .loop .inv .0) (c .before .before .before .before .loop .inv .1)
+same-length c =
+    let kept = c .before .before .before .before .loop in
+    copied-length _ _ _ (kept .inv .0) (kept .inv .1)
 
 returns : tie.Need-returns Inv-loop μ-loop
 returns c = (c .before .before .before .before .loop .inv .0, λ h. sym (c .before .is-escaped .ensures) ∙ c .if1 .taken)
 
 slice-write-out : tie.Need-slice-write-out Inv-loop μ-loop
-slice-write-out c = byte-fits _ _ _ (c .before .before .before .before .loop .inv .0) (c .before .before .before .before .loop .inv .1) (c .before .before .before .loop-test .taken) (sym (c .before .is-escaped .ensures) ∙ c .if1 .left)
+slice-write-out c =
+    let kept = c .before .before .before .before .loop in
+    byte-fits _ _ _ (kept .inv .0) (kept .inv .1) (c .before .before .before .loop-test .taken) (sym (c .before .is-escaped .ensures) ∙ c .if1 .left)
 
 add-i : tie.Need-add-i Inv-loop μ-loop
 add-i c = search needs
@@ -41,7 +45,9 @@ loop-less : tie.Need-loop-less Inv-loop μ-loop
 loop-less c = search needs
 
 loop-again : tie.Need-loop-again Inv-loop μ-loop
-loop-again c = (copied-byte _ _ _ (c .before .before .before .before .loop .inv .0) (c .before .before .before .before .loop .inv .1) (c .before .before .before .loop-test .taken) (sym (c .before .is-escaped .ensures) ∙ c .if1 .left), c .before .before .before .before .loop .inv .1)
+loop-again c =
+    let kept = c .before .before .before .before .loop in
+    (copied-byte _ _ _ (kept .inv .0) (kept .inv .1) (c .before .before .before .loop-test .taken) (sym (c .before .is-escaped .ensures) ∙ c .if1 .left), kept .inv .1)
 
 same-length-2 : tie.Need-same-length-2 Inv-loop μ-loop
 same-length-2 c = copied-length _ _ _ (c .before .loop .inv .0) (c .before .loop .inv .1)

@@ -18,16 +18,16 @@ part-put-bytes-end : tie.Need-part-put-bytes-end
 part-put-bytes-end c = search needs
 
 sub-put-bytes-2 : tie.Need-sub-put-bytes-2
-sub-put-bytes-2 c = copied-inside _ _ _ (c .before .before .before .put-blocks .ensures) (c .before .before .before .before .before .before .before .pre)
+sub-put-bytes-2 c = let blocks = c .before .before .before in copied-inside _ _ _ (blocks .put-blocks .ensures) (blocks .before .before .before .before .pre)
 
 part-put-bytes-start-2 : tie.Need-part-put-bytes-start-2
-part-put-bytes-start-2 c = copied-inside _ _ _ (c .before .before .before .put-blocks .ensures) (c .before .before .before .before .before .before .before .pre)
+part-put-bytes-start-2 c = let blocks = c .before .before .before in copied-inside _ _ _ (blocks .put-blocks .ensures) (blocks .before .before .before .before .pre)
 
 part-put-bytes-end-2 : tie.Need-part-put-bytes-end-2
 part-put-bytes-end-2 c = search needs
 
 put-bytes-requires : tie.Need-put-bytes-requires
-put-bytes-requires c κs = rest-room _ _ _ (c .before .before .before .before .put-blocks .ensures) (c .before .before .before .before .before .before .before .before .pre)
+put-bytes-requires c κs = let blocks = c .before .before .before .before in rest-room _ _ _ (blocks .put-blocks .ensures) (blocks .before .before .before .before .pre)
 
 add-result : tie.Need-add-result
 add-result c = search needs
@@ -36,7 +36,14 @@ same-length : tie.Need-same-length
 same-length c = search needs
 
 returns : tie.Need-returns
-returns c = (copied-rest _ _ _ (c .before .before .before .before .before .before .before .put-blocks .ensures) (c .before .before .before .before .before .before .before .before .before .before .before .pre) (c .before .before .put-bytes .ensures .0), ends-shift (escapedBy (c .before .before .before .before .before .before .before .before .before .before .before .args .chars)) (c .before .before .before .before .before .before .before .before .before .before .before .args .text .now) (c .before .before .before .before .before .before .before .put-blocks .result) (c .before .before .put-bytes .result) (c .before .before .before .before .before .before .before .put-blocks .ensures .run .to) (c .before .before .put-bytes .ensures .1))
+returns c =
+    let blocks = c .before .before .before .before .before .before .before in
+    let start = blocks .before .before .before .before in
+    let near = blocks .put-blocks in
+    let rest = c .before .before .put-bytes in (
+      copied-rest _ _ _ (near .ensures) (start .pre) (rest .ensures .0),
+      ends-shift (escapedBy (start .args .chars)) (start .args .text .now) (near .result) (rest .result) (near .ensures .run .to) (rest .ensures .1),
+    )
 
 pub put-plain-spec : {M : Type 1} → statement M
 put-plain-spec =
