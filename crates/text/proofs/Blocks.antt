@@ -64,6 +64,17 @@ ascii-end t i n p f h a =
     (grown t i (length t - i) p
     (ascii-whole t i (length t - i) 0x7F (at-most-part t (length t - n) n i (length t - i) 0x7F a h (omega arith)) (omega arith) (omega arith)))
 
+-- ---- the three tests of a byte, at the k-th of a block whose first stands at `j + 3`
+
+abbrev pub misfitAt : List ℕ → ℕ → ℕ → Bool
+misfitAt t j k = misfit (getD t (j + k) 0) (getD t (j + k + 1) 0) (getD t (j + k + 2) 0) (getD t (j + k + 3) 0)
+
+abbrev pub misfit3At : List ℕ → ℕ → ℕ → Bool
+misfit3At t j k = misfit3 (getD t (j + k + 1) 0) (getD t (j + k + 2) 0) (getD t (j + k + 3) 0)
+
+abbrev pub misfit2At : List ℕ → ℕ → ℕ → Bool
+misfit2At t j k = misfit2 (getD t (j + k + 2) 0) (getD t (j + k + 3) 0)
+
 -- ---- an ASCII start
 
 pub ascii-none : (t : List ℕ) → Ascii t 0

@@ -1,4 +1,5 @@
 pub mod Bytes
+pub mod Missed
 pub mod Utf8
 pub mod Longest
 pub mod FirstByte

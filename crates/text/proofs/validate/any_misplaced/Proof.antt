@@ -1,23 +1,19 @@
--- `any_misplaced` keeps: while nothing is hit, the k bytes tested so far fit; each turn adds one (`below-more`).
-use mathlib.Core.Path.{_≡_, sym, _∙_}
-use mathlib.Core.Bool.{false}
-use Prim.Native.Nat.{_-_, _≤_}
-use native.Mathlib.Omega.{arith}
-use borrow.Author.Count.{below-none, below-more}
-use Rattle.text.specs.Blocks.{Fitting}
-use Rattle.text.proofs.Bytes.{or-left, or-right}
+-- `any_misplaced` tests 32 bytes with no branch (`Missed`): where nothing hit, each of them fits.
+use Prim.Native.Nat.{_-_}
+use Rattle.text.proofs.Blocks.{misfitAt}
+use Rattle.text.proofs.Missed.{Missed, missed-start, missed-more, missed-all}
 use borrow.Author.Needs.{needs}
 use Rattle.text.proofs.validate.any_misplaced.Statement.{statement}
 use Rattle.text.proofs.validate.any_misplaced.Tie as tie
 
 abbrev Inv-loop : tie.InvT-loop
-Inv-loop text j hit₀ k₀ hit k = (k ≤ 32) × (hit ≡ false → Fitting text j k)
+Inv-loop text j hit₀ k₀ hit k = Missed (misfitAt text j) 32 hit k
 
 abbrev μ-loop : tie.MeasureT-loop
 μ-loop text j hit₀ k₀ hit k = 32 - k
 
 loop-holds : tie.Need-loop-holds Inv-loop μ-loop
-loop-holds c = (search needs, λ e. record { fit = below-none _ })
+loop-holds c = missed-start _ 32
 
 add-misplaced : tie.Need-add-misplaced Inv-loop μ-loop
 add-misplaced c = search needs
@@ -63,11 +59,11 @@ loop-less c = search needs
 
 loop-again : tie.Need-loop-again Inv-loop μ-loop
 loop-again c =
-    let kept = c .before .before .before .before .before .before .loop in
-    (search needs, λ e. record { fit = below-more _ _ (kept .inv .1 (or-left _ _ e) .fit) (sym (c .misplaced .ensures) ∙ or-right (kept .hit) _ e) })
+    let turn = c .before .before .before .before .before in
+    missed-more _ (turn .before .loop .inv) (turn .loop-test .taken) (c .misplaced .ensures)
 
 returns : tie.Need-returns Inv-loop μ-loop
-returns c = λ e. record { fit = λ m h. c .before .loop .inv .1 e .fit m (omega arith) }
+returns c = λ e. record { fit = missed-all _ (c .before .loop .inv) (c .loop-test .left) e }
 
 pub any-misplaced-spec : {M : Type 1} → statement M
 any-misplaced-spec =

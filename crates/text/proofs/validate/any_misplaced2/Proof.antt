@@ -1,25 +1,21 @@
--- `any_misplaced2` keeps: while nothing is hit, the k bytes tested so far fit; each turn adds one, whose short test tells as much as
--- the whole one (`fits2-at`), since no byte before it is 0xe0 or more.
-use Rattle.text.proofs.Blocks.{fits2-at}
-use mathlib.Core.Path.{_≡_, sym, _∙_}
-use mathlib.Core.Bool.{false}
-use Prim.Native.Nat.{_-_, _≤_}
+-- `any_misplaced2` tests 32 bytes with no branch (`Missed`): where nothing hit, the short test tells of each byte as much as the whole
+-- one (`fits2-at`), since no byte before it is 0xe0 or more.
+use Rattle.text.proofs.Blocks.{misfit2At, fits2-at}
+use Prim.Native.Nat.{_-_}
 use native.Mathlib.Omega.{arith}
-use borrow.Author.Count.{below-none, below-more}
-use Rattle.text.specs.Blocks.{Fitting}
-use Rattle.text.proofs.Bytes.{or-left, or-right}
+use Rattle.text.proofs.Missed.{Missed, missed-start, missed-more, missed-all}
 use borrow.Author.Needs.{needs}
 use Rattle.text.proofs.validate.any_misplaced2.Statement.{statement}
 use Rattle.text.proofs.validate.any_misplaced2.Tie as tie
 
 abbrev Inv-loop : tie.InvT-loop
-Inv-loop text j hit₀ k₀ hit k = (k ≤ 32) × (hit ≡ false → Fitting text j k)
+Inv-loop text j hit₀ k₀ hit k = Missed (misfit2At text j) 32 hit k
 
 abbrev μ-loop : tie.MeasureT-loop
 μ-loop text j hit₀ k₀ hit k = 32 - k
 
 loop-holds : tie.Need-loop-holds Inv-loop μ-loop
-loop-holds c = (search needs, λ e. record { fit = below-none _ })
+loop-holds c = missed-start _ 32
 
 add-misplaced2 : tie.Need-add-misplaced2 Inv-loop μ-loop
 add-misplaced2 c = search needs
@@ -50,14 +46,16 @@ loop-less c = search needs
 
 loop-again : tie.Need-loop-again Inv-loop μ-loop
 loop-again c =
-    let kept = c .before .before .before .before .loop in
-    let given = c .before .before .before .before .before .before .args in
-    let asked = c .before .before .before .before .before .before .pre in
-    let fits = fits2-at (given .text .now) (given .j) 0xDF (asked .1 .0) (asked .1 .1) (omega arith) (kept .k) (omega arith) in
-    (omega arith, λ e. record { fit = below-more _ _ (kept .inv .1 (or-left _ _ e) .fit) (fits (sym (c .misplaced2 .ensures) ∙ or-right (kept .hit) _ e)) })
+    let turn = c .before .before .before in
+    missed-more _ (turn .before .loop .inv) (turn .loop-test .taken) (c .misplaced2 .ensures)
 
 returns : tie.Need-returns Inv-loop μ-loop
-returns c = λ e. record { fit = λ m h. c .before .loop .inv .1 e .fit m (omega arith) }
+returns c =
+    λ e.
+    let start = c .before .before .before in
+    let missed = missed-all _ (c .before .loop .inv) (c .loop-test .left) e in
+    let edge = start .pre .1 in
+    record { fit = λ m h. fits2-at (start .args .text .now) (start .args .j) 0xDF (edge .0) (edge .1) (omega arith) m h (missed m h) }
 
 pub any-misplaced2-spec : {M : Type 1} → statement M
 any-misplaced2-spec =
