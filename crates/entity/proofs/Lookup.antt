@@ -1,5 +1,5 @@
 -- A lookup in a valid table: what is known at the command that it stands at. Assumes nothing.
-use mathlib.Core.Path.{_≡_, refl, ap, sym, _∙_}
+use mathlib.Core.Path.{_≡_, refl, ap, ap₂, sym, _∙_}
 use mathlib.Core.Bool.{Bool, true, false}
 use mathlib.Core.List.{List, []}
 use Prim.Native.Nat.{ℕ, _+_, _-_, _≤_, _<_, zero-le}
@@ -73,6 +73,10 @@ module _ (pool : List ℕ) (start : ℕ) (name : List ℕ) where
         at-byte e k l =
             let q : start + (i + k) ≡ start + i + k = omega arith in
             rw q at (sym (part-at pool start n (i + k) l) ∙ ap (λ (l : List ℕ). getD l (i + k) 0) e)
+
+-- the same bytes by other numbers for start and length
+pub same-part : (pool name : List ℕ) {start n s m : ℕ} {x : Bool} → start ≡ s → n ≡ m → sameBytes (part pool start n) name ≡ x → sameBytes (part pool s m) name ≡ x
+same-part pool name p q e = sym (ap₂ (λ (a b : ℕ). sameBytes (part pool a b) name) p q) ∙ e
 
 -- ---- commands
 

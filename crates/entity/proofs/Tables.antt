@@ -1,12 +1,12 @@
 -- What a valid table binds names to, and how a caller learns that a table is valid. Assumes nothing.
 use mathlib.Core.Path.{_≡_, refl, sym, _∙_}
-use mathlib.Core.Bool.{true, false, _||_, not}
+use mathlib.Core.Bool.{Bool, true, false, _||_, not}
 use mathlib.Core.List.{List, [], _∷_}
 use Prim.Native.Nat.{ℕ, zero, suc, _≤_, _<_}
 use native.Mathlib.Omega.{arith}
 use lib.Dec.{eqb, ltb, lit≤, lit<}
 use lib.ListN.{length, getD, length-take}
-use borrow.Author.Tests.{eqb-true, not-false, le-leb}
+use borrow.Author.Tests.{eqb-true, ltb-true, ltb-false, not-false, le-leb}
 use Rattle.text.specs.Bytes.{pick, sameBytes}
 use Rattle.text.specs.Utf8.{wellFormed, WellFormed}
 use Rattle.text.specs.Call.{andThen}
@@ -16,7 +16,7 @@ use Rattle.text.proofs.Bytes.{pick-by, pick-both, or-right}
 use Rattle.text.proofs.Utf8.{tested, ascii-well-formed}
 use Rattle.entity.specs.Table.{part, Body, inside, Declaration, declaration, nameOf, textOf, declarationsFrom, declarations, runsPast, illFormed, declarationCheck, commandsCheck, sizeCheck, tableCheck, ValidTable, operands}
 use Rattle.entity.specs.Binding.{Bound, text, predefined, unknown, predefinedOf, bodyBound, bindingIn, binding, ShortBound, GoodBound}
-use Rattle.entity.proofs.Commands.{IsDone, is-done, passes}
+use Rattle.entity.proofs.Commands.{IsDone, is-done, passes, long-list}
 use Rattle.entity.proofs.Lookup.{table-done}
 use Rattle.entity.proofs.Reading.{u16-small}
 
@@ -27,10 +27,19 @@ pub checked-table : (list pool : List ℕ) {r : Answer} {first second : ℕ} →
 unfolding tableCheck
 checked-table list pool e q = go (sizeCheck list pool) (commandsCheck pool 0 0 list) (sym e ∙ q)
   where
-    go : (x y : Answer) {a b : ℕ} → andThen x (andThen y (Done (length (declarations list)) 0)) ≡ Done a b → andThen x (andThen y (Done (length (declarations list)) 0)) ≡ Done (length (declarations list)) 0
+    go : (x y : Answer) {a b : ℕ} → andThen x (andThen y (Done (length (declarations list)) 0)) ≡ Done a b
+        → andThen x (andThen y (Done (length (declarations list)) 0)) ≡ Done (length (declarations list)) 0
     go (Done c d) (Done f g) h = refl
     go (Done c d) (Refused n f g) h = absurd (is-done h)
     go (Refused n f g) y h = absurd (is-done h)
+
+-- its list is at most 49,153 bytes long: refusal 6
+pub valid-short : (list pool : List ℕ) → ValidTable list pool → length list ≤ 49153
+valid-short list pool e = go (ltb 49153 (length list)) refl
+  where
+    go : (x : Bool) → ltb 49153 (length list) ≡ x → length list ≤ 49153
+    go true q = absurd (is-done (long-list list pool (ltb-true 49153 (length list) q) ∙ e))
+    go false q = ltb-false 49153 (length list) q
 
 pub empty-valid : ValidTable (0 ∷ []) []
 unfolding tableCheck

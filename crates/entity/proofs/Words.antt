@@ -56,7 +56,10 @@ module _ (t u : List ℕ) (i j : ℕ) where
       let s6 = lowest a6 b6 a7 b7 (ts (i + 6)) (us (j + 6)) (s5 .1) in
       let P : ℕ → Type 0 = λ k. getD t (i + k) 0 ≡ getD u (j + k) 0 in
       let z : getD t (i + 0) 0 ≡ getD u (j + 0) 0 = rw (add-zero i, add-zero j) (s0 .0) in
-      below-more P 7 (below-more P 6 (below-more P 5 (below-more P 4 (below-more P 3 (below-more P 2 (below-more P 1 (below-more P 0 (below-none P) z) (s1 .0)) (s2 .0)) (s3 .0)) (s4 .0)) (s5 .0)) (s6 .0)) (s6 .1)
+      let c2 = below-more P 1 (below-more P 0 (below-none P) z) (s1 .0) in
+      let c4 = below-more P 3 (below-more P 2 c2 (s2 .0)) (s3 .0) in
+      let c6 = below-more P 5 (below-more P 4 c4 (s4 .0)) (s5 .0) in
+      below-more P 7 (below-more P 6 c6 (s6 .0)) (s6 .1)
 
   pub same-u32 : ((k : ℕ) → k < 4 → getD t (i + k) 0 ≡ getD u (j + k) 0) → littleEndian t i 4 ≡ littleEndian u j 4
   same-u32 same =

@@ -1,3 +1,4 @@
+-- `check_command`: 7 where the operands are cut (`command-cut`), else what the declaration that they make answers (`command-whole`).
 use mathlib.Core.Path.{_∙_}
 use native.Mathlib.Omega.{arith}
 use Rattle.entity.proofs.Commands.{command-cut, command-whole}
@@ -49,9 +50,20 @@ check-declaration-requires c κs = search needs
 
 returns-2 : tie.Need-returns-2
 returns-2 c =
+    let text-length = c .before in
+    let text-start = text-length .before in
+    let name-length = text-start .before in
+    let name-start = name-length .before .before in
+    let given = name-start .before .before .before .before .args in
     c .check-declaration .ensures
-    ∙ rw (c .before .before .before .before .before .u32-at .ensures .0, c .before .before .before .wide .ensures .0, c .before .before .u32-at2 .ensures .0, c .before .u16-at .ensures .0, ← declaration-at (c .before .before .before .before .before .before .before .before .before .args .list .now) (c .before .before .before .before .before .before .before .before .before .args .at))
-    (command-whole (c .before .before .before .before .before .before .before .before .before .args .list .now) (c .before .before .before .before .before .before .before .before .before .args .pool .now) (c .before .before .before .before .before .before .before .before .before .args .at) (omega arith))
+    ∙ rw (
+      name-start .u32-at .ensures .0,
+      name-length .wide .ensures .0,
+      text-start .u32-at2 .ensures .0,
+      text-length .u16-at .ensures .0,
+      ← declaration-at (given .list .now) (given .at),
+    )
+    (command-whole (given .list .now) (given .pool .now) (given .at) (omega arith))
 
 pub check-command-spec : {M : Type 1} → statement M
 check-command-spec =

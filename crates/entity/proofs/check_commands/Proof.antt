@@ -1,9 +1,10 @@
-use mathlib.Core.Path.{sym, _∙_}
+-- `check_commands` keeps `Standing`: the answer of the commands from here on, with those counted before them, is the table's.
+use mathlib.Core.Path.{_≡_, sym, _∙_}
 use mathlib.Core.Logic.{⊎-elim}
 use native.Mathlib.Omega.{arith}
 use borrow.Author.Needs.{needs}
 use borrow.Author.Tests.{eqb-true, eqb-false}
-use lib.ListN.{length}
+use lib.ListN.{length, getD}
 use Prim.Native.Nat.{_-_}
 use Rattle.entity.proofs.Commands.{Standing, start, finish, refuses, goes-on}
 use Rattle.entity.proofs.check_commands.Statement.{statement}
@@ -15,17 +16,36 @@ Inv-loop list pool ascii at₀ count₀ at count = Standing list pool at count
 abbrev μ-loop : tie.MeasureT-loop
 μ-loop list pool ascii at₀ count₀ at count = length list - at
 
+-- places: a command that was checked, and its turn of the loop
+abbrev Checked : Type 0
+Checked = tie.After-check-command Inv-loop μ-loop
+
+abbrev test : Checked → tie.In-loop Inv-loop μ-loop
+test c = c .before .before .before
+
+abbrev turn : Checked → tie.At-loop Inv-loop μ-loop
+turn c = test c .before
+
+abbrev entry : Checked → tie.Start Inv-loop μ-loop
+entry c = turn c .before .before .before .before
+
+-- the command's byte is 1
+one : (c : Checked) → getD (entry c .args .list .now) (turn c .loop .at) 0 ≡ 1
+one c = eqb-true _ _ (c .before .if1 .taken)
+
 ascii-of-requires : tie.Need-ascii-of-requires Inv-loop μ-loop
 ascii-of-requires c κs = c .before .before .pre .0
 
 loop-holds : tie.Need-loop-holds Inv-loop μ-loop
-loop-holds c = start (c .before .before .before .args .list .now) (c .before .before .before .args .pool .now) (c .before .before .before .pre .0) (c .before .before .before .pre .1)
+loop-holds c =
+    let asked = c .before .before .before in
+    start (asked .args .list .now) (asked .args .pool .now) (asked .pre .0) (asked .pre .1)
 
 shared-slice-read-if1 : tie.Need-shared-slice-read-if1 Inv-loop μ-loop
 shared-slice-read-if1 c = c .before .loop-test .taken
 
 check-command-requires : tie.Need-check-command-requires Inv-loop μ-loop
-check-command-requires c κs = (c .before .before .loop-test .taken, c .before .before .before .before .ascii-of .ensures)
+check-command-requires c κs = let t = c .before .before in (t .loop-test .taken, t .before .before .ascii-of .ensures)
 
 enum-told : tie.Need-enum-told Inv-loop μ-loop
 enum-told c = search needs
@@ -33,37 +53,43 @@ enum-told c = search needs
 enum-told-2 : tie.Need-enum-told-2 Inv-loop μ-loop
 enum-told-2 c = search needs
 
+-- a command that is refused
 returns : tie.Need-returns Inv-loop μ-loop
 returns c =
-    let l = c .before .before .before .before .before .before .loop in
-    c .before .before .check-command .ensures
-    ∙ refuses (c .before .before .before .before .before .before .before .before .before .before .args .list .now) (c .before .before .before .before .before .before .before .before .before .before .args .pool .now) (l .at) (l .count) (l .inv) (c .before .before .before .before .before .loop-test .taken) (eqb-true _ _ (c .before .before .before .if1 .taken))
-    (sym (c .before .before .check-command .ensures) ∙ c .enum-told2 .given .1)
+    let k = c .before .before in
+    let is = k .check-command .ensures in
+    let asked = entry k .args in
+    let l = turn k .loop in
+    is ∙ refuses (asked .list .now) (asked .pool .now) (l .at) (l .count) (l .inv) (test k .loop-test .taken) (one k) (sym is ∙ c .enum-told2 .given .1)
 
+-- one that is not
 add-at : tie.Need-add-at Inv-loop μ-loop
-add-at c = let s = c .before .before .before .before .before .before .loop .inv in omega arith
+add-at c = let s = turn (c .before .before) .loop .inv in omega arith
 
 add-count : tie.Need-add-count Inv-loop μ-loop
-add-count c = let s = c .before .before .before .before .before .before .loop .inv in omega arith
+add-count c = let s = turn (c .before .before) .loop .inv in omega arith
 
 loop-less : tie.Need-loop-less Inv-loop μ-loop
-loop-less c = let l = c .before .before .before .before .before .loop-test .taken in omega arith
+loop-less c = let l = test (c .before .before) .loop-test .taken in omega arith
 
 loop-again : tie.Need-loop-again Inv-loop μ-loop
 loop-again c =
-    let l = c .before .before .before .before .before .before .loop in
-    goes-on (c .before .before .before .before .before .before .before .before .before .before .args .list .now) (c .before .before .before .before .before .before .before .before .before .before .args .pool .now) (l .at) (l .count) (l .inv) (c .before .before .before .before .before .loop-test .taken) (eqb-true _ _ (c .before .before .before .if1 .taken))
-    (sym (c .before .before .check-command .ensures) ∙ c .enum-told .given .1)
+    let k = c .before .before in
+    let asked = entry k .args in
+    let l = turn k .loop in
+    goes-on (asked .list .now) (asked .pool .now) (l .at) (l .count) (l .inv) (test k .loop-test .taken) (one k) (sym (k .check-command .ensures) ∙ c .enum-told .given .1)
 
 check-end-requires : tie.Need-check-end-requires Inv-loop μ-loop
 check-end-requires c κs = c .before .loop .inv .fits
 
 returns-2 : tie.Need-returns-2 Inv-loop μ-loop
 returns-2 c =
-    let l = c .before .before .loop in
+    let left = c .before in
+    let l = left .before .loop in
+    let asked = left .before .before .before .before .before .args in
     c .check-end .ensures
-    ∙ finish (c .before .before .before .before .before .before .args .list .now) (c .before .before .before .before .before .before .args .pool .now) (l .at) (l .count) (l .inv)
-    (λ h e. ⊎-elim (λ w. eqb-false _ _ (w .2 .left) e) (λ w. let o : ⊥ = omega (arith, w .left) in o) (c .before .loop-test .came))
+    ∙ finish (asked .list .now) (asked .pool .now) (l .at) (l .count) (l .inv)
+    (λ h e. ⊎-elim (λ w. eqb-false _ _ (w .2 .left) e) (λ w. let o : ⊥ = omega (arith, w .left) in o) (left .loop-test .came))
 
 pub check-commands-spec : {M : Type 1} → statement M
 check-commands-spec =

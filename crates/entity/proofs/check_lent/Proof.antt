@@ -9,7 +9,9 @@ check-end-requires : tie.Need-check-end-requires
 check-end-requires c κs = omega arith
 
 returns : tie.Need-returns
-returns c = c .check-end .ensures ∙ short-list (c .before .before .before .before .args .list .now) (c .before .before .before .before .args .pool .now) (c .before .if1 .taken)
+returns c =
+    let given = c .before .before .before .before .args in
+    c .check-end .ensures ∙ short-list (given .list .now) (given .pool .now) (c .before .if1 .taken)
 
 check-table-requires : tie.Need-check-table-requires
 check-table-requires c κs = search needs

@@ -9,13 +9,17 @@ refused-requires : tie.Need-refused-requires
 refused-requires c κs = search needs
 
 returns : tie.Need-returns
-returns c = c .refused .ensures ∙ long-list (c .before .before .before .before .args .list .now) (c .before .before .before .before .args .pool .now) (omega arith)
+returns c =
+    let given = c .before .before .before .before .args in
+    c .refused .ensures ∙ long-list (given .list .now) (given .pool .now) (omega arith)
 
 refused-requires-2 : tie.Need-refused-requires-2
 refused-requires-2 c κs = search needs
 
 returns-2 : tie.Need-returns-2
-returns-2 c = c .refused2 .ensures ∙ long-pool (c .before .before .before .before .before .args .list .now) (c .before .before .before .before .before .args .pool .now) (omega arith) (omega arith)
+returns-2 c =
+    let given = c .before .before .before .before .before .args in
+    c .refused2 .ensures ∙ long-pool (given .list .now) (given .pool .now) (omega arith) (omega arith)
 
 check-commands-requires : tie.Need-check-commands-requires
 check-commands-requires c κs = (omega arith, omega arith)

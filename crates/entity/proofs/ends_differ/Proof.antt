@@ -26,9 +26,10 @@ u32-at-requires-2 c κs = search needs
 
 returns-2 : tie.Need-returns-2
 returns-2 c =
-    let n = length (c .before .before .before .before .before .args .name .now) in
+    let given = c .before .before .before .before .before .args in
+    let n = length (given .name .now) in
     λ e.
-    differ-u32 (c .before .before .before .before .before .args .pool .now) (c .before .before .before .before .before .args .start) (c .before .before .before .before .before .args .name .now) n (n - 4) (omega arith)
+    differ-u32 (given .pool .now) (given .start) (given .name .now) n (n - 4) (omega arith)
     (λ q. eqb-false (c .before .u32-at .result) (c .u32-at2 .result) (not-true _ e) (c .before .u32-at .ensures .0 ∙ q ∙ sym (c .u32-at2 .ensures .0)))
 
 pub ends-differ-spec : {M : Type 1} → statement M

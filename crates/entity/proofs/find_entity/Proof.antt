@@ -4,10 +4,10 @@ use mathlib.Core.Path.{refl, sym, ap, _∙_}
 use native.Mathlib.Omega.{arith}
 use borrow.Author.Needs.{needs}
 use lib.ListN.{length}
-use Prim.Native.Nat.{ℕ, _+_, _-_}
+use Prim.Native.Nat.{ℕ, _+_, _-_, _≤_}
 use Rattle.entity.specs.Table.{littleEndian}
 use Rattle.entity.specs.Steps.{Agree}
-use Rattle.entity.proofs.Lookup.{Here, begin, in-list, over, command, on, agree-more, same-all, differ-length, differ-at}
+use Rattle.entity.proofs.Lookup.{Here, begin, in-list, over, Command, command, on, agree-more, same-all, differ-length, differ-at, same-part}
 use Rattle.entity.proofs.Referents.{defines-hit}
 use Rattle.entity.proofs.find_entity.Statement.{statement}
 use Rattle.entity.proofs.find_entity.Tie as tie
@@ -24,10 +24,50 @@ Inv-commands list pool name at₀ at = Here list pool name at
 abbrev μ-commands : tie.MeasureT-commands
 μ-commands list pool name at₀ at = length list - at
 
+-- places: a command 1, one whose name is as long, one whose name ends alike, and a byte that is compared
+abbrev One : Type 0
+One = tie.Else1 Inv-bytes μ-bytes Inv-commands μ-commands
+
+abbrev Long : Type 0
+Long = tie.Else2 Inv-bytes μ-bytes Inv-commands μ-commands
+
+abbrev Alike : Type 0
+Alike = tie.Else3 Inv-bytes μ-bytes Inv-commands μ-commands
+
+abbrev Byte : Type 0
+Byte = tie.Else4 Inv-bytes μ-bytes Inv-commands μ-commands
+
+abbrev entry : One → tie.Start Inv-bytes μ-bytes Inv-commands μ-commands
+entry c = c .before .before .before .before .before .before
+
+abbrev turn : One → tie.At-commands Inv-bytes μ-bytes Inv-commands μ-commands
+turn c = c .before .before
+
+abbrev one : Long → One
+one c = c .before .before .before
+
+abbrev name-read : Alike → tie.After-u32-at Inv-bytes μ-bytes Inv-commands μ-commands
+name-read c = c .before .before
+
+abbrev alike : Byte → Alike
+alike c = c .before .before .before .before .before
+
+abbrev byte : tie.Else5 Inv-bytes μ-bytes Inv-commands μ-commands → Byte
+byte c = c .before .before .before
+
+-- the command's operands are in the list, name and text in the pool
+known : (c : One) → Command (entry c .args .list .now) (entry c .args .pool .now) (turn c .commands .at)
+known c = command (turn c .commands .inv) (c .if1 .left)
+
+-- the name's bytes are in the pool
+inside : (c : tie.After-u32-at Inv-bytes μ-bytes Inv-commands μ-commands)
+    → c .u32-at .result + length (entry (one (c .before)) .args .name .now) ≤ length (entry (one (c .before)) .args .pool .now)
+inside c = let k = known (one (c .before)) in omega arith
+
 commands-holds : tie.Need-commands-holds Inv-bytes μ-bytes Inv-commands μ-commands
 commands-holds c =
-    let start = c .before .before .before in
-    begin (start .args .list .now) (start .args .pool .now) (start .args .name .now) (start .pre)
+    let asked = c .before .before .before in
+    begin (asked .args .list .now) (asked .args .pool .now) (asked .args .name .now) (asked .pre)
 
 shared-slice-read-if1 : tie.Need-shared-slice-read-if1 Inv-bytes μ-bytes Inv-commands μ-commands
 shared-slice-read-if1 c = in-list (c .before .commands .inv)
@@ -37,231 +77,136 @@ plain-referent-requires :
 plain-referent-requires c κs = search needs
 
 add-wide : tie.Need-add-wide Inv-bytes μ-bytes Inv-commands μ-commands
-add-wide c =
-    let turn = c .before .before .commands in
-    let is = command (turn .inv) (c .if1 .left) in
-    omega arith
+add-wide c = let k = known c in omega arith
 
 shared-slice-read-wide : tie.Need-shared-slice-read-wide Inv-bytes μ-bytes Inv-commands μ-commands
-shared-slice-read-wide c =
-    let at-commands = c .before .before .before in
-    let turn = at-commands .commands in
-    let is = command (turn .inv) (c .before .if1 .left) in
-    omega arith
+shared-slice-read-wide c = let k = known (c .before) in omega arith
 
 wide-requires : tie.Need-wide-requires Inv-bytes μ-bytes Inv-commands μ-commands
 wide-requires c κs = search needs
 
+-- a name of another length
 add-at : tie.Need-add-at Inv-bytes μ-bytes Inv-commands μ-commands
-add-at c =
-    let at-if1 = c .before .before .before in
-    let at-commands = at-if1 .before .before in
-    let turn = at-commands .commands in
-    let is = command (turn .inv) (at-if1 .if1 .left) in
-    omega arith
+add-at c = let k = known (c .before .before .before) in omega arith
 
 commands-less : tie.Need-commands-less Inv-bytes μ-bytes Inv-commands μ-commands
-commands-less c =
-    let at-if1 = c .before .before .before in
-    let at-commands = at-if1 .before .before in
-    let turn = at-commands .commands in
-    let is = command (turn .inv) (at-if1 .if1 .left) in
-    omega arith
+commands-less c = let k = known (c .before .before .before) in omega arith
 
 commands-again : tie.Need-commands-again Inv-bytes μ-bytes Inv-commands μ-commands
 commands-again c =
-    let at-if1 = c .before .before .before in
-    let at-commands = at-if1 .before .before in
-    let start = at-commands .before .before .before .before in
-    let turn = at-commands .commands in
-    let is = command (turn .inv) (at-if1 .if1 .left) in
-    on (turn .inv) (at-if1 .if1 .left) refl (c .before .wide .ensures .0)
-    (differ-length (start .args .pool .now) (littleEndian (start .args .list .now) (turn .at + 1) 4) (start .args .name .now) (c .before .wide .result) (omega arith) (c .if2 .taken))
+    let o = c .before .before .before in
+    let k = known o in
+    let asked = entry o .args in
+    let start = littleEndian (asked .list .now) (turn o .commands .at + 1) 4 in
+    on (turn o .commands .inv) (o .if1 .left) refl (c .before .wide .ensures .0)
+    (differ-length (asked .pool .now) start (asked .name .now) (c .before .wide .result) (omega arith) (c .if2 .taken))
 
 add-u32-at : tie.Need-add-u32-at Inv-bytes μ-bytes Inv-commands μ-commands
-add-u32-at c =
-    let at-if1 = c .before .before .before in
-    let at-commands = at-if1 .before .before in
-    let turn = at-commands .commands in
-    let is = command (turn .inv) (at-if1 .if1 .left) in
-    omega arith
+add-u32-at c = let k = known (one c) in omega arith
 
 u32-at-requires : tie.Need-u32-at-requires Inv-bytes μ-bytes Inv-commands μ-commands
-u32-at-requires c κs =
-    let at-if1 = c .before .before .before in
-    let at-commands = at-if1 .before .before in
-    let turn = at-commands .commands in
-    let is = command (turn .inv) (at-if1 .if1 .left) in
-    omega arith
+u32-at-requires c κs = let k = known (one c) in omega arith
 
 ends-differ-requires : tie.Need-ends-differ-requires Inv-bytes μ-bytes Inv-commands μ-commands
-ends-differ-requires c κs =
-    let at-if1 = c .before .before .before .before in
-    let at-commands = at-if1 .before .before in
-    let turn = at-commands .commands in
-    let is = command (turn .inv) (at-if1 .if1 .left) in
-    omega arith
+ends-differ-requires c κs = inside c
 
+-- a name with another end
 add-at-2 : tie.Need-add-at-2 Inv-bytes μ-bytes Inv-commands μ-commands
-add-at-2 c =
-    let at-if1 = c .before .before .before .before .before .before in
-    let at-commands = at-if1 .before .before in
-    let turn = at-commands .commands in
-    let is = command (turn .inv) (at-if1 .if1 .left) in
-    omega arith
+add-at-2 c = let k = known (one (c .before .before .before)) in omega arith
 
 commands-less-2 : tie.Need-commands-less-2 Inv-bytes μ-bytes Inv-commands μ-commands
-commands-less-2 c =
-    let at-if1 = c .before .before .before .before .before .before in
-    let at-commands = at-if1 .before .before in
-    let turn = at-commands .commands in
-    let is = command (turn .inv) (at-if1 .if1 .left) in
-    omega arith
+commands-less-2 c = let k = known (one (c .before .before .before)) in omega arith
 
 commands-again-2 : tie.Need-commands-again-2 Inv-bytes μ-bytes Inv-commands μ-commands
 commands-again-2 c =
-    let at-if2 = c .before .before .before in
-    let name = at-if2 .before in
-    let at-if1 = name .before .before in
-    let at-commands = at-if1 .before .before in
-    on (at-commands .commands .inv) (at-if1 .if1 .left) (c .before .before .u32-at .ensures .0) (sym (at-if2 .if2 .left) ∙ name .wide .ensures .0)
+    let start = c .before .before in
+    let l = start .before in
+    let o = one l in
+    on (turn o .commands .inv) (o .if1 .left) (start .u32-at .ensures .0) (sym (l .if2 .left) ∙ l .before .wide .ensures .0)
     (c .before .ends-differ .ensures (c .if3 .taken))
 
 text-start-requires : tie.Need-text-start-requires Inv-bytes μ-bytes Inv-commands μ-commands
-text-start-requires c κs =
-    let at-if1 = c .before .before .before .before .before .before in
-    let at-commands = at-if1 .before .before in
-    let turn = at-commands .commands in
-    let is = command (turn .inv) (at-if1 .if1 .left) in
-    omega arith
+text-start-requires c κs = let k = known (one (name-read c .before)) in omega arith
 
 text-length-requires : tie.Need-text-length-requires Inv-bytes μ-bytes Inv-commands μ-commands
-text-length-requires c κs =
-    let at-if1 = c .before .before .before .before .before .before .before in
-    let at-commands = at-if1 .before .before in
-    let turn = at-commands .commands in
-    let is = command (turn .inv) (at-if1 .if1 .left) in
-    omega arith
+text-length-requires c κs = let k = known (one (name-read (c .before) .before)) in omega arith
 
 add-end : tie.Need-add-end Inv-bytes μ-bytes Inv-commands μ-commands
 add-end c = search needs
 
 same-words-requires : tie.Need-same-words-requires Inv-bytes μ-bytes Inv-commands μ-commands
-same-words-requires c κs =
-    let at-if1 = c .before .before .before .before .before .before .before .before in
-    let at-commands = at-if1 .before .before in
-    let turn = at-commands .commands in
-    let is = command (turn .inv) (at-if1 .if1 .left) in
-    omega arith
+same-words-requires c κs = inside (name-read (c .before .before))
 
 bytes-holds : tie.Need-bytes-holds Inv-bytes μ-bytes Inv-commands μ-commands
 bytes-holds c = c .same-words .ensures
 
 add-if5 : tie.Need-add-if5 Inv-bytes μ-bytes Inv-commands μ-commands
-add-if5 c =
-    let at-if1 = c .before .before .before .before .before .before .before .before .before .before .before in
-    let at-commands = at-if1 .before .before in
-    let turn = at-commands .commands in
-    let is = command (turn .inv) (at-if1 .if1 .left) in
-    omega (arith, c .before .bytes .inv .fits)
+add-if5 c = omega (arith, inside (name-read (alike c)), c .before .bytes .inv .fits)
 
 shared-slice-read-if5 : tie.Need-shared-slice-read-if5 Inv-bytes μ-bytes Inv-commands μ-commands
-shared-slice-read-if5 c =
-    let at-if1 = c .before .before .before .before .before .before .before .before .before .before .before .before in
-    let at-commands = at-if1 .before .before in
-    let turn = at-commands .commands in
-    let is = command (turn .inv) (at-if1 .if1 .left) in
-    omega (arith, c .before .before .bytes .inv .fits)
+shared-slice-read-if5 c = let b = c .before in omega (arith, inside (name-read (alike b)), b .before .bytes .inv .fits)
 
 shared-slice-read-if5-2 :
     tie.Need-shared-slice-read-if5-2 Inv-bytes μ-bytes Inv-commands μ-commands
-shared-slice-read-if5-2 c =
-    let at-bytes = c .before .before .before in
-    omega (arith, at-bytes .bytes .inv .fits)
+shared-slice-read-if5-2 c = omega (arith, c .before .before .before .bytes .inv .fits)
 
 add-i : tie.Need-add-i Inv-bytes μ-bytes Inv-commands μ-commands
-add-i c =
-    let at-bytes = c .before .before .before .before in
-    omega (arith, at-bytes .bytes .inv .fits)
+add-i c = omega (arith, byte c .before .bytes .inv .fits)
 
 bytes-less : tie.Need-bytes-less Inv-bytes μ-bytes Inv-commands μ-commands
-bytes-less c =
-    let at-bytes = c .before .before .before .before in
-    omega (arith, at-bytes .bytes .inv .fits)
+bytes-less c = omega (arith, byte c .before .bytes .inv .fits)
 
 bytes-again : tie.Need-bytes-again Inv-bytes μ-bytes Inv-commands μ-commands
 bytes-again c =
-    let at-bytes = c .before .before .before .before in
-    let at-u32-at = at-bytes .before .before .before .before .before .before in
-    let entry = at-u32-at .before .before .before .before .before .before .before .before .before .before in
-    let bytes = at-bytes .bytes in
-    let start = entry .args in
-    agree-more (start .pool .now) (at-u32-at .u32-at .result) (start .name .now) (bytes .i) (bytes .inv) (omega (arith, bytes .inv .fits)) (c .if5 .left) (omega arith)
+    let start = name-read (alike (byte c)) in
+    let asked = entry (one (start .before)) .args in
+    let l = byte c .before .bytes in
+    agree-more (asked .pool .now) (start .u32-at .result) (asked .name .now) (l .i) (l .inv) (omega (arith, l .inv .fits)) (c .if5 .left) (omega arith)
 
+-- a byte that differs
 add-at-3 : tie.Need-add-at-3 Inv-bytes μ-bytes Inv-commands μ-commands
-add-at-3 c =
-    let at-if1 = c .before .before .before .before .before .before .before .before .before .before .before .before .before .before in
-    let at-commands = at-if1 .before .before in
-    let turn = at-commands .commands in
-    let is = command (turn .inv) (at-if1 .if1 .left) in
-    omega arith
+add-at-3 c = let k = known (one (name-read (alike (c .before .before .before)) .before)) in omega arith
 
 commands-less-3 : tie.Need-commands-less-3 Inv-bytes μ-bytes Inv-commands μ-commands
-commands-less-3 c =
-    let at-if1 = c .before .before .before .before .before .before .before .before .before .before .before .before .before .before in
-    let at-commands = at-if1 .before .before in
-    let turn = at-commands .commands in
-    let is = command (turn .inv) (at-if1 .if1 .left) in
-    omega arith
+commands-less-3 c = let k = known (one (name-read (alike (c .before .before .before)) .before)) in omega arith
 
 commands-again-3 : tie.Need-commands-again-3 Inv-bytes μ-bytes Inv-commands μ-commands
 commands-again-3 c =
-    let at-bytes = c .before .before .before .before in
-    let at-u32-at = at-bytes .before .before .before .before .before .before in
-    let at-wide = at-u32-at .before .before in
-    let at-if1 = at-wide .before .before in
-    let at-commands = at-if1 .before .before in
-    let entry = at-commands .before .before .before .before in
-    let bytes = at-bytes .bytes in
-    let start = entry .args in
-    let name = at-u32-at .u32-at in
-    let size = at-wide .wide in
-    on (at-commands .commands .inv) (at-if1 .if1 .left) (name .ensures .0) (size .ensures .0)
-    (differ-at (start .pool .now) (name .result) (start .name .now) (size .result) (bytes .i) (omega (arith, bytes .inv .fits)) (c .if5 .taken))
+    let b = c .before .before .before in
+    let start = name-read (alike b) in
+    let o = one (start .before) in
+    let asked = entry o .args in
+    let size = start .before .before .wide in
+    let l = b .before .bytes in
+    on (turn o .commands .inv) (o .if1 .left) (start .u32-at .ensures .0) (size .ensures .0)
+    (differ-at (asked .pool .now) (start .u32-at .result) (asked .name .now) (size .result) (l .i) (omega (arith, l .inv .fits)) (c .if5 .taken))
 
+-- no command has the name
 returns : tie.Need-returns Inv-bytes μ-bytes Inv-commands μ-commands
 returns c =
-    let at-commands = c .before .before .before in
-    let entry = at-commands .before .before .before .before in
-    let start = entry .args in
-    c .plain-referent .ensures (start .list .now) (start .pool .now) (over (at-commands .commands .inv) (c .before .if1 .taken))
+    let at = c .before .before .before in
+    let asked = at .before .before .before .before .args in
+    c .plain-referent .ensures (asked .list .now) (asked .pool .now) (over (at .commands .inv) (c .before .if1 .taken))
 
+-- this command has it
 returns-2 : tie.Need-returns-2 Inv-bytes μ-bytes Inv-commands μ-commands
 returns-2 c =
-    let at-text-length = c .before .before .before in
-    let at-text-start = at-text-length .before in
-    let at-u32-at = at-text-start .before .before .before in
-    let at-if2 = at-u32-at .before in
-    let at-wide = at-if2 .before in
-    let at-if1 = at-wide .before .before in
-    let at-commands = at-if1 .before .before in
-    let entry = at-commands .before .before .before .before in
-    let start = entry .args in
-    let turn = at-commands .commands in
-    let one = at-if1 .if1 .left in
-    let is = command (turn .inv) one in
-    let name = at-u32-at .u32-at in
-    let size = at-wide .wide in
-    let text = at-text-start .text-start in
-    let count = at-text-length .text-length in
-    let same = same-all (start .pool .now) (name .result) (start .name .now) (size .result) (omega arith) (at-if2 .if2 .left)
-    (c .before .bytes .inv) (omega arith) in
-    let same-name = rw (name .ensures .0, size .ensures .0) at same in
+    let count = c .before .before .before in
+    let text = count .before .text-start in
+    let name = name-read (count .before .before) in
+    let l = name .before in
+    let o = one l in
+    let t = turn o .commands in
+    let asked = entry o .args in
+    let start = name .u32-at in
+    let size = l .before .wide in
+    let same = same-all (asked .pool .now) (start .result) (asked .name .now) (size .result) (omega (arith, inside name)) (l .if2 .left) (c .before .bytes .inv) (omega arith) in
+    let same-name = same-part (asked .pool .now) (asked .name .now) (start .ensures .0) (size .ensures .0) same in
     record {
-      defines = defines-hit (start .list .now) (start .pool .now) (start .name .now) (turn .at) (turn .inv) one same-name (omega (arith, count .ensures));
+      defines = defines-hit (asked .list .now) (asked .pool .now) (asked .name .now) (t .at) (t .inv) (o .if1 .left) same-name (omega (arith, count .text-length .ensures));
       same = same-name;
       starts = text .ensures .0;
-      ends = ap (λ (n : ℕ). text .result + n) (count .ensures .0);
+      ends = ap (λ (n : ℕ). text .result + n) (count .text-length .ensures .0);
     }
 
 pub find-entity-spec : {M : Type 1} → statement M

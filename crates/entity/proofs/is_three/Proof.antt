@@ -18,7 +18,9 @@ shared-slice-read-result-3 : tie.Need-shared-slice-read-result-3
 shared-slice-read-result-3 c = search needs
 
 returns-2 : tie.Need-returns-2
-returns-2 c = same-three (c .before .before .before .before .args .name .now) (c .before .before .before .before .args .a) (c .before .before .before .before .args .b) (c .before .before .before .before .args .c) (c .before .before .before .if1 .left)
+returns-2 c =
+    let given = c .before .before .before .before .args in
+    same-three (given .name .now) (given .a) (given .b) (given .c) (c .before .before .before .if1 .left)
 
 pub is-three-spec : {M : Type 1} → statement M
 is-three-spec =

@@ -26,7 +26,9 @@ add-result : tie.Need-add-result
 add-result c = search needs
 
 returns : tie.Need-returns
-returns c = (omega (arith, u16-sum (c .before .before .before .before .before .args .bytes .now) (c .before .before .before .before .before .args .i)), omega arith)
+returns c =
+    let given = c .before .before .before .before .before .args in
+    (omega (arith, u16-sum (given .bytes .now) (given .i)), omega arith)
 
 pub u16-at-spec : {M : Type 1} → statement M
 u16-at-spec =

@@ -1,3 +1,4 @@
+-- `u32_at`: no sum overflows, as each part is a byte times its place; the sum is `u32-sum`.
 use Rattle.entity.proofs.Reading.{u32-sum}
 use native.Mathlib.Omega.{arith}
 use borrow.Author.Needs.{needs}
@@ -56,7 +57,9 @@ add-result-3 : tie.Need-add-result-3
 add-result-3 c = search needs
 
 returns : tie.Need-returns
-returns c = (omega (arith, u32-sum (c .before .before .before .before .before .before .before .before .before .args .bytes .now) (c .before .before .before .before .before .before .before .before .before .args .i)), omega arith)
+returns c =
+    let given = c .before .before .before .before .before .before .before .before .before .args in
+    (omega (arith, u32-sum (given .bytes .now) (given .i)), omega arith)
 
 pub u32-at-spec : {M : Type 1} → statement M
 u32-at-spec =
