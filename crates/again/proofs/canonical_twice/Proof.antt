@@ -1,7 +1,7 @@
 use Rattle.demands.proofs.Again.{asked, canonical-stops, canonical-fits, canonical-read, taken-size}
 use borrow.Author.Needs.{needs}
-use Rattle.demands.proofs.canonical_twice.Statement.{statement}
-use Rattle.demands.proofs.canonical_twice.Tie as tie
+use Rattle.again.proofs.canonical_twice.Statement.{statement}
+use Rattle.again.proofs.canonical_twice.Tie as tie
 
 govlezna-canonical-form-requires : tie.Need-govlezna-canonical-form-requires
 govlezna-canonical-form-requires c κs = search needs

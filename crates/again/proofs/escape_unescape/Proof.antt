@@ -1,7 +1,7 @@
 use Rattle.demands.proofs.Again.{escape-stops, escape-fits, escape-read, taken-size}
 use borrow.Author.Needs.{needs}
-use Rattle.demands.proofs.escape_unescape.Statement.{statement}
-use Rattle.demands.proofs.escape_unescape.Tie as tie
+use Rattle.again.proofs.escape_unescape.Statement.{statement}
+use Rattle.again.proofs.escape_unescape.Tie as tie
 
 govlezna-escape-requires : tie.Need-govlezna-escape-requires
 govlezna-escape-requires c κs = search needs
