@@ -1,66 +1,26 @@
 -- The stops of the attribute walk: which bytes are none, what stands for a blank, where a stop's token ends. Assumes nothing.
-use mathlib.Core.Path.{_≡_, refl, sym, ap, subst, _∙_}
+use mathlib.Core.Path.{_≡_, refl, sym, ap, _∙_}
 use mathlib.Core.Logic.{_≢_}
-use mathlib.Core.Bool.{Bool, true, false, not, _&&_, _||_, true≢false}
+use mathlib.Core.Bool.{Bool, true, false, _&&_, _||_, true≢false}
 use mathlib.Core.List.{List, [], _∷_}
-use Prim.Native.Nat.{ℕ, zero, suc, _+_, _-_, _≤_, _<_}
+use Prim.Native.Nat.{ℕ, zero, suc, _+_, _≤_, _<_}
 use native.Mathlib.Omega.{arith}
-use native.Mathlib.Nat.{le-trans}
 use native.Mathlib.Numerals.{add-one}
-use lib.Dec.{eqb, leb, ltb}
+use lib.Dec.{eqb}
 use lib.ListN.{length, drop, getD, length-drop}
 use lib.Seq.{drop-cons}
-use borrow.Author.Tests.{eqb-true, eqb-false, eq-eqb, ne-eqb, leb-true, ltb-true, ltb-false}
+use borrow.Author.Tests.{eqb-false, eq-eqb, ne-eqb}
 use Rattle.text.specs.Bytes.{pick, begins}
-use Rattle.text.proofs.Bytes.{pick-both, pick-by, or-left, or-right, and-left}
+use Rattle.text.proofs.Bytes.{pick-both, pick-by, or-left, or-right}
 use Rattle.eols.specs.LineEnds.{lineEnd}
 use Rattle.eols.specs.Stops.{ruleFor}
-use Rattle.eols.proofs.LineEnds.{none10, none11, lf-alone, line-end-fits, common-plain as common-in-lines}
+use Rattle.eols.proofs.LineEnds.{none10, none11, lf-alone, line-end-fits}
 use Rattle.tokens.specs.Tokens.{kept, space, number, named, Token, copy, stop, Head, head, tokenOf, Name, ended, endless, nameAt, referenceTo, referenceAt}
-use Rattle.output.specs.Runs.{Plain}
-use Rattle.tokens.specs.Walking.{RunEnd, Copies, headAt}
+use Rattle.tokens.specs.Walking.{Copies, headAt}
 use Rattle.attribute.specs.Heads.{spaceOr, otherHead, attributeHead}
 use Rattle.attribute.specs.Walk.{answer}
 use Rattle.halts.specs.Halts.{stopByte}
 use Rattle.attribute.specs.Steps.{Blank}
-
--- ---- bytes told apart by one comparison
-
--- the bounds are asked by themselves, so that a wrong one is refused as a number
-pub common-plain : {low high : ℕ} (b : ℕ) → leb low b && leb b high ≡ true → 38 < low → high < 0xC2 → (newer : Bool) → stopByte newer b ≡ false
-common-plain {low} {high} b e past-amp before-lead newer =
-    let from = leb-true low b (and-left (leb low b) (leb b high) e) in
-    let none : (c : ℕ) → c < 39 → eqb b c ≡ false = λ c h. ne-eqb b c (λ q. omega (arith, from, past-amp, h, q)) in
-    let lead = newer && (eqb b 0xC2 || eqb b 0xE2) in
-    let eol : eqb b 13 || lead ≡ false = common-in-lines b e (omega (arith, past-amp)) before-lead newer in
-    rw (none 9 (omega arith), none 10 (omega arith), none 38 (omega arith), or-left (eqb b 13) lead eol) (or-right (eqb b 13) lead eol)
-
--- no stop before the text's end
-pub plain-whole : {stops : ℕ → Bool} {t : List ℕ} {e : ℕ} → RunEnd stops t 0 e → eqb e (length t) ≡ true → Plain stops t 0 (length t)
-plain-whole {stops} {t} {e} r q = subst (Plain stops t 0) (eqb-true e (length t) q) (r .run)
-
--- runs that overlap
-pub plain-overlap : {stops : ℕ → Bool} {t : List ℕ} {i b c e : ℕ} → Plain stops t i b → Plain stops t c e → c ≤ b → b ≤ e → Plain stops t i e
-plain-overlap {stops} {t} {i} {b} {c} {e} p q h g = record { from = le-trans (p .from) g; to = q .to; none = λ k l m. go k (ltb k b) refl l m }
-  where
-    go : (k : ℕ) (x : Bool) → ltb k b ≡ x → i ≤ k → k < e → stops (getD t k 0) ≡ false
-    go k true z l m = p .none k l (ltb-true k b z)
-    go k false z l m = q .none k (le-trans h (ltb-false k b z)) m
-
--- no stop among the last 32 bytes, or in a shorter text
-pub last-short : {stops : ℕ → Bool} {t : List ℕ} {e : ℕ} → RunEnd stops t 0 e → length t < 32 → not (eqb e (length t)) ≡ false → Plain stops t (length t - 32) (length t)
-last-short {stops} {t} {e} r h q =
-    let z : 0 ≡ length t - 32 = omega (arith, h) in
-    subst (λ (i : ℕ). Plain stops t i (length t)) z (plain-whole r (told (eqb e (length t)) q))
-  where
-    told : (x : Bool) → not x ≡ false → x ≡ true
-    told true k = refl
-    told false k = absurd (true≢false k)
-
-pub last-block : {stops : ℕ → Bool} {t : List ℕ} → 32 ≤ length t → Plain stops t (length t - 32) (length t - 32 + 32) → Plain stops t (length t - 32) (length t)
-last-block {stops} {t} h p =
-    let z : length t - 32 + 32 ≡ length t = omega (arith, h) in
-    subst (Plain stops t (length t - 32)) z p
 
 -- ---- bytes that are copied
 

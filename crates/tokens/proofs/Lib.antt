@@ -1,5 +1,4 @@
 pub mod Runs
-pub mod Search
 pub mod Names
 pub mod References
 pub mod Numbers

@@ -1,12 +1,11 @@
 -- The tokens from an index on. Assumes nothing.
 use mathlib.Core.Path.{_≡_, refl, sym, ap, _∙_}
-use mathlib.Core.List.{List, [], _∷_, _++_}
-use Prim.Native.Nat.{ℕ, zero, suc, _+_, _-_, _≤_, _<_}
-use native.Mathlib.Omega.{arith}
+use mathlib.Core.List.{List, [], _∷_}
+use Prim.Native.Nat.{ℕ, zero, suc, _+_, _<_}
 use native.Mathlib.Nat.{add-zero, add-suc, suc-add}
 use native.Mathlib.Numerals.{add-one}
-use lib.ListN.{length, getD, take, drop}
-use lib.Seq.{drop-cons, drop-drop, take-add}
+use lib.ListN.{length, getD, drop}
+use lib.Seq.{drop-cons, drop-drop}
 use Rattle.tokens.specs.Tokens.{Heads, Token, tokens, tokenOf, skipOf}
 use Rattle.tokens.specs.Walking.{headAt, nextAt}
 
@@ -29,11 +28,3 @@ tokens-at at text i h =
     (ap (λ (k : ℕ). tokens at k skip (drop (i + 1) text)) (sym (add-one i))
     ∙ tokens-skip at (drop (i + 1) text) (i + 1) skip
     ∙ ap (tokens at (nextAt at text i) 0) (drop-drop skip (i + 1) text))
-
--- a run and the one after it
-pub piece-join : (text : List ℕ) (i e f : ℕ) → i ≤ e → e ≤ f → take (e - i) (drop i text) ++ take (f - e) (drop e text) ≡ take (f - i) (drop i text)
-piece-join text i e f h g =
-    let q : e - i + (f - e) ≡ f - i = omega arith in
-    let r : i + (e - i) ≡ e = omega arith in
-    ap (λ (l : List ℕ). take (e - i) (drop i text) ++ take (f - e) l) (sym (drop-drop (e - i) i text ∙ ap (λ (k : ℕ). drop k text) r))
-    ∙ sym (take-add (e - i) (f - e) (drop i text)) ∙ ap (λ (k : ℕ). take k (drop i text)) q

@@ -1,28 +1,16 @@
--- Runs, names and steps: the terms in which the walks over tokens are proved. Assumes nothing.
+-- Heads, names and steps: the terms in which the walks over tokens are proved. Assumes nothing.
 use Prim.Native.Nat.{ℕ, _+_, _-_, _≤_, _<_}
 use mathlib.Core.Path.{_≡_}
-use mathlib.Core.Bool.{Bool, true, false}
+use mathlib.Core.Bool.{Bool, false}
 use mathlib.Core.List.{List, [], _∷_}
 use lib.ListN.{length, getD, take, drop}
 use Rattle.text.specs.declared.Answer.{Answer}
 use Rattle.text.specs.declared.Answer.the-variants.{Done, Refused}
 use Rattle.output.specs.Over.{over}
-use Rattle.output.specs.Runs.{Plain}
 use Rattle.tokens.specs.Tokens.{Stop, Token, copy, stop, Head, head, Heads, skipOf, ended, endless, nameAt}
 use Rattle.tokens.specs.Outcome.{Outcome, done, refused, produced, answerOf, answerIn, leftIn}
 use Rattle.tokens.specs.declared.Step.{Step}
 use Rattle.tokens.specs.declared.Step.the-variants.{Next, Stopped}
-
--- Attribute walk: bytes between stops are copied; no stop byte from `i` up to `e`, and at `e` there is a stop byte or the text's end
-pub record RunEnd (stops : ℕ → Bool) (text : List ℕ) (i e : ℕ) : Type 0 where
-  pub run : Plain stops text i e
-  pub ends : e < length text → stops (getD text e 0) ≡ true
-
--- a search through `n` bytes from `i` on: the first stop among them is at `e`, or `e` is the place after them
-pub record Within (stops : ℕ → Bool) (text : List ℕ) (i n e : ℕ) : Type 0 where
-  pub run : Plain stops text i e
-  pub to : e ≤ i + n
-  pub ends : e < i + n → stops (getD text e 0) ≡ true
 
 -- the stop test fits the reading of heads: any other byte is copied
 abbrev pub Copies : (ℕ → Bool) → Heads → Type 0

@@ -1,4 +1,3 @@
-pub mod Puts
 pub mod Stops
 pub mod Known
 pub mod Turns

@@ -15,6 +15,7 @@ use Rattle.charref.specs.declared.Quick.{Quick}
 use Rattle.entity.specs.Binding.{Bound, boundTo, Lies}
 use Rattle.entity.specs.declared.Binding.the-variants.{Text, Predefined, Unknown}
 use Rattle.output.specs.Over.{over}
+use Rattle.runs.specs.RunEnds.{isAmp}
 use Rattle.tokens.specs.Tokens.{stop, unterminated}
 use Rattle.tokens.specs.Outcome.{Outcome, done, refused, numberOutcome}
 use Rattle.tokens.specs.Walking.{Copies, NameEnd, headAt, Stepped}
@@ -25,7 +26,7 @@ use Rattle.tokens.proofs.Numbers.{Small, number-small, number-written}
 use Rattle.tokens.proofs.Names.{closed-reference}
 use Rattle.tokens.proofs.References.{reference, reference-none, reference-number, reference-named}
 use Rattle.unescape.specs.Unescape.{textHead, copied, replaced}
-use Rattle.unescape.specs.Steps.{isAmp, Short, Near, Named, Referred}
+use Rattle.unescape.specs.Steps.{Short, Near, Named, Referred}
 
 -- every byte but `&` is copied
 pub others-copied : Copies isAmp textHead

@@ -12,8 +12,9 @@ use Rattle.text.specs.declared.Answer.the-variants.{Done, Refused}
 use Rattle.entity.specs.Binding.{Bound}
 use Rattle.output.specs.Runs.{Plain}
 use Rattle.output.proofs.Clip.{over-nothing}
+use Rattle.runs.specs.RunEnds.{RunEnd, Put, isAmp}
 use Rattle.tokens.specs.Outcome.{Outcome, done, produced}
-use Rattle.tokens.specs.Walking.{RunEnd, Walked}
+use Rattle.tokens.specs.Walking.{Walked}
 use Rattle.tokens.specs.Seen.{Kept, nextPlace, seenSize}
 use Rattle.tokens.specs.Memory.{Advanced}
 use Rattle.tokens.specs.declared.Step.{Step}
@@ -22,7 +23,7 @@ use Rattle.tokens.proofs.Progress.{run-whole, progress-length, progress-end}
 use Rattle.tokens.proofs.Memory.{memory-kept}
 use Rattle.tokens.proofs.Going.{Going, going-start, going-run, going-step, going-refused}
 use Rattle.unescape.specs.Unescape.{textHead, replaced, unescape}
-use Rattle.unescape.specs.Steps.{isAmp, Put, Near, Referred, unescaping}
+use Rattle.unescape.specs.Steps.{Near, Referred, unescaping}
 use Rattle.unescape.proofs.Stops.{others-copied}
 use Rattle.unescape.proofs.Known.{Known}
 

@@ -1,12 +1,9 @@
--- The terms in which unescaping is proved: its stop test, and what one step gives and how far it goes. Assumes nothing.
-use Prim.Native.Nat.{ℕ, _-_, _≤_, _<_}
+-- The terms in which unescaping is proved: what one step gives and how far it goes. Assumes nothing.
+use Prim.Native.Nat.{ℕ, _≤_, _<_}
 use mathlib.Core.Path.{_≡_}
-use mathlib.Core.Bool.{Bool}
 use mathlib.Core.List.{List}
-use lib.ListN.{length, take, drop}
-use lib.Dec.{eqb}
+use lib.ListN.{length}
 use Rattle.entity.specs.Binding.{Bound}
-use Rattle.output.specs.Over.{over}
 use Rattle.tokens.specs.Tokens.{tokenOf}
 use Rattle.tokens.specs.Outcome.{Outcome, done, refused}
 use Rattle.tokens.specs.Walking.{headAt, nextAt, outcomeOf, Stepped}
@@ -14,14 +11,6 @@ use Rattle.tokens.specs.Memory.{Walk}
 use Rattle.tokens.specs.declared.Step.{Step}
 use Rattle.tokens.specs.declared.Step.the-variants.{Next, Stopped}
 use Rattle.unescape.specs.Unescape.{textHead, copied, replaced}
-
--- Unescaping: the one byte at which a run ends
-abbrev pub isAmp : ℕ → Bool
-isAmp b = eqb b 38
-
--- the bytes from `i` up to `e` are written at the output's start, as many as there is room for
-abbrev pub Put : List ℕ → ℕ → ℕ → List ℕ → List ℕ → Type 0
-Put text i e old new = new ≡ over (take (e - i) (drop i text)) old
 
 -- Entity table: a text is at most 65,535 bytes; Unescaping: it is not opened
 abbrev pub Short : Outcome → Type 0

@@ -1,6 +1,5 @@
 // Unescaping: references become the characters and the texts that they stand for.
 ghost use mathlib.Core.Path.{_≡_};
-ghost use mathlib.Core.Bool.{true, false};
 ghost use mathlib.Core.List.{List, [], _∷_};
 ghost use Prim.Native.Nat.{ℕ, _+_, _-_, _≤_, _<_};
 ghost use lib.ListN.{length, getD};
@@ -8,197 +7,17 @@ ghost use Rattle.text.specs.Call.{callOf, longestText};
 ghost use Rattle.entity.specs.Table.{ValidTable};
 ghost use Rattle.entity.specs.Binding.{binding, boundTo, Lies};
 ghost use Rattle.tokens.specs.Outcome.{finished};
-ghost use Rattle.output.specs.Runs.{Plain};
-ghost use Rattle.tokens.specs.Walking.{RunEnd, Within, Walked};
+ghost use Rattle.tokens.specs.Walking.{Walked};
 ghost use Rattle.unescape.specs.Unescape.{unescape};
 ghost use Rattle.tokens.specs.Seen.{Kept, nextPlace};
 ghost use Rattle.tokens.specs.Memory.{Memory, Advanced};
 ghost use Rattle.output.specs.Over.{over};
-ghost use Rattle.unescape.specs.Steps.{isAmp, Put, Near, Named, Referred, unescaping};
+ghost use Rattle.unescape.specs.Steps.{Near, Named, Referred, unescaping};
 use entity::Binding;
 use text::Answer;
 use text::refusals;
 use tokens::Known;
 use tokens::Step;
-
-// Is one of the `size` bytes from i on a `&`?
-fn any_amp(text: &[u8], i: usize, size: usize) -> bool
-    requires { ⌜ i + size ≤ length (now text) ⌝ }
-    ensures { λ r. ⌜ (r ≡ false → Plain isAmp (now (text .entry)) i (i + size)) ⌝ }
-{
-    output::any_of(text, i, size, b'&', b'&')
-}
-
-// Passes blocks of `size` bytes that have no `&`.
-fn amp_blocks(text: &[u8], from: usize, size: usize) -> usize
-    requires { ⌜ (from ≤ length (now text)) × (1 ≤ size) ⌝ }
-    ensures { λ r. ⌜ Plain isAmp (now (text .entry)) from r ⌝ }
-{
-    let mut i = from;
-    while size <= text.len() - i {
-        if any_amp(text, i, size) {
-            return i;
-        }
-        i += size;
-    }
-    i
-}
-
-// The next `&` among the `size` bytes from `from` on, else the place after them.
-fn near_amp(text: &[u8], from: usize, size: usize) -> usize
-    requires { ⌜ from + size ≤ length (now text) ⌝ }
-    ensures { λ r. ⌜ Within isAmp (now (text .entry)) from size r ⌝ }
-{
-    for k in 0..size {
-        if text[from + k] == b'&' {
-            return from + k;
-        }
-    }
-    from + size
-}
-
-// The next `&` from `from` on, or the text's end, byte by byte.
-fn bytes_amp(text: &[u8], from: usize) -> usize
-    requires { ⌜ from ≤ length (now text) ⌝ }
-    ensures { λ r. ⌜ RunEnd isAmp (now (text .entry)) from r ⌝ }
-{
-    let mut i = from;
-    while i < text.len() {
-        if text[i] == b'&' {
-            return i;
-        }
-        i += 1;
-    }
-    i
-}
-
-// Has the text no `&`? The bytes after its last whole block are tested in one that ends with the text.
-fn is_whole(text: &[u8]) -> bool
-    ensures { λ r. ⌜ (r ≡ true → Plain isAmp (now (text .entry)) 0 (length (now (text .entry)))) ⌝ }
-{
-    let block = amp_blocks(text, amp_blocks(text, 0, 64), 16);
-    if 16 <= text.len() - block {
-        return false;
-    }
-    if text.len() < 16 {
-        return bytes_amp(text, block) == text.len();
-    }
-    if any_amp(text, text.len() - 16, 16) {
-        return false;
-    }
-    true
-}
-
-// The next `&` from `from` on, or the text's end, by blocks. After a short run, of `last` bytes, it is often near, and is looked for
-// byte by byte first; after a long one it is often far, and is looked for by wider blocks.
-fn amp_end(text: &[u8], from: usize, last: usize) -> usize
-    requires { ⌜ from ≤ length (now text) ⌝ }
-    ensures { λ r. ⌜ RunEnd isAmp (now (text .entry)) from r ⌝ }
-{
-    let mut i = from;
-    if 16 <= last {
-        i = amp_blocks(text, from, 32);
-    } else if 12 <= text.len() - from {
-        i = near_amp(text, from, 12);
-        if i < from + 12 {
-            return i;
-        }
-    }
-    while 16 <= text.len() - i {
-        if any_amp(text, i, 16) {
-            let near = near_amp(text, i, 16);
-            if near < i + 16 {
-                return near;
-            }
-        }
-        i += 16;
-    }
-    bytes_amp(text, i)
-}
-
-// The next `&` among `size` bytes, else the place after them; the bytes before it are copied.
-fn put_near(text: &[u8], from: usize, size: usize, out: &mut [u8]) -> usize
-    requires { ⌜ from + size ≤ length (now text) ⌝ }
-    requires { ⌜ size ≤ length (now out) ⌝ }
-    ensures { λ r. ⌜ Within isAmp (now (text .entry)) from size r × Put (now (text .entry)) from r (now (out .entry)) (now (out .exit)) ⌝ }
-{
-    for k in 0..size {
-        let b = text[from + k];
-        if b == b'&' {
-            return from + k;
-        }
-        out[k] = b;
-    }
-    from + size
-}
-
-// The next `&` from `from` on, or the text's end; the bytes before it are copied while it is searched, one by one.
-fn put_bytes(text: &[u8], from: usize, out: &mut [u8]) -> usize
-    requires { ⌜ from ≤ length (now text) ⌝ }
-    ensures { λ r. ⌜ RunEnd isAmp (now (text .entry)) from r × Put (now (text .entry)) from r (now (out .entry)) (now (out .exit)) ⌝ }
-{
-    let mut i = from;
-    while i < text.len() {
-        let b = text[i];
-        if b == b'&' {
-            return i;
-        }
-        output::put_byte(b, i - from, out);
-        i += 1;
-    }
-    i
-}
-
-// Copies blocks of 32 bytes that have no `&`, among the `room` bytes from `from` on. How many bytes these are.
-fn put_wide(text: &[u8], from: usize, room: usize, out: &mut [u8]) -> usize
-    requires { ⌜ (from + room ≤ length (now text)) × (room ≤ length (now out)) ⌝ }
-    ensures { λ r. ⌜ (r ≤ room) × Plain isAmp (now (text .entry)) from (from + r) × Put (now (text .entry)) from (from + r) (now (out .entry)) (now (out .exit)) ⌝ }
-{
-    let mut k: usize = 0;
-    while 32 <= room - k {
-        let i = from + k;
-        if any_amp(text, i, 32) {
-            return k;
-        }
-        output::put_block(&text[i..i + 16], &mut out[k..]);
-        let half = k + 16;
-        let j = from + half;
-        output::put_block(&text[j..j + 16], &mut out[half..]);
-        k += 32;
-    }
-    k
-}
-
-// The next `&` from `from` on, or the text's end, with the bytes before it copied: by blocks, as amp_end looks for it.
-fn put_to_amp(text: &[u8], from: usize, last: usize, out: &mut [u8]) -> usize
-    requires { ⌜ from ≤ length (now text) ⌝ }
-    ensures { λ r. ⌜ RunEnd isAmp (now (text .entry)) from r × Put (now (text .entry)) from r (now (out .entry)) (now (out .exit)) ⌝ }
-{
-    let room = output::least(text.len() - from, out.len());
-    let mut k: usize = 0;
-    if 16 <= last {
-        k = put_wide(text, from, room, out);
-    } else if 12 <= room {
-        let near = put_near(text, from, 12, out);
-        if near < from + 12 {
-            return near;
-        }
-        k = 12;
-    }
-    while 16 <= room - k {
-        let i = from + k;
-        if any_amp(text, i, 16) {
-            let near = put_near(text, i, 16, &mut out[k..]);
-            if near < i + 16 {
-                return near;
-            }
-        } else {
-            output::put_block(&text[i..i + 16], &mut out[k..]);
-        }
-        k += 16;
-    }
-    put_bytes(text, from + k, &mut out[k..])
-}
 
 // What a bound name of `size` bytes stands for, its `&` at i: a text of the table is copied as a part of the pool.
 fn bound_step(
@@ -292,17 +111,6 @@ fn unescape_step(text: &[u8], i: usize, list: &[u8], pool: &[u8], out: &mut [u8]
     name_step(&text[start..end], i, end + 1, list, pool, out)
 }
 
-// The same. A walk that counts has no output, and only searches.
-fn run_to_amp(text: &[u8], from: usize, last: usize, out: &mut [u8]) -> usize
-    requires { ⌜ from ≤ length (now text) ⌝ }
-    ensures { λ r. ⌜ RunEnd isAmp (now (text .entry)) from r × Put (now (text .entry)) from r (now (out .entry)) (now (out .exit)) ⌝ }
-{
-    if out.len() == 0 {
-        return amp_end(text, from, last);
-    }
-    put_to_amp(text, from, last, out)
-}
-
 // The reference whose `&` is at i, after a value of `len` bytes: one that was met before, or a new one, which is then kept.
 fn known_step(
     text: &[u8],
@@ -357,7 +165,7 @@ fn unescape_runs(text: &[u8], list: &[u8], pool: &[u8], out: &mut [u8]) -> Answe
     let mut last: usize = 16;
     loop {
         let at = output::least(len, out.len());
-        let e = run_to_amp(text, i, last, &mut out[at..]);
+        let e = runs::amp::run_to_amp(text, i, last, &mut out[at..]);
         last = e - i;
         len += last;
         if e == text.len() {
@@ -420,7 +228,7 @@ pub fn unescape_with(text: &[u8], list: &[u8], pool: &[u8], out: &mut [u8]) -> A
     requires { ⌜ ValidTable (now list) (now pool) ⌝ }
     ensures { λ r. ⌜ callOf r (now (out .exit) ∷ []) ≡ finished (unescape (binding (now (list .entry)) (now (pool .entry))) (now (text .entry))) (now (out .entry)) ⌝ }
 {
-    if is_whole(text) {
+    if runs::amp::is_whole(text) {
         return tokens::copied_whole(text, refusals::NO_ROOM, out);
     }
     if 128 < text.len() {

@@ -5,7 +5,7 @@ use mathlib.Core.List.{List, [], _∷_, _++_}
 use Prim.Native.Nat.{ℕ, suc, _+_, _-_, _≤_, _<_, min}
 use native.Mathlib.Omega.{arith}
 use lib.ListN.{length, take, drop, getD, set, length-drop}
-use lib.Seq.{length-take-le, take-suc, getD-drop}
+use lib.Seq.{length-take-le, take-suc, take-add, getD-drop, drop-drop}
 use borrow.Rule.Slice.PartMut.{midOf, putMid, same-len-mid}
 use Rattle.text.specs.Call.{laid}
 use Rattle.output.specs.Over.{over}
@@ -13,10 +13,8 @@ use Rattle.output.specs.Runs.{Plain}
 use Rattle.output.proofs.Clip.{over-byte, over-fits, over-more, length-over}
 use Rattle.output.proofs.Laid.{rest-part}
 use Rattle.output.proofs.Runs.{plain-none, plain-join}
-use Rattle.tokens.specs.Walking.{RunEnd, Within}
-use Rattle.tokens.proofs.Runs.{piece-join}
-use Rattle.tokens.proofs.Search.{plain-next, within-here, within-none, end-after}
-use Rattle.unescape.specs.Steps.{Put}
+use Rattle.runs.specs.RunEnds.{RunEnd, Within, Put}
+use Rattle.runs.proofs.Search.{plain-next, within-here, within-none, end-after}
 
 piece-length : (text : List ℕ) (i e : ℕ) → e ≤ length text → length (take (e - i) (drop i text)) ≡ e - i
 piece-length text i e h = length-take-le (e - i) (drop i text) (rw length-drop (omega arith))
@@ -27,6 +25,14 @@ piece-byte text i e h g =
     let r : i + (e - i) ≡ e = omega arith in
     ap (λ (b : ℕ). take (e - i) (drop i text) ++ (b ∷ [])) (sym (getD-drop i text (e - i) 0 ∙ ap (λ (k : ℕ). getD text k 0) r))
     ∙ sym (take-suc (drop i text) (e - i) 0 (rw length-drop (omega arith))) ∙ ap (λ (k : ℕ). take k (drop i text)) q
+
+-- a run and the one after it
+piece-join : (text : List ℕ) (i e f : ℕ) → i ≤ e → e ≤ f → take (e - i) (drop i text) ++ take (f - e) (drop e text) ≡ take (f - i) (drop i text)
+piece-join text i e f h g =
+    let q : e - i + (f - e) ≡ f - i = omega arith in
+    let r : i + (e - i) ≡ e = omega arith in
+    ap (λ (l : List ℕ). take (e - i) (drop i text) ++ take (f - e) l) (sym (drop-drop (e - i) i text ∙ ap (λ (k : ℕ). drop k text) r))
+    ∙ sym (take-add (e - i) (f - e) (drop i text)) ∙ ap (λ (k : ℕ). take k (drop i text)) q
 
 module _ (text : List ℕ) (i : ℕ) (old : List ℕ) where
   pub put-none : Put text i i old old

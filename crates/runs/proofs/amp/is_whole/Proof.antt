@@ -1,16 +1,16 @@
 use native.Mathlib.Omega.{arith}
 use mathlib.Core.Path.{sym, subst}
 use mathlib.Core.Bool.{true≢false}
-use Prim.Native.Nat.{ℕ, _-_}
+use Prim.Native.Nat.{ℕ}
 use lib.ListN.{length}
 use borrow.Author.Tests.{eqb-true}
 use Rattle.output.specs.Runs.{Plain}
 use Rattle.output.proofs.Runs.{plain-join}
-use Rattle.unescape.specs.Steps.{isAmp}
-use Rattle.unescape.proofs.Puts.{plain-part}
+use Rattle.runs.specs.RunEnds.{isAmp}
+use Rattle.runs.proofs.Puts.{plain-part}
 use borrow.Author.Needs.{needs}
-use Rattle.unescape.proofs.is_whole.Statement.{statement}
-use Rattle.unescape.proofs.is_whole.Tie as tie
+use Rattle.runs.proofs.amp.is_whole.Statement.{statement}
+use Rattle.runs.proofs.amp.is_whole.Tie as tie
 
 amp-blocks-requires : tie.Need-amp-blocks-requires
 amp-blocks-requires c κs = search needs
@@ -28,10 +28,13 @@ bytes-amp-requires : tie.Need-bytes-amp-requires
 bytes-amp-requires c κs = search needs
 
 returns-2 : tie.Need-returns-2
-returns-2 c = λ q.
+returns-2 c =
+    let at-amp-blocks2 = c .before .before .before .amp-blocks2 in
+    let at-amp-blocks = c .before .before .before .before .amp-blocks in
+    λ q.
     let text = c .before .before .before .before .before .before .args .text .now in
-    let block = c .before .before .before .amp-blocks2 .result in
-    let before = plain-join isAmp text 0 (c .before .before .before .before .amp-blocks .result) block (c .before .before .before .before .amp-blocks .ensures) (c .before .before .before .amp-blocks2 .ensures) in
+    let block = at-amp-blocks2 .result in
+    let before = plain-join isAmp text 0 (at-amp-blocks .result) block (at-amp-blocks .ensures) (at-amp-blocks2 .ensures) in
     subst (λ (e : ℕ). Plain isAmp text 0 e) (eqb-true (c .bytes-amp .result) (length text) q) (plain-join isAmp text 0 block (c .bytes-amp .result) before (c .bytes-amp .ensures .run))
 
 sub-any-amp : tie.Need-sub-any-amp
@@ -44,10 +47,13 @@ returns-3 : tie.Need-returns-3
 returns-3 c = λ e. absurd (true≢false (sym e))
 
 returns-4 : tie.Need-returns-4
-returns-4 c = λ e.
+returns-4 c =
+    let at-amp-blocks2 = c .before .before .before .before .amp-blocks2 in
+    let at-amp-blocks = c .before .before .before .before .before .amp-blocks in
+    λ e.
     let text = c .before .before .before .before .before .before .before .args .text .now in
-    let block = c .before .before .before .before .amp-blocks2 .result in
-    let before = plain-join isAmp text 0 (c .before .before .before .before .before .amp-blocks .result) block (c .before .before .before .before .before .amp-blocks .ensures) (c .before .before .before .before .amp-blocks2 .ensures) in
+    let block = at-amp-blocks2 .result in
+    let before = plain-join isAmp text 0 (at-amp-blocks .result) block (at-amp-blocks .ensures) (at-amp-blocks2 .ensures) in
     let last = c .before .any-amp .ensures (c .if3 .left) in
     plain-join isAmp text 0 block (length text) before (plain-part isAmp text block (length text) last (omega (arith, c .before .before .before .if1 .left)) (before .to) (omega (arith, c .before .before .if2 .left)))
 

@@ -5,12 +5,12 @@ use Prim.Native.Nat.{ℕ, _+_, _-_}
 use lib.ListN.{length}
 use Rattle.output.specs.Runs.{Plain}
 use Rattle.output.proofs.Runs.{plain-none, plain-join}
-use Rattle.unescape.specs.Steps.{isAmp}
-use Rattle.unescape.proofs.Puts.{within-all}
-use Rattle.tokens.proofs.Search.{end-near, end-after}
+use Rattle.runs.specs.RunEnds.{isAmp}
+use Rattle.runs.proofs.Puts.{within-all}
+use Rattle.runs.proofs.Search.{end-near, end-after}
 use borrow.Author.Needs.{needs}
-use Rattle.unescape.proofs.amp_end.Statement.{statement}
-use Rattle.unescape.proofs.amp_end.Tie as tie
+use Rattle.runs.proofs.amp.amp_end.Statement.{statement}
+use Rattle.runs.proofs.amp.amp_end.Tie as tie
 
 abbrev Inv-loop : tie.InvT-loop
 Inv-loop text from last i₀ i = Plain isAmp text from i
@@ -31,12 +31,15 @@ add-if3 : tie.Need-add-if3 Inv-loop μ-loop
 add-if3 c = omega (arith, c .before .if2 .taken)
 
 returns : tie.Need-returns Inv-loop μ-loop
-returns c = end-near isAmp (c .before .before .before .before .before .args .text .now) (c .before .before .before .before .before .args .from) (c .before .near-amp .ensures) (c .if3 .taken)
+returns c =
+    let given = c .before .before .before .before .before .args in
+    end-near isAmp (given .text .now) (given .from) (c .before .near-amp .ensures) (c .if3 .taken)
 
 loop-holds : tie.Need-loop-holds Inv-loop μ-loop
 loop-holds c =
-    let text = c .before .before .args .text .now in
-    let from = c .before .before .args .from in
+    let given = c .before .before .args in
+    let text = given .text .now in
+    let from = given .from in
     ⊎-elim
     {C = Plain isAmp text from (c .if1 .i)}
     (λ w. subst (λ (e : ℕ). Plain isAmp text from e) (sym (w .2)) (w .1 .ensures))
@@ -60,7 +63,10 @@ add-if5 : tie.Need-add-if5 Inv-loop μ-loop
 add-if5 c = omega (arith, c .before .before .before .before .before .loop .inv .to, c .before .before .before .before .loop-test .taken)
 
 returns-2 : tie.Need-returns-2 Inv-loop μ-loop
-returns-2 c = end-after isAmp (c .before .before .before .before .before .before .before .before .before .args .text .now) (c .before .before .before .before .before .before .before .before .before .args .from) (c .before .before .before .before .before .before .loop .inv) (end-near isAmp (c .before .before .before .before .before .before .before .before .before .args .text .now) (c .before .before .before .before .before .before .loop .i) (c .before .before .near-amp2 .ensures) (c .if5 .taken))
+returns-2 c =
+    let given = c .before .before .before .before .before .before .before .before .before .args in
+    let kept = c .before .before .before .before .before .before .loop in
+    end-after isAmp (given .text .now) (given .from) (kept .inv) (end-near isAmp (given .text .now) (kept .i) (c .before .before .near-amp2 .ensures) (c .if5 .taken))
 
 add-i : tie.Need-add-i Inv-loop μ-loop
 add-i c = omega (arith, c .before .before .before .before .loop .inv .to, c .before .before .before .loop-test .taken)
@@ -70,16 +76,20 @@ loop-less c = omega (arith, c .before .before .before .before .loop .inv .to, c 
 
 loop-again : tie.Need-loop-again Inv-loop μ-loop
 loop-again c =
-    let text = c .before .before .before .before .before .before .before .args .text .now in
-    let i = c .before .before .before .before .loop .i in
-    plain-join isAmp text (c .before .before .before .before .before .before .before .args .from) i (i + 16) (c .before .before .before .before .loop .inv)
+    let given = c .before .before .before .before .before .before .before .args in
+    let kept = c .before .before .before .before .loop in
+    let text = given .text .now in
+    let i = kept .i in
+    plain-join isAmp text (given .from) i (i + 16) (kept .inv)
     (⊎-elim {C = Plain isAmp text i (i + 16)} (λ w. within-all isAmp text i 16 (w .1 .ensures) (w .3 .left)) (λ w. c .before .before .any-amp .ensures (w .left)) (c .before .if4 .came))
 
 bytes-amp-requires : tie.Need-bytes-amp-requires Inv-loop μ-loop
 bytes-amp-requires c κs = c .before .loop .inv .to
 
 returns-3 : tie.Need-returns-3 Inv-loop μ-loop
-returns-3 c = end-after isAmp (c .before .before .before .before .before .args .text .now) (c .before .before .before .before .before .args .from) (c .before .before .loop .inv) (c .bytes-amp .ensures)
+returns-3 c =
+    let given = c .before .before .before .before .before .args in
+    end-after isAmp (given .text .now) (given .from) (c .before .before .loop .inv) (c .bytes-amp .ensures)
 
 pub amp-end-spec : {M : Type 1} → statement M
 amp-end-spec =

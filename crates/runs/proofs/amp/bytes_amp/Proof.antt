@@ -5,9 +5,9 @@ use borrow.Author.Tests.{eq-eqb, ne-eqb}
 use borrow.Author.Needs.{needs}
 use Rattle.output.specs.Runs.{Plain}
 use Rattle.output.proofs.Runs.{plain-none, plain-byte, plain-join}
-use Rattle.unescape.specs.Steps.{isAmp}
-use Rattle.unescape.proofs.bytes_amp.Statement.{statement}
-use Rattle.unescape.proofs.bytes_amp.Tie as tie
+use Rattle.runs.specs.RunEnds.{isAmp}
+use Rattle.runs.proofs.amp.bytes_amp.Statement.{statement}
+use Rattle.runs.proofs.amp.bytes_amp.Tie as tie
 
 abbrev Inv-loop : tie.InvT-loop
 Inv-loop text from i₀ i = Plain isAmp text from i
@@ -31,7 +31,10 @@ loop-less : tie.Need-loop-less Inv-loop μ-loop
 loop-less c = search needs
 
 loop-again : tie.Need-loop-again Inv-loop μ-loop
-loop-again c = plain-join isAmp (c .before .before .before .before .args .text .now) (c .before .before .before .before .args .from) (c .before .before .before .loop .i) _ (c .before .before .before .loop .inv) (plain-byte isAmp (c .before .before .before .before .args .text .now) (c .before .before .before .loop .i) (c .before .before .loop-test .taken) (ne-eqb _ 38 (c .if1 .left)))
+loop-again c =
+    let given = c .before .before .before .before .args in
+    let kept = c .before .before .before .loop in
+    plain-join isAmp (given .text .now) (given .from) (kept .i) _ (kept .inv) (plain-byte isAmp (given .text .now) (kept .i) (c .before .before .loop-test .taken) (ne-eqb _ 38 (c .if1 .left)))
 
 returns-2 : tie.Need-returns-2 Inv-loop μ-loop
 returns-2 c = record { run = c .before .loop .inv; ends = λ h. absurd (omega (arith, c .loop-test .left)) }

@@ -2,8 +2,8 @@ use lib.Dec.{eqb}
 use Rattle.text.proofs.Bytes.{or-left}
 use Rattle.output.proofs.Runs.{plain-both}
 use borrow.Author.Needs.{needs}
-use Rattle.unescape.proofs.any_amp.Statement.{statement}
-use Rattle.unescape.proofs.any_amp.Tie as tie
+use Rattle.runs.proofs.amp.any_amp.Statement.{statement}
+use Rattle.runs.proofs.amp.any_amp.Tie as tie
 
 any-of-requires : tie.Need-any-of-requires
 any-of-requires c κs = search needs

@@ -3,9 +3,9 @@ use native.Mathlib.Omega.{arith}
 use lib.ListN.{length}
 use Rattle.output.specs.Runs.{Plain}
 use Rattle.output.proofs.Runs.{plain-none, plain-join}
-use Rattle.unescape.specs.Steps.{isAmp}
-use Rattle.unescape.proofs.amp_blocks.Statement.{statement}
-use Rattle.unescape.proofs.amp_blocks.Tie as tie
+use Rattle.runs.specs.RunEnds.{isAmp}
+use Rattle.runs.proofs.amp.amp_blocks.Statement.{statement}
+use Rattle.runs.proofs.amp.amp_blocks.Tie as tie
 
 abbrev Inv-loop : tie.InvT-loop
 Inv-loop text from size i₀ i = Plain isAmp text from i
@@ -32,7 +32,10 @@ loop-less : tie.Need-loop-less Inv-loop μ-loop
 loop-less c = omega (arith, c .before .before .before .loop .inv .to, c .before .before .before .before .before .pre .1)
 
 loop-again : tie.Need-loop-again Inv-loop μ-loop
-loop-again c = plain-join isAmp (c .before .before .before .before .before .args .text .now) (c .before .before .before .before .before .args .from) (c .before .before .before .loop .i) _ (c .before .before .before .loop .inv) (c .before .any-amp .ensures (c .if1 .left))
+loop-again c =
+    let given = c .before .before .before .before .before .args in
+    let kept = c .before .before .before .loop in
+    plain-join isAmp (given .text .now) (given .from) (kept .i) _ (kept .inv) (c .before .any-amp .ensures (c .if1 .left))
 
 returns-2 : tie.Need-returns-2 Inv-loop μ-loop
 returns-2 c = c .before .loop .inv

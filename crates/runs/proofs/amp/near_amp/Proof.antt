@@ -5,10 +5,10 @@ use borrow.Author.Tests.{eq-eqb, ne-eqb}
 use borrow.Author.Needs.{needs}
 use Rattle.output.specs.Runs.{Plain}
 use Rattle.output.proofs.Runs.{plain-none}
-use Rattle.unescape.specs.Steps.{isAmp}
-use Rattle.tokens.proofs.Search.{plain-next, within-here, within-none}
-use Rattle.unescape.proofs.near_amp.Statement.{statement}
-use Rattle.unescape.proofs.near_amp.Tie as tie
+use Rattle.runs.specs.RunEnds.{isAmp}
+use Rattle.runs.proofs.Search.{plain-next, within-here, within-none}
+use Rattle.runs.proofs.amp.near_amp.Statement.{statement}
+use Rattle.runs.proofs.amp.near_amp.Tie as tie
 
 abbrev Inv-loop : tie.InvT-loop
 Inv-loop text from size k₀ k = (k ≤ size) × Plain isAmp text from (from + k)
@@ -31,7 +31,10 @@ add-result : tie.Need-add-result Inv-loop μ-loop
 add-result c = search needs
 
 returns : tie.Need-returns Inv-loop μ-loop
-returns c = within-here isAmp (c .before .before .before .before .args .text .now) (c .before .before .before .before .args .from) (c .before .before .before .before .args .size) (c .before .before .before .loop .k) (c .before .before .loop-test .taken) (c .before .before .before .loop .inv .1) (eq-eqb _ 38 (c .if1 .taken))
+returns c =
+    let given = c .before .before .before .before .args in
+    let kept = c .before .before .before .loop in
+    within-here isAmp (given .text .now) (given .from) (given .size) (kept .k) (c .before .before .loop-test .taken) (kept .inv .1) (eq-eqb _ 38 (c .if1 .taken))
 
 add-k : tie.Need-add-k Inv-loop μ-loop
 add-k c = search needs
@@ -40,15 +43,19 @@ loop-less : tie.Need-loop-less Inv-loop μ-loop
 loop-less c = search needs
 
 loop-again : tie.Need-loop-again Inv-loop μ-loop
-loop-again c = (search needs, plain-next isAmp (c .before .before .before .before .args .text .now) (c .before .before .before .before .args .from) (c .before .before .before .loop .k) (omega (arith, c .before .before .before .before .pre, c .before .before .loop-test .taken)) (c .before .before .before .loop .inv .1) (ne-eqb _ 38 (c .if1 .left)))
+loop-again c =
+    let given = c .before .before .before .before .args in
+    let kept = c .before .before .before .loop in
+    (search needs, plain-next isAmp (given .text .now) (given .from) (kept .k) (omega (arith, c .before .before .before .before .pre, c .before .before .loop-test .taken)) (kept .inv .1) (ne-eqb _ 38 (c .if1 .left)))
 
 add-result-2 : tie.Need-add-result-2 Inv-loop μ-loop
 add-result-2 c = search needs
 
 returns-2 : tie.Need-returns-2 Inv-loop μ-loop
 returns-2 c =
-    let q : c .before .loop .k ≡ c .before .before .args .size = omega (arith, c .before .loop .inv .0, c .loop-test .left) in
-    within-none isAmp (c .before .before .args .text .now) (c .before .before .args .from) (c .before .before .args .size) (rw q at (c .before .loop .inv .1))
+    let given = c .before .before .args in
+    let q : c .before .loop .k ≡ given .size = omega (arith, c .before .loop .inv .0, c .loop-test .left) in
+    within-none isAmp (given .text .now) (given .from) (given .size) (rw q at (c .before .loop .inv .1))
 
 pub near-amp-spec : {M : Type 1} → statement M
 near-amp-spec =

@@ -2,14 +2,16 @@ use lib.ListN.{take, drop}
 use Prim.Native.Nat.{_-_}
 use Rattle.output.proofs.Clip.{over-empty}
 use borrow.Author.Needs.{needs}
-use Rattle.unescape.proofs.run_to_amp.Statement.{statement}
-use Rattle.unescape.proofs.run_to_amp.Tie as tie
+use Rattle.runs.proofs.amp.run_to_amp.Statement.{statement}
+use Rattle.runs.proofs.amp.run_to_amp.Tie as tie
 
 amp-end-requires : tie.Need-amp-end-requires
 amp-end-requires c κs = search needs
 
 returns : tie.Need-returns
-returns c = (c .amp-end .ensures, over-empty (take (c .amp-end .result - c .before .before .before .before .args .from) (drop (c .before .before .before .before .args .from) (c .before .before .before .before .args .text .now))) (c .before .before .before .before .args .out .now) (c .before .if1 .taken))
+returns c =
+    let given = c .before .before .before .before .args in
+    (c .amp-end .ensures, over-empty (take (c .amp-end .result - given .from) (drop (given .from) (given .text .now))) (given .out .now) (c .before .if1 .taken))
 
 put-to-amp-requires : tie.Need-put-to-amp-requires
 put-to-amp-requires c κs = search needs

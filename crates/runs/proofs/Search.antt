@@ -7,7 +7,7 @@ use native.Mathlib.Omega.{arith}
 use lib.ListN.{length, getD}
 use Rattle.output.specs.Runs.{Plain}
 use Rattle.output.proofs.Runs.{plain-byte, plain-join}
-use Rattle.tokens.specs.Walking.{RunEnd, Within}
+use Rattle.runs.specs.RunEnds.{RunEnd, Within}
 
 module _ (stops : ℕ → Bool) (text : List ℕ) (i : ℕ) where
   -- one byte more
@@ -29,6 +29,3 @@ module _ (stops : ℕ → Bool) (text : List ℕ) (i : ℕ) where
   module _ {n e : ℕ} (w : Within stops text i n e) where
     pub end-near : e < i + n → RunEnd stops text i e
     end-near h = record { run = w .run; ends = λ l. w .ends h }
-
-    pub end-far : {f : ℕ} → RunEnd stops text e f → RunEnd stops text i f
-    end-far {f} r = end-after (w .run) r
