@@ -1,11 +1,8 @@
--- `any_of` keeps: while nothing is hit, the k bytes tested so far are neither a nor b; each turn adds one (`below-more`).
-use mathlib.Core.Path.{_≡_}
-use mathlib.Core.Bool.{false}
-use Prim.Native.Nat.{ℕ, _+_, _-_, _≤_, _<_}
-use native.Mathlib.Omega.{arith}
+-- `any_of` tests `size` bytes with no branch (`Missed`): where nothing hit, none of them is a or b.
+use mathlib.Core.Path.{refl}
+use Prim.Native.Nat.{ℕ, _+_, _-_}
 use lib.ListN.{getD}
-use borrow.Author.Count.{below-none, below-more}
-use Rattle.text.proofs.Bytes.{or-left, or-right}
+use Rattle.text.proofs.Missed.{Missed, missed-start, missed-more, missed-all}
 use Rattle.output.specs.Runs.{eitherByte}
 use Rattle.output.proofs.Runs.{plain-of}
 use borrow.Author.Needs.{needs}
@@ -13,13 +10,13 @@ use Rattle.output.proofs.any_of.Statement.{statement}
 use Rattle.output.proofs.any_of.Tie as tie
 
 abbrev Inv-loop : tie.InvT-loop
-Inv-loop text i size a b hit₀ k₀ hit k = (k ≤ size) × (hit ≡ false → (m : ℕ) → m < k → eitherByte a b (getD text (i + m) 0) ≡ false)
+Inv-loop text i size a b hit₀ k₀ hit k = Missed (λ (m : ℕ). eitherByte a b (getD text (i + m) 0)) size hit k
 
 abbrev μ-loop : tie.MeasureT-loop
 μ-loop text i size a b hit₀ k₀ hit k = size - k
 
 loop-holds : tie.Need-loop-holds Inv-loop μ-loop
-loop-holds c = (search needs, λ e. below-none _)
+loop-holds c = missed-start _ _
 
 add-hit : tie.Need-add-hit Inv-loop μ-loop
 add-hit c = search needs
@@ -40,13 +37,10 @@ loop-less : tie.Need-loop-less Inv-loop μ-loop
 loop-less c = search needs
 
 loop-again : tie.Need-loop-again Inv-loop μ-loop
-loop-again c =
-    let kept = c .before .before .before .loop in
-    let s = c .before .before .before .before .args in
-    (search needs, λ e. below-more (λ (m : ℕ). eitherByte (s .a) (s .b) (getD (s .text .now) (s .i + m) 0) ≡ false) _ (kept .inv .1 (or-left _ _ e)) (or-right (kept .hit) _ e))
+loop-again c = let turn = c .before .before in missed-more _ (turn .before .loop .inv) (turn .loop-test .taken) refl
 
 returns : tie.Need-returns Inv-loop μ-loop
-returns c = λ e. plain-of _ _ _ (c .before .before .args .size) (c .before .before .pre) (λ m h. c .before .loop .inv .1 e m (omega arith))
+returns c = λ e. plain-of _ _ _ (c .before .before .args .size) (c .before .before .pre) (missed-all _ (c .before .loop .inv) (c .loop-test .left) e)
 
 pub any-of-spec : {M : Type 1} → statement M
 any-of-spec =
