@@ -1,23 +1,19 @@
--- `utils::any_closing` tests each byte of a block. The invariant: `]]>` stands at none of those passed. Assumes nothing.
-use Prim.Native.Nat.{_-_, _≤_}
-use native.Mathlib.Omega.{arith}
-use mathlib.Core.Path.{_≡_, sym, _∙_}
-use mathlib.Core.Bool.{false}
-use borrow.Author.Count.{below-none, below-more}
-use Rattle.text.proofs.Bytes.{or-left, or-right}
-use Rattle.utils.specs.Blocks.{Clear}
+-- `any_closing` tests `count` bytes with no branch (`Missed`): where nothing hit, `]]>` stands at none of them. Assumes nothing.
+use Prim.Native.Nat.{ℕ, _+_, _-_}
+use Rattle.text.proofs.Missed.{Missed, missed-start, missed-more, missed-all}
+use Rattle.utils.specs.Blocks.{closesAt}
 use borrow.Author.Needs.{needs}
 use Rattle.utils.proofs.any_closing.Statement.{statement}
 use Rattle.utils.proofs.any_closing.Tie as tie
 
 abbrev Inv-loop : tie.InvT-loop
-Inv-loop text i count hit₀ k₀ hit k = (k ≤ count) × (hit ≡ false → Clear text i k)
+Inv-loop text i count hit₀ k₀ hit k = Missed (λ (m : ℕ). closesAt text (i + m)) count hit k
 
 abbrev μ-loop : tie.MeasureT-loop
 μ-loop text i count hit₀ k₀ hit k = count - k
 
 loop-holds : tie.Need-loop-holds Inv-loop μ-loop
-loop-holds c = (search needs, λ e. record { clear = below-none _ })
+loop-holds c = missed-start _ _
 
 add-closes-at : tie.Need-add-closes-at Inv-loop μ-loop
 add-closes-at c = search needs
@@ -32,12 +28,10 @@ loop-less : tie.Need-loop-less Inv-loop μ-loop
 loop-less c = search needs
 
 loop-again : tie.Need-loop-again Inv-loop μ-loop
-loop-again c =
-    let l = c .before .before .loop in
-    (omega arith, λ e. record { clear = below-more _ _ (l .inv .1 (or-left _ _ e) .clear) (sym (c .closes-at .ensures) ∙ or-right (l .hit) _ e) })
+loop-again c = missed-more _ (c .before .before .loop .inv) (c .before .loop-test .taken) (c .closes-at .ensures)
 
 returns : tie.Need-returns Inv-loop μ-loop
-returns c = λ e. record { clear = λ m h. c .before .loop .inv .1 e .clear m (omega arith) }
+returns c = λ e. record { clear = missed-all _ (c .before .loop .inv) (c .loop-test .left) e }
 
 pub any-closing-spec : {M : Type 1} → statement M
 any-closing-spec =

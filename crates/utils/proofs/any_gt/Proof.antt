@@ -1,24 +1,22 @@
--- `utils::any_gt`: where no byte is `>`, no `]]>` ends. The invariant: none stands at the bytes passed. Assumes nothing.
-use Prim.Native.Nat.{_+_, _-_, _≤_}
-use native.Mathlib.Omega.{arith}
-use mathlib.Core.Path.{_≡_}
-use mathlib.Core.Bool.{false}
-use borrow.Author.Count.{below-none, below-more}
-use Rattle.text.proofs.Bytes.{or-left, or-right}
-use Rattle.utils.specs.Blocks.{Clear}
+-- `any_gt` tests `count` bytes with no branch (`Missed`): where none is `>`, no `]]>` ends there. Assumes nothing.
+use Prim.Native.Nat.{ℕ, _+_, _-_}
+use mathlib.Core.Path.{refl}
+use lib.Dec.{eqb}
+use lib.ListN.{getD}
+use Rattle.text.proofs.Missed.{Missed, missed-start, missed-more, missed-all}
 use Rattle.utils.proofs.Cuts.{no-gt}
 use borrow.Author.Needs.{needs}
 use Rattle.utils.proofs.any_gt.Statement.{statement}
 use Rattle.utils.proofs.any_gt.Tie as tie
 
 abbrev Inv-loop : tie.InvT-loop
-Inv-loop text i count hit₀ k₀ hit k = (k ≤ count) × (hit ≡ false → Clear text i k)
+Inv-loop text i count hit₀ k₀ hit k = Missed (λ (m : ℕ). eqb (getD text (i + m + 2) 0) 62) count hit k
 
 abbrev μ-loop : tie.MeasureT-loop
 μ-loop text i count hit₀ k₀ hit k = count - k
 
 loop-holds : tie.Need-loop-holds Inv-loop μ-loop
-loop-holds c = (search needs, λ e. record { clear = below-none _ })
+loop-holds c = missed-start _ _
 
 add-hit : tie.Need-add-hit Inv-loop μ-loop
 add-hit c = search needs
@@ -36,13 +34,13 @@ loop-less : tie.Need-loop-less Inv-loop μ-loop
 loop-less c = search needs
 
 loop-again : tie.Need-loop-again Inv-loop μ-loop
-loop-again c =
-    let given = c .before .before .before .args in
-    let l = c .before .before .loop in
-    (omega arith, λ e. record { clear = below-more _ _ (l .inv .1 (or-left _ _ e) .clear) (no-gt (given .text .now) (given .i + l .k) (or-right (l .hit) _ e)) })
+loop-again c = missed-more _ (c .before .before .loop .inv) (c .before .loop-test .taken) refl
 
 returns : tie.Need-returns Inv-loop μ-loop
-returns c = λ e. record { clear = λ m h. c .before .loop .inv .1 e .clear m (omega arith) }
+returns c =
+    λ e.
+    let given = c .before .before .args in
+    record { clear = λ m h. no-gt (given .text .now) (given .i + m) (missed-all _ (c .before .loop .inv) (c .loop-test .left) e m h) }
 
 pub any-gt-spec : {M : Type 1} → statement M
 any-gt-spec =

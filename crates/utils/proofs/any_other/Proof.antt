@@ -1,24 +1,23 @@
--- `utils::any_other` tests each of 32 bytes. The invariant: where none has hit, those passed are white space. Assumes nothing.
-use Prim.Native.Nat.{_-_, _≤_}
-use native.Mathlib.Omega.{arith}
-use mathlib.Core.Path.{_≡_, sym, _∙_}
-use mathlib.Core.Bool.{false}
-use borrow.Author.Count.{below-none, below-more}
+-- `any_other` tests 32 bytes with no branch (`Missed`): where nothing hit, each of them is white space. Assumes nothing.
+use Prim.Native.Nat.{ℕ, _+_, _-_}
+use mathlib.Core.Path.{ap}
+use mathlib.Core.Bool.{not}
+use lib.ListN.{getD}
 use borrow.Author.Tests.{not-false}
-use Rattle.text.proofs.Bytes.{or-left, or-right}
-use Rattle.utils.specs.Blocks.{Blank}
+use Rattle.text.proofs.Missed.{Missed, missed-start, missed-more, missed-all}
+use Rattle.utils.specs.Trim.{isWhitespace}
 use borrow.Author.Needs.{needs}
 use Rattle.utils.proofs.any_other.Statement.{statement}
 use Rattle.utils.proofs.any_other.Tie as tie
 
 abbrev Inv-loop : tie.InvT-loop
-Inv-loop text i hit₀ k₀ hit k = (k ≤ 32) × (hit ≡ false → Blank text i k)
+Inv-loop text i hit₀ k₀ hit k = Missed (λ (m : ℕ). not (isWhitespace (getD text (i + m) 0))) 32 hit k
 
 abbrev μ-loop : tie.MeasureT-loop
 μ-loop text i hit₀ k₀ hit k = 32 - k
 
 loop-holds : tie.Need-loop-holds Inv-loop μ-loop
-loop-holds c = (search needs, λ e. record { blank = below-none _ })
+loop-holds c = missed-start _ 32
 
 add-is-whitespace : tie.Need-add-is-whitespace Inv-loop μ-loop
 add-is-whitespace c = search needs
@@ -36,12 +35,10 @@ loop-less : tie.Need-loop-less Inv-loop μ-loop
 loop-less c = search needs
 
 loop-again : tie.Need-loop-again Inv-loop μ-loop
-loop-again c =
-    let l = c .before .before .before .loop in
-    (omega arith, λ e. record { blank = below-more _ _ (l .inv .1 (or-left _ _ e) .blank) (sym (c .is-whitespace .ensures) ∙ not-false _ (or-right (l .hit) _ e)) })
+loop-again c = let turn = c .before .before in missed-more _ (turn .before .loop .inv) (turn .loop-test .taken) (ap not (c .is-whitespace .ensures))
 
 returns : tie.Need-returns Inv-loop μ-loop
-returns c = λ e. record { blank = λ m h. c .before .loop .inv .1 e .blank m (omega arith) }
+returns c = λ e. record { blank = λ m h. not-false _ (missed-all _ (c .before .loop .inv) (c .loop-test .left) e m h) }
 
 pub any-other-spec : {M : Type 1} → statement M
 any-other-spec =
