@@ -9,7 +9,7 @@ use lib.ListN.{length, getD, take, drop, length-append, length-drop, drop-of-len
 use lib.Seq.{drop-cons, length-take-le, take-all}
 use native.Mathlib.Numerals.{add-one}
 use borrow.Rule.Slice.PartMut.{midOf, putMid}
-use Rattle.text.specs.declared.Answer.the-variants.{Done, Refused}
+use Rattle.text.specs.declared.Answer.the-variants.{Done}
 use Rattle.output.specs.Over.{over}
 use Rattle.output.proofs.Clip.{over-more, length-over}
 use Rattle.tokens.specs.Tokens.{Stop, Token, copy, stop, Head, Heads, tokens, tokenOf, skipOf}
@@ -180,38 +180,3 @@ module _ (at : Heads) (answer : Stop → ℕ → Outcome) (text : List ℕ) (ope
             rest = p .rest ∙ ap (prepend (p .value)) same ∙ prepend-prepend (p .value) piece (fromOn at answer text e made);
             inside = to;
           }
-
-      pub progress-run : (stops : ℕ → Bool) → Copies stops at → {e : ℕ} → Plain stops text i e
-          → part ≡ over (take (e - i) (drop i text)) (midOf w (length out - w) out)
-          → Progress (putMid w (length out - w) out part) e (len + (e - i)) made
-      progress-run stops copies {e} r q = progress-through (r .from) (r .to) (run-plain at answer text stops copies i e made r) q
-
-      module _ (h : i < length text) where
-        pub progress-step : {a l m : ℕ}
-            → Stepped (nextAt at text i) (outcomeOf answer (tokenOf (headAt at text i)) made) (midOf w (length out - w) out) part (Next a l m)
-            → a ≤ length text → Progress (putMid w (length out - w) out part) a (len + l) m
-        progress-step {a} {l} {m} s b =
-            let n = went (nextAt at text i) (outcomeOf answer (tokenOf (headAt at text i)) made) (midOf w (length out - w) out) part a l m s in
-            record {
-              value = p .value ++ n .value;
-              size = rw (length-append, p .size, n .size);
-              holds = over-more (p .value) (n .value) old (p .holds) (sym (p .size)) least (n .holds);
-              rest =
-                  p .rest
-                  ∙ ap (prepend (p .value)) (run-at at answer text i made h)
-                  ∙ ap (λ (o : Outcome). prepend (p .value) (followed o (λ k. fromOn at answer text (nextAt at text i) k))) (n .whole)
-                  ∙ prepend-prepend (p .value) (n .value) (fromOn at answer text (nextAt at text i) m)
-                  ∙ ap (λ (k : ℕ). prepend (p .value ++ n .value) (fromOn at answer text k m)) (sym (n .to));
-              inside = b;
-            }
-
-        pub progress-refused : {number first second : ℕ}
-            → Stepped (nextAt at text i) (outcomeOf answer (tokenOf (headAt at text i)) made) (midOf w (length out - w) out) part (Stopped number first second)
-            → Walked (run answer (tokens at 0 0 text) opened) old (putMid w (length out - w) out part) (Refused number first second)
-        progress-refused {number} {first} {second} s =
-            let n = halted (nextAt at text i) (outcomeOf answer (tokenOf (headAt at text i)) made) (midOf w (length out - w) out) part number first second s in
-            let whole : run answer (tokens at 0 0 text) opened ≡ refused (p .value ++ n .before) (n .openings) number first second =
-            p .rest
-            ∙ ap (prepend (p .value)) (run-at at answer text i made h)
-            ∙ ap (λ (o : Outcome). prepend (p .value) (followed o (λ k. fromOn at answer text (nextAt at text i) k))) (n .whole) in
-            record { answers = rw whole; writes = rw whole (over-more (p .value) (n .before) old (p .holds) (sym (p .size)) least (n .holds)) }

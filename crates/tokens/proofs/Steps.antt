@@ -1,5 +1,5 @@
 -- A single step and a whole walk, said otherwise, and the steps that are told at once. Assumes nothing.
-use mathlib.Core.Path.{_≡_, refl, sym, ap, _∙_}
+use mathlib.Core.Path.{_≡_, refl, ap, _∙_}
 use mathlib.Core.List.{List, [], _∷_}
 use Prim.Native.Nat.{ℕ, _+_}
 use lib.ListN.{length, set}
@@ -11,15 +11,6 @@ use Rattle.tokens.specs.Walking.{headAt, nextAt, outcomeOf, Stepped, Wal
 use Rattle.tokens.specs.declared.Step.{Step}
 use Rattle.tokens.specs.declared.Step.the-variants.{Next, Stopped}
 
-pub stepped-as : {next next′ : ℕ} {o o′ : Outcome} {old new : List ℕ} {r : Step} → next′ ≡ next → o′ ≡ o → Stepped next o old new r → Stepped next′ o′ old new r
-stepped-as e f s = record { answers = s .answers ∙ rw (e, f); writes = s .writes ∙ rw f }
-
-pub stepped-told : {next : ℕ} {o : Outcome} {old new : List ℕ} {r r′ : Step} → r ≡ r′ → Stepped next o old new r → Stepped next o old new r′
-stepped-told e s = record { answers = sym e ∙ s .answers; writes = s .writes }
-
-pub walked-as : {o o′ : Outcome} {old new : List ℕ} {r : Answer} → o′ ≡ o → Walked o old new r → Walked o′ old new r
-walked-as e w = record { answers = w .answers ∙ rw e; writes = w .writes ∙ rw e }
-
 -- the head at the offset is known
 pub stepped-at : (at : Heads) (answer : Stop → ℕ → Outcome) (text : List ℕ) (i openings : ℕ) {t : Token} {k next : ℕ} {old new : List ℕ} {r : Step}
     → headAt at text i ≡ head t k → i + 1 + k ≡ next → Stepped next (outcomeOf answer t openings) old new r
@@ -27,9 +18,6 @@ pub stepped-at : (at : Heads) (answer : Stop → ℕ → Outcome) (text : List �
 stepped-at at answer text i openings e q s = rw (e, q) s
 
 -- ---- the output keeps its length
-
-pub stepped-length : {next : ℕ} {o : Outcome} {old new : List ℕ} {r : Step} → Stepped next o old new r → length new ≡ length old
-stepped-length {next} {o} {old} s = ap length (s .writes) ∙ length-over (produced o) old
 
 pub walked-length : {o : Outcome} {old new : List ℕ} {r : Answer} → Walked o old new r → length new ≡ length old
 walked-length {o} {old} w = ap length (w .writes) ∙ length-over (produced o) old
