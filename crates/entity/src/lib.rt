@@ -14,6 +14,7 @@ ghost use Rattle.entity.specs.Binding.{predefinedOf, binding, boundTo, L
 ghost use Rattle.entity.specs.Commands.{commandName, Refers};
 ghost use Rattle.entity.specs.Steps.{commandCheck, lastCheck, TextAt, Agree};
 use text::Answer;
+use text::load;
 use text::refusals;
 use text::validate;
 
@@ -291,7 +292,7 @@ fn same_words(pool: &[u8], start: usize, name: &[u8]) -> usize
 {
     let mut i: usize = 0;
     while 8 <= name.len() - i {
-        if validate::word(pool, start + i) != validate::word(name, i) {
+        if load::word(pool, start + i) != load::word(name, i) {
             return i;
         }
         i += 8;

@@ -5,35 +5,15 @@ ghost use Prim.Native.Nat.{ℕ, _+_, _*_, _<_, _≤_};
 ghost use mathlib.Core.Bool.{false};
 ghost use lib.ListN.{length, getD};
 ghost use Rattle.text.specs.Utf8.{utf8End};
-ghost use Rattle.text.specs.Blocks.{wordAt, AtMost, Ascii, Whole, Prefix, Character, Leads, Fitting, Edge, misfit, misfit3, misfit2};
-
-fn wide(b: u8) -> u64
-    ensures { λ r. ⌜ (r ≡ b) × (r < 0x100) ⌝ }
-{
-    b as u64
-}
-
-// The eight bytes from i on as one number. Written as this sum it is compiled to one load.
-pub fn word(text: &[u8], i: usize) -> u64
-    requires { ⌜ i + 8 ≤ length (now text) ⌝ }
-    ensures { λ r. ⌜ r ≡ wordAt (now (text .entry)) i ⌝ }
-{
-    wide(text[i])
-        + wide(text[i + 1]) * 0x100
-        + wide(text[i + 2]) * 0x10000
-        + wide(text[i + 3]) * 0x1000000
-        + wide(text[i + 4]) * 0x100000000
-        + wide(text[i + 5]) * 0x10000000000
-        + wide(text[i + 6]) * 0x1000000000000
-        + wide(text[i + 7]) * 0x100000000000000
-}
+ghost use Rattle.text.specs.Blocks.{AtMost, Ascii, Whole, Prefix, Character, Leads, Fitting, Edge, misfit, misfit3, misfit2};
+use crate::load;
 
 // The highest bit of each of the eight bytes from i on; 0 where all are ASCII.
 fn high_bits(text: &[u8], i: usize) -> u64
     requires { ⌜ i + 8 ≤ length (now text) ⌝ }
     ensures { λ r. ⌜ (r ≡ 0 → AtMost (now (text .entry)) i 8 0x7f) ⌝ }
 {
-    word(text, i) & 0x8080808080808080
+    load::word(text, i) & 0x8080808080808080
 }
 
 // The same of so many words, joined.

@@ -13,7 +13,7 @@ ghost use Rattle.tokens.specs.Walking.{NameEnd, Stepped, Ended, handedOn
 use charref::CharNumber;
 use charref::Quick;
 use text::Answer;
-use text::validate;
+use text::load;
 
 // The offset of the next token, the length written and the openings so far; or the refusal.
 pub enum Step {
@@ -219,7 +219,7 @@ fn seen_at(text: &[u8], at: usize, seen: &[u64]) -> usize
     if text.len() - at < 8 {
         return PLACES;
     }
-    let word = validate::word(text, at);
+    let word = load::word(text, at);
     let mut k: usize = 0;
     while k < PLACES {
         if moved_up(word, seen[k + SHIFTS]) == seen[k] {
@@ -302,7 +302,7 @@ pub fn remember(
     }
     let shift = 64 - 8 * width as u64;
     let slot = seen[NEXT_PLACE] as usize;
-    seen[slot] = moved_up(validate::word(text, place), shift);
+    seen[slot] = moved_up(load::word(text, place), shift);
     seen[slot + SHIFTS] = shift;
     seen[slot + STARTS] = start as u64;
     seen[slot + COUNTS] = count as u64;
