@@ -1,4 +1,5 @@
 -- `utils::cdata_step` is the definition's step, case by case. Assumes nothing.
+use native.Mathlib.Omega.{arith}
 use mathlib.Core.Path.{_≡_, sym, _∙_}
 use mathlib.Core.Bool.{false}
 use Rattle.utils.specs.CData.{outside}
@@ -30,7 +31,7 @@ returns-2 c =
 piece-end-requires : tie.Need-piece-end-requires
 piece-end-requires c κs =
     let given = entry (c .before .before) .args in
-    inside-le (given .text .now) (given .cursor .offset) (inside (c .before .before))
+    omega (arith, inside-le (given .text .now) (given .cursor .offset) (inside (c .before .before)))
 
 sub-if3 : tie.Need-sub-if3
 sub-if3 c = search needs
