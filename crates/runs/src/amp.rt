@@ -147,10 +147,7 @@ fn put_wide(text: &[u8], from: usize, room: usize, out: &mut [u8]) -> usize
         if any_amp(text, i, 32) {
             return k;
         }
-        output::put_block(&text[i..i + 16], &mut out[k..]);
-        let half = k + 16;
-        let j = from + half;
-        output::put_block(&text[j..j + 16], &mut out[half..]);
+        crate::put_two_blocks(&text[i..i + 32], &mut out[k..]);
         k += 32;
     }
     k

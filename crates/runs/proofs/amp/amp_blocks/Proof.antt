@@ -1,3 +1,4 @@
+-- `amp_blocks`: block by block, what is passed stays a run (`plain-join`).
 use Prim.Native.Nat.{_-_}
 use native.Mathlib.Omega.{arith}
 use lib.ListN.{length}
@@ -13,29 +14,52 @@ Inv-loop text from size i₀ i = Plain isAmp text from i
 abbrev μ-loop : tie.MeasureT-loop
 μ-loop text from size i₀ i = length text - i
 
+-- places, each seen from a later one
+abbrev entry : tie.At-loop Inv-loop μ-loop → tie.Start Inv-loop μ-loop
+entry c = c .before .before
+
+abbrev to-turn : tie.After-any-amp Inv-loop μ-loop → tie.At-loop Inv-loop μ-loop
+to-turn c = c .before .before
+
 loop-holds : tie.Need-loop-holds Inv-loop μ-loop
-loop-holds c = plain-none isAmp (c .before .args .text .now) (c .before .args .from) (c .before .pre .0)
+loop-holds c =
+    let start = c .before in
+    plain-none isAmp (start .args .text .now) (start .args .from) (start .pre .0)
 
 sub-loop : tie.Need-sub-loop Inv-loop μ-loop
 sub-loop c = c .loop .inv .to
 
 any-amp-requires : tie.Need-any-amp-requires Inv-loop μ-loop
-any-amp-requires c κs = omega (arith, c .before .loop .inv .to, c .before .before .before .pre .1)
+any-amp-requires c κs =
+    let turn = c .before in
+    let start = entry turn in
+    omega (arith, turn .loop .inv .to, start .pre .1)
 
 returns : tie.Need-returns Inv-loop μ-loop
-returns c = c .before .before .before .loop .inv
+returns c =
+    let turn = to-turn (c .before) in
+    turn .loop .inv
 
 add-i : tie.Need-add-i Inv-loop μ-loop
-add-i c = omega (arith, c .before .before .before .loop .inv .to, c .before .before .before .before .before .pre .1)
+add-i c =
+    let turn = to-turn (c .before) in
+    let start = entry turn in
+    omega (arith, turn .loop .inv .to, start .pre .1)
 
 loop-less : tie.Need-loop-less Inv-loop μ-loop
-loop-less c = omega (arith, c .before .before .before .loop .inv .to, c .before .before .before .before .before .pre .1)
+loop-less c =
+    let turn = to-turn (c .before) in
+    let start = entry turn in
+    omega (arith, turn .loop .inv .to, start .pre .1)
 
 loop-again : tie.Need-loop-again Inv-loop μ-loop
 loop-again c =
-    let given = c .before .before .before .before .before .args in
-    let kept = c .before .before .before .loop in
-    plain-join isAmp (given .text .now) (given .from) (kept .i) _ (kept .inv) (c .before .any-amp .ensures (c .if1 .left))
+    let at-any-amp = c .before in
+    let turn = to-turn at-any-amp in
+    let start = entry turn in
+    let given = start .args in
+    let kept = turn .loop in
+    plain-join isAmp (given .text .now) (given .from) (kept .i) _ (kept .inv) (at-any-amp .any-amp .ensures (c .if1 .left))
 
 returns-2 : tie.Need-returns-2 Inv-loop μ-loop
 returns-2 c = c .before .loop .inv

@@ -1,3 +1,5 @@
+-- `amp_end`: what the wide blocks or the near bytes passed is a run, and the loop goes on with it block by block. It ends at the `&` that is
+-- found in a block, or byte by byte (`end-after`).
 use mathlib.Core.Logic.{⊎-elim}
 use mathlib.Core.Path.{sym, subst}
 use native.Mathlib.Omega.{arith}
@@ -6,7 +8,7 @@ use lib.ListN.{length}
 use Rattle.output.specs.Runs.{Plain}
 use Rattle.output.proofs.Runs.{plain-none, plain-join}
 use Rattle.runs.specs.RunEnds.{isAmp}
-use Rattle.runs.proofs.Puts.{within-all}
+use Rattle.runs.proofs.Blockwise.{within-all}
 use Rattle.runs.proofs.Search.{end-near, end-after}
 use borrow.Author.Needs.{needs}
 use Rattle.runs.proofs.amp.amp_end.Statement.{statement}
@@ -17,6 +19,10 @@ Inv-loop text from last i₀ i = Plain isAmp text from i
 
 abbrev μ-loop : tie.MeasureT-loop
 μ-loop text from last i₀ i = length text - i
+
+-- places, each seen from a later one
+abbrev entry : tie.Joined1 Inv-loop μ-loop → tie.Start Inv-loop μ-loop
+entry c = c .before .before
 
 amp-blocks-requires : tie.Need-amp-blocks-requires Inv-loop μ-loop
 amp-blocks-requires c κs = (c .before .before .pre, omega arith)
@@ -32,12 +38,15 @@ add-if3 c = omega (arith, c .before .if2 .taken)
 
 returns : tie.Need-returns Inv-loop μ-loop
 returns c =
-    let given = c .before .before .before .before .before .args in
-    end-near isAmp (given .text .now) (given .from) (c .before .near-amp .ensures) (c .if3 .taken)
+    let at-near-amp = c .before in
+    let start = at-near-amp .before .before .before .before in
+    let given = start .args in
+    end-near isAmp (given .text .now) (given .from) (at-near-amp .near-amp .ensures) (c .if3 .taken)
 
 loop-holds : tie.Need-loop-holds Inv-loop μ-loop
 loop-holds c =
-    let given = c .before .before .args in
+    let start = entry c in
+    let given = start .args in
     let text = given .text .now in
     let from = given .from in
     ⊎-elim
@@ -46,7 +55,7 @@ loop-holds c =
     (λ z. ⊎-elim
     {C = Plain isAmp text from (c .if1 .i)}
     (λ w. subst (λ (e : ℕ). Plain isAmp text from e) (sym (w .4)) (w .2 .ensures .run))
-    (λ w. subst (λ (e : ℕ). Plain isAmp text from e) (sym (w .2)) (plain-none isAmp text from (c .before .before .pre)))
+    (λ w. subst (λ (e : ℕ). Plain isAmp text from e) (sym (w .2)) (plain-none isAmp text from (start .pre)))
     z)
     (c .if1 .came)
 
@@ -57,39 +66,60 @@ any-amp-requires : tie.Need-any-amp-requires Inv-loop μ-loop
 any-amp-requires c κs = omega (arith, c .before .loop .inv .to, c .loop-test .taken)
 
 near-amp-requires-2 : tie.Need-near-amp-requires-2 Inv-loop μ-loop
-near-amp-requires-2 c κs = omega (arith, c .before .before .before .loop .inv .to, c .before .before .loop-test .taken)
+near-amp-requires-2 c κs =
+    let at-loop-test = c .before .before in
+    let turn = at-loop-test .before in
+    omega (arith, turn .loop .inv .to, at-loop-test .loop-test .taken)
 
 add-if5 : tie.Need-add-if5 Inv-loop μ-loop
-add-if5 c = omega (arith, c .before .before .before .before .before .loop .inv .to, c .before .before .before .before .loop-test .taken)
+add-if5 c =
+    let at-loop-test = c .before .before .before .before in
+    let turn = at-loop-test .before in
+    omega (arith, turn .loop .inv .to, at-loop-test .loop-test .taken)
 
 returns-2 : tie.Need-returns-2 Inv-loop μ-loop
 returns-2 c =
-    let given = c .before .before .before .before .before .before .before .before .before .args in
-    let kept = c .before .before .before .before .before .before .loop in
-    end-after isAmp (given .text .now) (given .from) (kept .inv) (end-near isAmp (given .text .now) (kept .i) (c .before .before .near-amp2 .ensures) (c .if5 .taken))
+    let at-near-amp2 = c .before .before in
+    let turn = at-near-amp2 .before .before .before .before in
+    let start = entry (turn .before) in
+    let given = start .args in
+    let kept = turn .loop in
+    end-after isAmp (given .text .now) (given .from) (kept .inv) (end-near isAmp (given .text .now) (kept .i) (at-near-amp2 .near-amp2 .ensures) (c .if5 .taken))
 
 add-i : tie.Need-add-i Inv-loop μ-loop
-add-i c = omega (arith, c .before .before .before .before .loop .inv .to, c .before .before .before .loop-test .taken)
+add-i c =
+    let at-loop-test = c .before .before .before in
+    let turn = at-loop-test .before in
+    omega (arith, turn .loop .inv .to, at-loop-test .loop-test .taken)
 
 loop-less : tie.Need-loop-less Inv-loop μ-loop
-loop-less c = omega (arith, c .before .before .before .before .loop .inv .to, c .before .before .before .loop-test .taken)
+loop-less c =
+    let at-loop-test = c .before .before .before in
+    let turn = at-loop-test .before in
+    omega (arith, turn .loop .inv .to, at-loop-test .loop-test .taken)
 
 loop-again : tie.Need-loop-again Inv-loop μ-loop
 loop-again c =
-    let given = c .before .before .before .before .before .before .before .args in
-    let kept = c .before .before .before .before .loop in
+    let at-if4 = c .before in
+    let at-any-amp = at-if4 .before in
+    let turn = at-any-amp .before .before in
+    let start = entry (turn .before) in
+    let given = start .args in
+    let kept = turn .loop in
     let text = given .text .now in
     let i = kept .i in
     plain-join isAmp text (given .from) i (i + 16) (kept .inv)
-    (⊎-elim {C = Plain isAmp text i (i + 16)} (λ w. within-all isAmp text i 16 (w .1 .ensures) (w .3 .left)) (λ w. c .before .before .any-amp .ensures (w .left)) (c .before .if4 .came))
+    (⊎-elim {C = Plain isAmp text i (i + 16)} (λ w. within-all (w .1 .ensures) (w .3 .left)) (λ w. at-any-amp .any-amp .ensures (w .left)) (at-if4 .if4 .came))
 
 bytes-amp-requires : tie.Need-bytes-amp-requires Inv-loop μ-loop
 bytes-amp-requires c κs = c .before .loop .inv .to
 
 returns-3 : tie.Need-returns-3 Inv-loop μ-loop
 returns-3 c =
-    let given = c .before .before .before .before .before .args in
-    end-after isAmp (given .text .now) (given .from) (c .before .before .loop .inv) (c .bytes-amp .ensures)
+    let turn = c .before .before in
+    let start = entry (turn .before) in
+    let given = start .args in
+    end-after isAmp (given .text .now) (given .from) (turn .loop .inv) (c .bytes-amp .ensures)
 
 pub amp-end-spec : {M : Type 1} → statement M
 amp-end-spec =

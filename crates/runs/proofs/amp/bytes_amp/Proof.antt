@@ -1,3 +1,4 @@
+-- `bytes_amp`: byte by byte, what is passed stays a run (`plain-join`).
 use Prim.Native.Nat.{_-_}
 use native.Mathlib.Omega.{arith}
 use lib.ListN.{length}
@@ -32,9 +33,13 @@ loop-less c = search needs
 
 loop-again : tie.Need-loop-again Inv-loop μ-loop
 loop-again c =
-    let given = c .before .before .before .before .args in
-    let kept = c .before .before .before .loop in
-    plain-join isAmp (given .text .now) (given .from) (kept .i) _ (kept .inv) (plain-byte isAmp (given .text .now) (kept .i) (c .before .before .loop-test .taken) (ne-eqb _ 38 (c .if1 .left)))
+    let at-loop-test = c .before .before in
+    let turn = at-loop-test .before in
+    let start = turn .before in
+    let given = start .args in
+    let kept = turn .loop in
+    plain-join isAmp (given .text .now) (given .from) (kept .i) _ (kept .inv)
+    (plain-byte isAmp (given .text .now) (kept .i) (at-loop-test .loop-test .taken) (ne-eqb _ 38 (c .if1 .left)))
 
 returns-2 : tie.Need-returns-2 Inv-loop μ-loop
 returns-2 c = record { run = c .before .loop .inv; ends = λ h. absurd (omega (arith, c .loop-test .left)) }

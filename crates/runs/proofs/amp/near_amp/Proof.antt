@@ -1,3 +1,4 @@
+-- `near_amp`: the first k bytes are a run (`plain-next`). A `&` ends it (`within-here`), else all are one (`within-none`).
 use Prim.Native.Nat.{_+_, _-_, _≤_}
 use native.Mathlib.Omega.{arith}
 use mathlib.Core.Path.{_≡_}
@@ -32,9 +33,12 @@ add-result c = search needs
 
 returns : tie.Need-returns Inv-loop μ-loop
 returns c =
-    let given = c .before .before .before .before .args in
-    let kept = c .before .before .before .loop in
-    within-here isAmp (given .text .now) (given .from) (given .size) (kept .k) (c .before .before .loop-test .taken) (kept .inv .1) (eq-eqb _ 38 (c .if1 .taken))
+    let at-loop-test = c .before .before in
+    let turn = at-loop-test .before in
+    let start = turn .before in
+    let given = start .args in
+    let kept = turn .loop in
+    within-here isAmp (given .text .now) (given .from) (given .size) (kept .k) (at-loop-test .loop-test .taken) (kept .inv .1) (eq-eqb _ 38 (c .if1 .taken))
 
 add-k : tie.Need-add-k Inv-loop μ-loop
 add-k c = search needs
@@ -44,18 +48,26 @@ loop-less c = search needs
 
 loop-again : tie.Need-loop-again Inv-loop μ-loop
 loop-again c =
-    let given = c .before .before .before .before .args in
-    let kept = c .before .before .before .loop in
-    (search needs, plain-next isAmp (given .text .now) (given .from) (kept .k) (omega (arith, c .before .before .before .before .pre, c .before .before .loop-test .taken)) (kept .inv .1) (ne-eqb _ 38 (c .if1 .left)))
+    let at-loop-test = c .before .before in
+    let turn = at-loop-test .before in
+    let start = turn .before in
+    let given = start .args in
+    let kept = turn .loop in (
+      search needs,
+      plain-next isAmp (given .text .now) (given .from) (kept .k) (omega (arith, start .pre, at-loop-test .loop-test .taken))
+          (kept .inv .1) (ne-eqb _ 38 (c .if1 .left)),
+    )
 
 add-result-2 : tie.Need-add-result-2 Inv-loop μ-loop
 add-result-2 c = search needs
 
 returns-2 : tie.Need-returns-2 Inv-loop μ-loop
 returns-2 c =
-    let given = c .before .before .args in
-    let q : c .before .loop .k ≡ given .size = omega (arith, c .before .loop .inv .0, c .loop-test .left) in
-    within-none isAmp (given .text .now) (given .from) (given .size) (rw q at (c .before .loop .inv .1))
+    let turn = c .before in
+    let start = turn .before in
+    let given = start .args in
+    let q : turn .loop .k ≡ given .size = omega (arith, turn .loop .inv .0, c .loop-test .left) in
+    within-none isAmp (given .text .now) (given .from) (given .size) (rw q at (turn .loop .inv .1))
 
 pub near-amp-spec : {M : Type 1} → statement M
 near-amp-spec =

@@ -1,3 +1,4 @@
+-- `put_bytes`: the bytes so far are a run, and are written as far as there is room (`put-next`).
 use Prim.Native.Nat.{_-_}
 use mathlib.Core.Path.{refl, _∙_}
 use native.Mathlib.Omega.{arith}
@@ -17,18 +18,25 @@ Inv-loop text from out₀ i₀ out i = Plain isAmp text from i × Put text from 
 abbrev μ-loop : tie.MeasureT-loop
 μ-loop text from out₀ i₀ out i = length text - i
 
+-- places, each seen from a later one
+abbrev entry : tie.After-slice-known Inv-loop μ-loop → tie.Start Inv-loop μ-loop
+entry c = c .before .before
+
 loop-holds : tie.Need-loop-holds Inv-loop μ-loop
 loop-holds c =
-    let given = c .before .before .args in
-    (plain-none isAmp (given .text .now) (given .from) (c .before .before .pre), put-none (given .text .now) (given .from) (given .out .now))
+    let start = entry c in
+    let given = start .args in
+    (plain-none isAmp (given .text .now) (given .from) (start .pre), put-none (given .text .now) (given .from) (given .out .now))
 
 shared-slice-read-b : tie.Need-shared-slice-read-b Inv-loop μ-loop
 shared-slice-read-b c = search needs
 
 same-length : tie.Need-same-length Inv-loop μ-loop
 same-length c =
-    let given = c .before .before .before .before .before .before .args in
-    let kept = c .before .before .before .loop in
+    let turn = c .before .before .before in
+    let start = entry (turn .before) in
+    let given = start .args in
+    let kept = turn .loop in
     put-length (given .text .now) (given .from) (given .out .now) (kept .i) (kept .inv .1)
 
 returns : tie.Need-returns Inv-loop μ-loop
@@ -50,18 +58,31 @@ loop-less c = search needs
 
 loop-again : tie.Need-loop-again Inv-loop μ-loop
 loop-again c =
-    let given = c .before .before .before .before .before .before .before .before .before .before .args in
-    let kept = c .before .before .before .before .before .before .before .loop in
-    let at-loop-test = c .before .before .before .before .before .before .loop-test in
-    (plain-join isAmp (given .text .now) (given .from) (kept .i) _ (kept .inv .0) (plain-byte isAmp (given .text .now) (kept .i) (at-loop-test .taken) (ne-eqb _ 38 (c .before .before .before .before .if1 .left))), c .before .before .put-byte .ensures ∙ put-next (given .text .now) (given .from) (given .out .now) (kept .i) (kept .inv .1) (kept .inv .0 .from) refl (at-loop-test .taken))
+    let at-put-byte = c .before .before in
+    let at-if1 = at-put-byte .before .before in
+    let after-loop-test = at-if1 .before .before in
+    let turn = after-loop-test .before in
+    let start = entry (turn .before) in
+    let given = start .args in
+    let kept = turn .loop in
+    let at-loop-test = after-loop-test .loop-test in (
+      plain-join isAmp (given .text .now) (given .from) (kept .i) _ (kept .inv .0)
+          (plain-byte isAmp (given .text .now) (kept .i) (at-loop-test .taken) (ne-eqb _ 38 (at-if1 .if1 .left))),
+      at-put-byte .put-byte .ensures
+          ∙ put-next (given .text .now) (given .from) (given .out .now) (kept .i) (kept .inv .1) (kept .inv .0 .from) refl (at-loop-test .taken),
+    )
 
 same-length-2 : tie.Need-same-length-2 Inv-loop μ-loop
 same-length-2 c =
-    let given = c .before .before .before .before .args in
-    put-length (given .text .now) (given .from) (given .out .now) (c .before .loop .i) (c .before .loop .inv .1)
+    let turn = c .before in
+    let start = entry (turn .before) in
+    let given = start .args in
+    put-length (given .text .now) (given .from) (given .out .now) (turn .loop .i) (turn .loop .inv .1)
 
 returns-2 : tie.Need-returns-2 Inv-loop μ-loop
-returns-2 c = (record { run = c .before .loop .inv .0; ends = λ h. absurd (omega (arith, c .loop-test .left)) }, c .before .loop .inv .1)
+returns-2 c =
+    let turn = c .before in
+    (record { run = turn .loop .inv .0; ends = λ h. absurd (omega (arith, c .loop-test .left)) }, turn .loop .inv .1)
 
 pub put-bytes-spec : {M : Type 1} → statement M
 put-bytes-spec =

@@ -1,3 +1,4 @@
+-- `put_near`: the first k bytes are a run, and are copied (`Nearby`).
 use Prim.Native.Nat.{_-_}
 use native.Mathlib.Omega.{arith}
 use borrow.Author.Tests.{eq-eqb, ne-eqb}
@@ -27,19 +28,27 @@ add-result c = search needs
 
 same-length : tie.Need-same-length Inv-loop μ-loop
 same-length c =
-    let given = c .before .before .before .before .args in
-    nearby-length isAmp (given .text .now) (given .from) (given .size) (c .before .before .before .before .pre .0) (given .out .now) (c .before .before .before .loop .inv)
+    let turn = c .before .before .before in
+    let start = turn .before in
+    let given = start .args in
+    nearby-length isAmp (given .text .now) (given .from) (given .size) (start .pre .0) (given .out .now) (turn .loop .inv)
 
 returns : tie.Need-returns Inv-loop μ-loop
 returns c =
-    let given = c .before .before .before .before .args in
-    nearby-here isAmp (given .text .now) (given .from) (given .size) (c .before .before .before .before .pre .0) (given .out .now) (c .before .before .before .loop .inv) (c .before .before .loop-test .taken) (eq-eqb _ 38 (c .if1 .taken))
+    let at-loop-test = c .before .before in
+    let turn = at-loop-test .before in
+    let start = turn .before in
+    let given = start .args in
+    nearby-here isAmp (given .text .now) (given .from) (given .size) (start .pre .0) (given .out .now) (turn .loop .inv)
+    (at-loop-test .loop-test .taken) (eq-eqb _ 38 (c .if1 .taken))
 
 slice-write-out : tie.Need-slice-write-out Inv-loop μ-loop
 slice-write-out c =
-    let given = c .before .before .before .before .args in
-    let asked = c .before .before .before .before .pre in
-    omega (arith, nearby-length isAmp (given .text .now) (given .from) (given .size) (asked .0) (given .out .now) (c .before .before .before .loop .inv), asked .1)
+    let turn = c .before .before .before in
+    let start = turn .before in
+    let given = start .args in
+    let asked = start .pre in
+    omega (arith, nearby-length isAmp (given .text .now) (given .from) (given .size) (asked .0) (given .out .now) (turn .loop .inv), asked .1)
 
 add-k : tie.Need-add-k Inv-loop μ-loop
 add-k c = search needs
@@ -49,21 +58,29 @@ loop-less c = search needs
 
 loop-again : tie.Need-loop-again Inv-loop μ-loop
 loop-again c =
-    let given = c .before .before .before .before .args in
-    nearby-next isAmp (given .text .now) (given .from) (given .size) (c .before .before .before .before .pre .0) (given .out .now) (c .before .before .before .loop .inv) (c .before .before .loop-test .taken) (ne-eqb _ 38 (c .if1 .left))
+    let at-loop-test = c .before .before in
+    let turn = at-loop-test .before in
+    let start = turn .before in
+    let given = start .args in
+    nearby-next isAmp (given .text .now) (given .from) (given .size) (start .pre .0) (given .out .now) (turn .loop .inv)
+    (at-loop-test .loop-test .taken) (ne-eqb _ 38 (c .if1 .left))
 
 add-result-2 : tie.Need-add-result-2 Inv-loop μ-loop
 add-result-2 c = search needs
 
 same-length-2 : tie.Need-same-length-2 Inv-loop μ-loop
 same-length-2 c =
-    let given = c .before .before .args in
-    nearby-length isAmp (given .text .now) (given .from) (given .size) (c .before .before .pre .0) (given .out .now) (c .before .loop .inv)
+    let turn = c .before in
+    let start = turn .before in
+    let given = start .args in
+    nearby-length isAmp (given .text .now) (given .from) (given .size) (start .pre .0) (given .out .now) (turn .loop .inv)
 
 returns-2 : tie.Need-returns-2 Inv-loop μ-loop
 returns-2 c =
-    let given = c .before .before .args in
-    nearby-all isAmp (given .text .now) (given .from) (given .size) (c .before .before .pre .0) (given .out .now) (c .before .loop .inv) (c .loop-test .left)
+    let turn = c .before in
+    let start = turn .before in
+    let given = start .args in
+    nearby-all isAmp (given .text .now) (given .from) (given .size) (start .pre .0) (given .out .now) (turn .loop .inv) (c .loop-test .left)
 
 pub put-near-spec : {M : Type 1} → statement M
 put-near-spec =

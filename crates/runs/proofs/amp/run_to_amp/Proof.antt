@@ -10,8 +10,10 @@ amp-end-requires c κs = search needs
 
 returns : tie.Need-returns
 returns c =
-    let given = c .before .before .before .before .args in
-    (c .amp-end .ensures, over-empty (take (c .amp-end .result - given .from) (drop (given .from) (given .text .now))) (given .out .now) (c .before .if1 .taken))
+    let at-if1 = c .before in
+    let start = at-if1 .before .before .before in
+    let given = start .args in
+    (c .amp-end .ensures, over-empty (take (c .amp-end .result - given .from) (drop (given .from) (given .text .now))) (given .out .now) (at-if1 .if1 .taken))
 
 put-to-amp-requires : tie.Need-put-to-amp-requires
 put-to-amp-requires c κs = search needs
