@@ -1,3 +1,4 @@
+-- `bound_step`: a text of the table (`named-text`), one of the five names (`named-predefined`) or neither (`named-unknown`).
 use mathlib.Core.Path.{sym, ap, subst}
 use Rattle.entity.specs.Binding.{Lies, boundTo}
 use Rattle.unescape.proofs.Stops.{named-text, named-predefined, named-unknown}
@@ -5,23 +6,45 @@ use borrow.Author.Needs.{needs}
 use Rattle.unescape.proofs.bound_step.Statement.{statement}
 use Rattle.unescape.proofs.bound_step.Tie as tie
 
+-- places, each seen from a later one
+abbrev entry : tie.After-slice-known → tie.Start
+entry c = c .before .before
+
+abbrev to-lent : tie.After-bound → tie.After-slice-known
+to-lent c = c .before .before
+
+abbrev to-bound : tie.After-put-over → tie.After-bound
+to-bound c = c .before .before .before .before
+
 enum-known-bound : tie.Need-enum-known-bound
 enum-known-bound c = search needs
 
 sub-put-over : tie.Need-sub-put-over
-sub-put-over c = subst (Lies (c .before .before .before .before .before .args .pool .now)) (c .before .bound .given .1) (c .before .before .before .before .before .pre .1) .0
+sub-put-over c =
+    let after-bound = c .before in
+    let start = entry (to-lent after-bound) in
+    subst (Lies (start .args .pool .now)) (after-bound .bound .given .1) (start .pre .1) .0
 
 part-put-over-start : tie.Need-part-put-over-start
-part-put-over-start c = subst (Lies (c .before .before .before .before .before .args .pool .now)) (c .before .bound .given .1) (c .before .before .before .before .before .pre .1) .0
+part-put-over-start c =
+    let after-bound = c .before in
+    let start = entry (to-lent after-bound) in
+    subst (Lies (start .args .pool .now)) (after-bound .bound .given .1) (start .pre .1) .0
 
 part-put-over-end : tie.Need-part-put-over-end
-part-put-over-end c = subst (Lies (c .before .before .before .before .before .args .pool .now)) (c .before .bound .given .1) (c .before .before .before .before .before .pre .1) .1
+part-put-over-end c =
+    let after-bound = c .before in
+    let start = entry (to-lent after-bound) in
+    subst (Lies (start .args .pool .now)) (after-bound .bound .given .1) (start .pre .1) .1
 
 put-over-requires : tie.Need-put-over-requires
 put-over-requires c κs = search needs
 
 sub-t13 : tie.Need-sub-t13
-sub-t13 c = subst (Lies (c .before .before .before .before .before .before .before .before .before .before .args .pool .now)) (c .before .before .before .before .before .before .bound .given .1) (c .before .before .before .before .before .before .before .before .before .before .pre .1) .0
+sub-t13 c =
+    let after-bound = to-bound (c .before .before) in
+    let start = entry (to-lent after-bound) in
+    subst (Lies (start .args .pool .now)) (after-bound .bound .given .1) (start .pre .1) .0
 
 enum-known-bound-2 : tie.Need-enum-known-bound-2
 enum-known-bound-2 c = search needs
@@ -45,21 +68,36 @@ same-length : tie.Need-same-length
 same-length c = search needs
 
 returns : tie.Need-returns
-returns c = λ name n.
-    named-text (c .before .before .before .before .before .before .before .before .before .before .args .pool .now) name (c .before .before .before .before .before .before .before .before .before .before .args .i) (c .before .before .before .before .before .before .before .before .before .before .args .next) (c .before .before .before .before .before .before .bound .given .0 .0) (c .before .before .before .before .before .before .bound .given .0 .1 .0)
-    (ap (boundTo (c .before .before .before .before .before .before .before .before .before .before .args .pool .now)) (sym (c .before .before .before .before .before .before .bound .given .1))) (subst (Lies (c .before .before .before .before .before .before .before .before .before .before .args .pool .now)) (c .before .before .before .before .before .before .bound .given .1) (c .before .before .before .before .before .before .before .before .before .before .pre .1)) (c .before .before .put-over .ensures)
+returns c =
+    let after-put-over = c .before .before in
+    let after-bound = to-bound after-put-over in
+    let start = entry (to-lent after-bound) in
+    let given = start .args in
+    let at-bound = after-bound .bound in
+    λ name n.
+    named-text (given .pool .now) name (given .i) (given .next) (at-bound .given .0 .0) (at-bound .given .0 .1 .0)
+    (ap (boundTo (given .pool .now)) (sym (at-bound .given .1))) (subst (Lies (given .pool .now)) (at-bound .given .1) (start .pre .1)) (after-put-over .put-over .ensures)
 
 same-length-2 : tie.Need-same-length-2
 same-length-2 c = search needs
 
 returns-2 : tie.Need-returns-2
-returns-2 c = λ name n.
-    named-predefined (c .before .before .before .before .before .before .before .before .before .args .pool .now) name (c .before .before .before .before .before .before .before .before .before .args .i) (c .before .before .before .before .before .before .before .before .before .args .next) (c .before .before .before .before .before .bound2 .given .0 .0)
-    (ap (boundTo (c .before .before .before .before .before .before .before .before .before .args .pool .now)) (sym (c .before .before .before .before .before .bound2 .given .1))) (c .before .before .put-byte .ensures)
+returns-2 c =
+    let after-put-byte = c .before .before in
+    let after-bound2 = after-put-byte .before .before .before in
+    let start = entry (after-bound2 .before .before) in
+    let given = start .args in
+    let at-bound2 = after-bound2 .bound2 in
+    λ name n.
+    named-predefined (given .pool .now) name (given .i) (given .next) (at-bound2 .given .0 .0)
+    (ap (boundTo (given .pool .now)) (sym (at-bound2 .given .1))) (after-put-byte .put-byte .ensures)
 
 returns-3 : tie.Need-returns-3
-returns-3 c = λ name n.
-    named-unknown (c .before .before .before .before .args .pool .now) name (c .before .before .before .before .args .i) (c .before .before .before .before .args .next) n (ap (boundTo (c .before .before .before .before .args .pool .now)) (sym (c .enum-told .given .1)))
+returns-3 c =
+    let start = entry (c .before .before) in
+    let given = start .args in
+    λ name n.
+    named-unknown (given .pool .now) name (given .i) (given .next) n (ap (boundTo (given .pool .now)) (sym (c .enum-told .given .1)))
 
 pub bound-step-spec : {M : Type 1} → statement M
 bound-step-spec =

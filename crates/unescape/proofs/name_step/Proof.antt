@@ -14,7 +14,13 @@ same-length : tie.Need-same-length
 same-length c = search needs
 
 returns : tie.Need-returns
-returns c = named-as (c .before .before .before .before .before .before .before .before .before .before .args .pool .now) (c .before .before .before .before .before .before .before .before .before .before .args .name .now) (c .before .before .before .before .before .before .before .before .before .before .args .i) (c .before .before .before .before .before .before .before .before .before .before .args .next) (c .before .before .before .before .resolve-short .ensures .0) (c .before .before .bound-step .ensures (c .before .before .before .before .before .before .before .before .before .before .args .name .now) refl)
+returns c =
+    let after-bound-step = c .before .before in
+    let after-resolve-short = after-bound-step .before .before in
+    let start = after-resolve-short .before .before .before .before .before .before in
+    let given = start .args in
+    named-as (given .pool .now) (given .name .now) (given .i) (given .next) (after-resolve-short .resolve-short .ensures .0)
+    (after-bound-step .bound-step .ensures (given .name .now) refl)
 
 resolve-entity-requires : tie.Need-resolve-entity-requires
 resolve-entity-requires c κs = search needs
@@ -26,7 +32,13 @@ same-length-2 : tie.Need-same-length-2
 same-length-2 c = search needs
 
 returns-2 : tie.Need-returns-2
-returns-2 c = named-as (c .before .before .before .before .before .before .before .before .before .before .args .pool .now) (c .before .before .before .before .before .before .before .before .before .before .args .name .now) (c .before .before .before .before .before .before .before .before .before .before .args .i) (c .before .before .before .before .before .before .before .before .before .before .args .next) (c .before .before .before .before .resolve-entity .ensures .0) (c .before .before .bound-step2 .ensures (c .before .before .before .before .before .before .before .before .before .before .args .name .now) refl)
+returns-2 c =
+    let after-bound-step2 = c .before .before in
+    let after-resolve-entity = after-bound-step2 .before .before in
+    let start = after-resolve-entity .before .before .before .before .before .before in
+    let given = start .args in
+    named-as (given .pool .now) (given .name .now) (given .i) (given .next) (after-resolve-entity .resolve-entity .ensures .0)
+    (after-bound-step2 .bound-step2 .ensures (given .name .now) refl)
 
 pub name-step-spec : {M : Type 1} → statement M
 name-step-spec =

@@ -1,11 +1,26 @@
+-- `unescape_step`: a character found at once (`referred-char`), no `;` (`referred-none`), a number (`referred-number`) or a name
+-- (`referred-name`).
 use mathlib.Core.Bool.{true}
 use native.Mathlib.Omega.{arith}
-use Rattle.entity.specs.Binding.{binding}
+use mathlib.Core.List.{List}
+use Prim.Native.Nat.{ℕ}
+use Rattle.entity.specs.Binding.{Bound, binding}
 use Rattle.tokens.proofs.References.{digits-from}
 use Rattle.unescape.proofs.Stops.{referred-none, referred-number, referred-name, referred-char}
 use borrow.Author.Needs.{needs}
 use Rattle.unescape.proofs.unescape_step.Statement.{statement}
 use Rattle.unescape.proofs.unescape_step.Tie as tie
+
+-- the names' bindings
+abbrev bound : tie.Start → List ℕ → Bound
+bound s = binding (s .args .list .now) (s .args .pool .now)
+
+-- places, each seen from a later one
+abbrev entry : tie.After-quick-reference → tie.Start
+entry c = c .before .before .before .before .before
+
+abbrev to-quick-reference : tie.After-name-end → tie.After-quick-reference
+to-quick-reference c = c .before .before
 
 add-start : tie.Need-add-start
 add-start c = search needs
@@ -14,24 +29,40 @@ quick-reference-requires : tie.Need-quick-reference-requires
 quick-reference-requires c κs = search needs
 
 add-char-step : tie.Need-add-char-step
-add-char-step c = omega (arith, c .before .before .quick-reference .ensures (c .before .if1 .taken) .2 .closed .inside)
+add-char-step c =
+    let after-if1 = c .before in
+    let after-quick-reference = after-if1 .before in
+    omega (arith, after-quick-reference .quick-reference .ensures (after-if1 .if1 .taken) .2 .closed .inside)
 
 char-step-requires : tie.Need-char-step-requires
-char-step-requires c κs = omega (arith, c .before .before .before .quick-reference .ensures (c .before .before .if1 .taken) .2 .low)
+char-step-requires c κs =
+    let after-if1 = c .before .before in
+    let after-quick-reference = after-if1 .before in
+    omega (arith, after-quick-reference .quick-reference .ensures (after-if1 .if1 .taken) .2 .low)
 
 same-length : tie.Need-same-length
 same-length c = search needs
 
 returns : tie.Need-returns
 returns c =
-    let found = c .before .before .before .before .before .before .quick-reference .ensures (c .before .before .before .before .before .if1 .taken) in
-    referred-char (binding (c .before .before .before .before .before .before .before .before .before .before .before .args .list .now) (c .before .before .before .before .before .before .before .before .before .before .before .args .pool .now)) (c .before .before .before .before .before .before .before .before .before .before .before .args .text .now) (c .before .before .before .before .before .before .before .before .before .before .before .args .i) (c .before .before .before .before .before .before .quick-reference .result) (c .before .before .before .before .before .before .before .before .before .before .before .pre .1 .0 .1) (found .1) (found .2) (c .before .before .char-step .ensures)
+    let after-char-step = c .before .before in
+    let after-if1 = after-char-step .before .before .before in
+    let after-quick-reference = after-if1 .before in
+    let start = entry after-quick-reference in
+    let given = start .args in
+    let at-quick-reference = after-quick-reference .quick-reference in
+    let found = at-quick-reference .ensures (after-if1 .if1 .taken) in
+    referred-char (bound start) (given .text .now) (given .i) (at-quick-reference .result) (start .pre .1 .0 .1) (found .1) (found .2) (after-char-step .char-step .ensures)
 
 name-end-requires : tie.Need-name-end-requires
 name-end-requires c κs = search needs
 
 returns-2 : tie.Need-returns-2
-returns-2 c = referred-none (binding (c .before .before .before .before .before .before .before .before .args .list .now) (c .before .before .before .before .before .before .before .before .args .pool .now)) (c .before .before .before .before .before .before .before .before .args .text .now) (c .before .before .before .before .before .before .before .before .args .i) (c .before .name-end .result) (c .before .before .before .before .before .before .before .before .pre .1 .0 .1) (c .before .name-end .ensures) (c .if2 .taken)
+returns-2 c =
+    let after-name-end = c .before in
+    let start = entry (to-quick-reference after-name-end) in
+    let given = start .args in
+    referred-none (bound start) (given .text .now) (given .i) (after-name-end .name-end .result) (start .pre .1 .0 .1) (after-name-end .name-end .ensures) (c .if2 .taken)
 
 shared-slice-read-if3 : tie.Need-shared-slice-read-if3
 shared-slice-read-if3 c = search needs
@@ -40,10 +71,22 @@ add-number-step : tie.Need-add-number-step
 add-number-step c = search needs
 
 sub-number-step : tie.Need-sub-number-step
-sub-number-step c = digits-from true (c .before .before .before .before .before .before .before .before .before .before .args .text .now) (c .before .before .before .before .before .before .before .before .before .before .args .i) (c .before .before .before .name-end .result) (c .before .before .before .name-end .ensures) (omega (arith, c .before .before .before .name-end .ensures .to, c .before .before .if2 .left)) (c .if3 .taken)
+sub-number-step c =
+    let after-if2 = c .before .before in
+    let after-name-end = after-if2 .before in
+    let start = entry (to-quick-reference after-name-end) in
+    let at-name-end = after-name-end .name-end in
+    let given = start .args in
+    digits-from true (given .text .now) (given .i) (at-name-end .result) (at-name-end .ensures) (omega (arith, at-name-end .ensures .to, after-if2 .if2 .left)) (c .if3 .taken)
 
 part-number-step-start : tie.Need-part-number-step-start
-part-number-step-start c = digits-from true (c .before .before .before .before .before .before .before .before .before .before .args .text .now) (c .before .before .before .before .before .before .before .before .before .before .args .i) (c .before .before .before .name-end .result) (c .before .before .before .name-end .ensures) (omega (arith, c .before .before .before .name-end .ensures .to, c .before .before .if2 .left)) (c .if3 .taken)
+part-number-step-start c =
+    let after-if2 = c .before .before in
+    let after-name-end = after-if2 .before in
+    let start = entry (to-quick-reference after-name-end) in
+    let at-name-end = after-name-end .name-end in
+    let given = start .args in
+    digits-from true (given .text .now) (given .i) (at-name-end .result) (at-name-end .ensures) (omega (arith, at-name-end .ensures .to, after-if2 .if2 .left)) (c .if3 .taken)
 
 part-number-step-end : tie.Need-part-number-step-end
 part-number-step-end c = search needs
@@ -58,7 +101,16 @@ same-length-2 : tie.Need-same-length-2
 same-length-2 c = search needs
 
 returns-3 : tie.Need-returns-3
-returns-3 c = referred-number (binding (c .before .before .before .before .before .before .before .before .before .before .before .before .before .before .before .args .list .now) (c .before .before .before .before .before .before .before .before .before .before .before .before .before .before .before .args .pool .now)) (c .before .before .before .before .before .before .before .before .before .before .before .before .before .before .before .args .text .now) (c .before .before .before .before .before .before .before .before .before .before .before .before .before .before .before .args .i) (c .before .before .before .before .before .before .before .before .name-end .result) (c .before .before .before .before .before .before .before .before .before .before .before .before .before .before .before .pre .1 .0 .1) (c .before .before .before .before .before .before .before .before .name-end .ensures) (omega (arith, c .before .before .before .before .before .before .before .before .name-end .ensures .to, c .before .before .before .before .before .before .before .if2 .left)) (c .before .before .before .before .before .if3 .taken) (c .before .before .number-step .ensures)
+returns-3 c =
+    let after-number-step = c .before .before in
+    let after-if3 = after-number-step .before .before .before in
+    let after-if2 = after-if3 .before .before in
+    let after-name-end = after-if2 .before in
+    let start = entry (to-quick-reference after-name-end) in
+    let given = start .args in
+    let at-name-end = after-name-end .name-end in
+    referred-number (bound start) (given .text .now) (given .i) (at-name-end .result) (start .pre .1 .0 .1) (at-name-end .ensures)
+    (omega (arith, at-name-end .ensures .to, after-if2 .if2 .left)) (after-if3 .if3 .taken) (after-number-step .number-step .ensures)
 
 sub-name-step : tie.Need-sub-name-step
 sub-name-step c = search needs
@@ -79,7 +131,16 @@ same-length-3 : tie.Need-same-length-3
 same-length-3 c = search needs
 
 returns-4 : tie.Need-returns-4
-returns-4 c = referred-name (binding (c .before .before .before .before .before .before .before .before .before .before .before .before .before .before .before .args .list .now) (c .before .before .before .before .before .before .before .before .before .before .before .before .before .before .before .args .pool .now)) (c .before .before .before .before .before .before .before .before .before .before .before .before .before .before .before .args .text .now) (c .before .before .before .before .before .before .before .before .before .before .before .before .before .before .before .args .i) (c .before .before .before .before .before .before .before .before .name-end .result) (c .before .before .before .before .before .before .before .before .before .before .before .before .before .before .before .pre .1 .0 .1) (c .before .before .before .before .before .before .before .before .name-end .ensures) (omega (arith, c .before .before .before .before .before .before .before .before .name-end .ensures .to, c .before .before .before .before .before .before .before .if2 .left)) (c .before .before .before .before .before .if3 .left) (c .before .before .name-step .ensures)
+returns-4 c =
+    let after-name-step = c .before .before in
+    let after-if3 = after-name-step .before .before .before in
+    let after-if2 = after-if3 .before .before in
+    let after-name-end = after-if2 .before in
+    let start = entry (to-quick-reference after-name-end) in
+    let given = start .args in
+    let at-name-end = after-name-end .name-end in
+    referred-name (bound start) (given .text .now) (given .i) (at-name-end .result) (start .pre .1 .0 .1) (at-name-end .ensures)
+    (omega (arith, at-name-end .ensures .to, after-if2 .if2 .left)) (after-if3 .if3 .left) (after-name-step .name-step .ensures)
 
 pub unescape-step-spec : {M : Type 1} → statement M
 unescape-step-spec =
