@@ -2,20 +2,21 @@
 use mathlib.Core.Path.{_≡_, refl, sym, ap, _∙_}
 use mathlib.Core.Bool.{Bool, true, false, _&&_, _||_, true≢false}
 use mathlib.Core.List.{List, [], _∷_}
-use Prim.Native.Nat.{ℕ, zero, suc, _+_, _-_, _≤_, _<_, zero-le, suc-le-suc}
+use Prim.Native.Nat.{ℕ, zero, suc, _+_, _≤_, _<_, zero-le, suc-le-suc}
 use native.Mathlib.Omega.{arith}
 use native.Mathlib.Nat.{le-refl}
 use native.Mathlib.Numerals.{add-one}
-use lib.Dec.{eqb, leb, ltb}
+use lib.Dec.{eqb, ltb}
 use lib.ListN.{length, drop, getD, length-drop, drop-of-length-le}
 use lib.Seq.{drop-cons, drop-drop}
-use borrow.Author.Tests.{eqb-true, eqb-false, eq-eqb, ne-eqb, leb-true, lt-ltb}
+use borrow.Author.Tests.{eqb-true, eqb-false, eq-eqb, ne-eqb, lt-ltb}
 use Rattle.text.specs.Bytes.{begins}
 use Rattle.text.specs.Version.{Rule, xml10, xml11, ruleOf}
-use Rattle.text.proofs.Bytes.{pick-by, and-left, and-right, or-left, or-right, and-true}
+use Rattle.text.proofs.Bytes.{pick-by, and-right, or-left, or-right, and-true}
 use Rattle.eols.specs.LineEnds.{lineEnds, widthOf, lineEnd, eolByte, eolSkip, eolsFrom}
 use Rattle.output.proofs.Writers.{Copies}
-use Rattle.eols.specs.Stops.{ruleFor, stopByte, Stepped}
+use Rattle.runs.specs.RunEnds.{lineStop}
+use Rattle.eols.specs.Stops.{ruleFor, Stepped}
 
 -- to skip bytes is to start later
 pub eols-skip : (r : Rule) (k : ℕ) (bs : List ℕ) → eolsFrom r k bs ≡ eolsFrom r 0 (drop k bs)
@@ -103,6 +104,10 @@ module _ (b : ℕ) (bs : List ℕ) where
     unfolding lineEnd
     none11 c e = rw (ne-eqb b 13 n, ne-eqb b 10 m, ne-eqb b 0xC2 c, ne-eqb b 0xE2 e)
 
+-- the width at an index, from the byte there and those after it
+pub width-at : (r : Rule) (t : List ℕ) (i : ℕ) {w : ℕ} → i < length t → lineEnd r (getD t i 0 ∷ drop (i + 1) t) ≡ w → w ≡ lineEnd r (drop i t)
+width-at r t i h e = sym (ap (lineEnd r) (at-head t i h) ∙ e)
+
 -- ---- patterns at an index
 
 pub begins-out : (p : ℕ) (ps t : List ℕ) (i : ℕ) → length t ≤ i → false ≡ begins (p ∷ ps) (drop i t)
@@ -152,14 +157,14 @@ step-ends newer t i (suc w) h n e =
 -- ---- runs
 
 -- a byte that is no stop is copied, LF too
-plain-width : (newer : Bool) (b : ℕ) (bs : List ℕ) → stopByte newer b ≡ false → (eolByte (lineEnd (ruleFor newer) (b ∷ bs)) b ≡ b) × (eolSkip (lineEnd (ruleFor newer) (b ∷ bs)) ≡ 0)
+plain-width : (newer : Bool) (b : ℕ) (bs : List ℕ) → lineStop newer b ≡ false → (eolByte (lineEnd (ruleFor newer) (b ∷ bs)) b ≡ b) × (eolSkip (lineEnd (ruleFor newer) (b ∷ bs)) ≡ 0)
 unfolding eolByte eolSkip
 plain-width newer b bs e = go newer e (eqb b 10) refl
   where
-    not-cr : (v : Bool) → stopByte v b ≡ false → b ≡ 13 → ⊥
+    not-cr : (v : Bool) → lineStop v b ≡ false → b ≡ 13 → ⊥
     not-cr v f = eqb-false b 13 (or-left (eqb b 13) (v && (eqb b 0xC2 || eqb b 0xE2)) f)
 
-    go : (v : Bool) → stopByte v b ≡ false → (u : Bool) → eqb b 10 ≡ u
+    go : (v : Bool) → lineStop v b ≡ false → (u : Bool) → eqb b 10 ≡ u
         → (eolByte (lineEnd (ruleFor v) (b ∷ bs)) b ≡ b) × (eolSkip (lineEnd (ruleFor v) (b ∷ bs)) ≡ 0)
     go v f true q = rw (lf-alone b bs v (eqb-true b 10 q)) (sym (eqb-true b 10 q), refl)
     go false f false q = rw (none10 b bs (not-cr false f) (eqb-false b 10 q)) (refl, refl)
@@ -168,7 +173,7 @@ plain-width newer b bs e = go newer e (eqb b 10) refl
         rw (none11 b bs (not-cr true f) (eqb-false b 10 q) (eqb-false b 0xC2 (or-left (eqb b 0xC2) (eqb b 0xE2) g)) (eqb-false b 0xE2 (or-right (eqb b 0xC2) (eqb b 0xE2) g)))
         (refl, refl)
 
-plain-one : (newer : Bool) (t : List ℕ) (i : ℕ) → i < length t → stopByte newer (getD t i 0) ≡ false
+plain-one : (newer : Bool) (t : List ℕ) (i : ℕ) → i < length t → lineStop newer (getD t i 0) ≡ false
     → eolsFrom (ruleFor newer) 0 (drop i t) ≡ getD t i 0 ∷ eolsFrom (ruleFor newer) 0 (drop (i + 1) t)
 unfolding eolsFrom
 plain-one newer t i h e =
@@ -176,7 +181,7 @@ plain-one newer t i h e =
     rw (at-head t i h, z .0, z .1)
 
 -- a run without stops is copied as it stands
-pub plain-run : (newer : Bool) → Copies (stopByte newer) (eolsFrom (ruleFor newer) 0)
+pub plain-run : (newer : Bool) → Copies (lineStop newer) (eolsFrom (ruleFor newer) 0)
 plain-run newer t i zero p = let q : i + 0 ≡ i = omega arith in rw q
 plain-run newer t i (suc n) p =
     let f = p .to in
@@ -190,16 +195,3 @@ pub version-rule : (version : ℕ) (newer : Bool) → newer ≡ ltb 1 version �
 version-rule zero newer e = rw e
 version-rule (suc zero) newer e = rw e
 version-rule (suc (suc n)) newer e = rw (e, lt-ltb 1 (suc (suc n)) (omega arith))
-
--- bytes told apart by one comparison; the bounds are asked by themselves, so that a wrong one is refused as a number
-pub common-plain : {low high : ℕ} (b : ℕ) → leb low b && leb b high ≡ true → 13 < low → high < 0xC2 → (newer : Bool) → stopByte newer b ≡ false
-common-plain {low} {high} b e past-cr before-lead newer =
-    let from = leb-true low b (and-left (leb low b) (leb b high) e) in
-    let to = leb-true b high (and-right (leb low b) (leb b high) e) in
-    let cr : eqb b 13 ≡ false = ne-eqb b 13 (λ q. omega (arith, from, past-cr, q)) in
-    let lead : (c : ℕ) → 0xC1 < c → eqb b c ≡ false = λ c h. ne-eqb b c (λ q. omega (arith, to, before-lead, h, q)) in
-    rw (cr, lead 0xC2 (omega arith), lead 0xE2 (omega arith)) (no newer)
-  where
-    no : (n : Bool) → n && false ≡ false
-    no true = refl
-    no false = refl

@@ -1,9 +1,8 @@
--- The bytes at which a line end other than LF may start: the terms in which the code's runs are proved. Assumes nothing.
+-- The rule that the code's flag stands for, and one step over a byte or a line end: the terms in which the code is proved. Assumes nothing.
 use Prim.Native.Nat.{ℕ, _+_, _≤_}
 use mathlib.Core.Path.{_≡_}
-use mathlib.Core.Bool.{Bool, true, false, _&&_, _||_}
+use mathlib.Core.Bool.{Bool, true, false}
 use mathlib.Core.List.{List, _∷_}
-use lib.Dec.{eqb}
 use lib.ListN.{length, drop}
 use Rattle.text.specs.Version.{Rule, xml10, xml11}
 use Rattle.eols.specs.LineEnds.{eolsFrom}
@@ -13,9 +12,6 @@ use Rattle.eols.specs.declared.Step.{Step}
 abbrev pub ruleFor : Bool → Rule
 ruleFor false = xml10
 ruleFor true = xml11
-
-abbrev pub stopByte : Bool → ℕ → Bool
-stopByte newer b = eqb b 13 || (newer && (eqb b 0xC2 || eqb b 0xE2))
 
 -- the byte that is written for what stands at `i`, and how many bytes that is
 pub record Stepped (newer : Bool) (text : List ℕ) (i : ℕ) (s : Step) : Type 0 where

@@ -1,15 +1,14 @@
 // Line ends of XML 1.0 and 1.1: every one becomes LF. One code path for both versions; `newer` says that it is 1.1.
 ghost use mathlib.Core.Path.{_≡_};
-ghost use Prim.Native.Nat.{ℕ, _+_, _<_, _≤_};
-ghost use mathlib.Core.Bool.{Bool, true, false};
+ghost use Prim.Native.Nat.{_+_, _<_, _≤_};
+ghost use mathlib.Core.Bool.{false};
 ghost use mathlib.Core.List.{[], _∷_};
 ghost use lib.ListN.{length, getD, drop};
 ghost use Rattle.text.specs.Bytes.{begins};
 ghost use Rattle.text.specs.Call.{callOf, finish, laid};
 ghost use Rattle.text.specs.Version.{ruleOf, xml11};
 ghost use Rattle.eols.specs.LineEnds.{lineEnd, eols};
-ghost use Rattle.output.specs.Runs.{Plain, Copied, Room};
-ghost use Rattle.eols.specs.Stops.{ruleFor, stopByte, Stepped};
+ghost use Rattle.eols.specs.Stops.{ruleFor, Stepped};
 use text::Answer;
 use text::refusals;
 
@@ -17,72 +16,6 @@ use text::refusals;
 pub struct Step {
     pub byte: u8,
     pub width: usize,
-}
-
-fn is_stop(b: u8, newer: bool) -> bool
-    ensures { λ r. ⌜ r ≡ stopByte newer b ⌝ }
-{
-    (b == 13) | (newer & ((b == 0xc2) | (b == 0xe2)))
-}
-
-// Letters and most other bytes are stops of neither version: one comparison tells.
-fn is_common(b: u8) -> bool
-    ensures { λ r. ⌜ (r ≡ true → (newer : Bool) → stopByte newer b ≡ false) ⌝ }
-{
-    (14 <= b) & (b <= 0xc1)
-}
-
-// The same as is_stop, told by one comparison for most bytes.
-fn ends_run(b: u8, newer: bool) -> bool
-    ensures { λ r. ⌜ r ≡ stopByte newer b ⌝ }
-{
-    if is_common(b) {
-        return false;
-    }
-    is_stop(b, newer)
-}
-
-// Is one of the `size` bytes from i on a stop? Under XML 1.0 the first test tells by itself.
-fn any_stop(text: &[u8], i: usize, newer: bool, size: usize) -> bool
-    requires { ⌜ i + size ≤ length (now text) ⌝ }
-    ensures { λ r. ⌜ (r ≡ false → Plain (stopByte newer) (now (text .entry)) i (i + size)) ⌝ }
-{
-    if output::any_of(text, i, size, 13, 13) {
-        return true;
-    }
-    if newer {
-        return output::any_of(text, i, size, 0xc2, 0xe2);
-    }
-    false
-}
-
-fn plain_blocks(text: &[u8], from: usize, newer: bool) -> usize
-    requires { ⌜ from ≤ length (now text) ⌝ }
-    ensures { λ r. ⌜ Plain (stopByte newer) (now (text .entry)) from r ⌝ }
-{
-    let mut i = from;
-    while 16 <= text.len() - i {
-        if any_stop(text, i, newer, 16) {
-            return i;
-        }
-        i += 16;
-    }
-    i
-}
-
-// The end of a run without stops that starts at `from`.
-fn plain_end(text: &[u8], from: usize, newer: bool) -> usize
-    requires { ⌜ from ≤ length (now text) ⌝ }
-    ensures { λ r. ⌜ Plain (stopByte newer) (now (text .entry)) from r ⌝ }
-{
-    let mut i = plain_blocks(text, from, newer);
-    while i < text.len() {
-        if is_stop(text[i], newer) {
-            return i;
-        }
-        i += 1;
-    }
-    i
 }
 
 pub fn byte_at(text: &[u8], i: usize, b: u8) -> bool
@@ -180,7 +113,7 @@ fn eols_length(text: &[u8], newer: bool) -> usize
     let mut n: usize = 0;
     let mut i: usize = 0;
     while i < text.len() {
-        let e = plain_end(text, i, newer);
+        let e = runs::lines::plain_end(text, i, newer);
         n += e - i;
         if e == text.len() {
             return n;
@@ -192,76 +125,16 @@ fn eols_length(text: &[u8], newer: bool) -> usize
     n
 }
 
-// Copies the blocks without stops at the text's start, each as soon as it is tested.
-fn put_blocks(text: &[u8], newer: bool, out: &mut [u8]) -> usize
-    requires { ⌜ Room (stopByte newer) (now text) (now out) ⌝ }
-    ensures { λ r. ⌜ Copied (stopByte newer) (now (text .entry)) (now (out .entry)) (now (out .exit)) r ⌝ }
-{
-    let mut i: usize = 0;
-    while 16 <= text.len() - i {
-        if any_stop(text, i, newer, 16) {
-            return i;
-        }
-        output::put_block(&text[i..i + 16], &mut out[i..]);
-        i += 16;
-    }
-    i
-}
-
-// The same by 32 bytes: where there are no stops for long.
-fn put_wide(text: &[u8], newer: bool, out: &mut [u8]) -> usize
-    requires { ⌜ Room (stopByte newer) (now text) (now out) ⌝ }
-    ensures { λ r. ⌜ Copied (stopByte newer) (now (text .entry)) (now (out .entry)) (now (out .exit)) r ⌝ }
-{
-    let mut i: usize = 0;
-    while 32 <= text.len() - i {
-        if any_stop(text, i, newer, 32) {
-            return i;
-        }
-        let half = i + 16;
-        output::put_block(&text[i..half], &mut out[i..]);
-        output::put_block(&text[half..half + 16], &mut out[half..]);
-        i += 32;
-    }
-    i
-}
-
-// Copies the bytes up to the first stop.
-fn put_bytes(text: &[u8], newer: bool, out: &mut [u8]) -> usize
-    requires { ⌜ Room (stopByte newer) (now text) (now out) ⌝ }
-    ensures { λ r. ⌜ Copied (stopByte newer) (now (text .entry)) (now (out .entry)) (now (out .exit)) r ⌝ }
-{
-    let mut i: usize = 0;
-    while i < text.len() {
-        let b = text[i];
-        if ends_run(b, newer) {
-            return i;
-        }
-        out[i] = b;
-        i += 1;
-    }
-    i
-}
-
-// Copies the run without stops at the text's start, and says how long it is.
-fn put_plain(text: &[u8], newer: bool, out: &mut [u8]) -> usize
-    requires { ⌜ Room (stopByte newer) (now text) (now out) ⌝ }
-    ensures { λ r. ⌜ Copied (stopByte newer) (now (text .entry)) (now (out .entry)) (now (out .exit)) r ⌝ }
-{
-    let near = put_blocks(text, newer, out);
-    near + put_bytes(&text[near..], newer, &mut out[near..])
-}
-
 // Writes the text with its line ends normalized, run by run. The length written.
 fn write_eols(text: &[u8], newer: bool, out: &mut [u8]) -> usize
     requires { ⌜ length (eols (ruleFor newer) (now text)) ≤ length (now out) ⌝ }
     ensures { λ r. ⌜ (r ≡ length (eols (ruleFor newer) (now (text .entry)))) × (now (out .exit) ≡ laid (eols (ruleFor newer) (now (text .entry))) (now (out .entry))) ⌝ }
 {
-    let start = put_wide(text, newer, out);
+    let start = runs::lines::put_wide(text, newer, out);
     let mut at = start;
     let mut i = start;
     while i < text.len() {
-        let count = put_plain(&text[i..], newer, &mut out[at..]);
+        let count = runs::lines::put_plain(&text[i..], newer, &mut out[at..]);
         let e = i + count;
         at += count;
         if e == text.len() {

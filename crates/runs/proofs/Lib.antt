@@ -1,3 +1,5 @@
 pub mod Search
 pub mod Puts
 pub mod Blockwise
+pub mod Copying
+pub mod Bytes

@@ -2,7 +2,7 @@
 -- proved; no promise of a call rests on them. Assumes nothing.
 use Prim.Native.Nat.{ℕ, _+_, _-_, _≤_, _<_}
 use mathlib.Core.Path.{_≡_}
-use mathlib.Core.Bool.{Bool, true}
+use mathlib.Core.Bool.{Bool, true, _&&_, _||_}
 use mathlib.Core.List.{List}
 use lib.Dec.{eqb}
 use lib.ListN.{length, getD, take, drop}
@@ -29,3 +29,7 @@ Put text i e old new = new ≡ over (take (e - i) (drop i text)) old
 -- Unescaping: the one byte at which a run ends
 abbrev pub isAmp : ℕ → Bool
 isAmp b = eqb b 38
+
+-- Line ends: the bytes at which one other than LF may start
+abbrev pub lineStop : Bool → ℕ → Bool
+lineStop newer b = eqb b 13 || (newer && (eqb b 0xC2 || eqb b 0xE2))

@@ -5,6 +5,7 @@ ghost use lib.ListN.{length};
 ghost use Rattle.text.specs.Call.{laid};
 
 pub mod amp;
+pub mod lines;
 
 // Copies a run of 32 bytes, by two blocks.
 fn put_two_blocks(src: &[u8], out: &mut [u8])

@@ -1,8 +1,7 @@
+-- `cr_width`: a law for each return (`cr-lf`, `cr-nel`, `cr-alone11`, `cr-alone10`), at an index by `width-at`.
 use mathlib.Core.Path.{sym, _∙_}
-use Prim.Native.Nat.{_+_, _-_}
-use lib.ListN.{drop, getD}
-use Rattle.eols.proofs.LineEnds.{at-head, cr-lf, cr-nel, cr-alone10, cr-alone11}
 use borrow.Author.Needs.{needs}
+use Rattle.eols.proofs.LineEnds.{width-at, cr-lf, cr-nel, cr-alone10, cr-alone11}
 use Rattle.eols.proofs.cr_width.Statement.{statement}
 use Rattle.eols.proofs.cr_width.Tie as tie
 
@@ -13,7 +12,9 @@ byte-at-requires : tie.Need-byte-at-requires
 byte-at-requires c κs = search needs
 
 returns : tie.Need-returns
-returns c = sym (rw (at-head (c .before .before .before .args .text .now) (c .before .before .before .args .i) (c .before .before .before .pre .0)) (cr-lf (getD (c .before .before .before .args .text .now) (c .before .before .before .args .i) 0) (drop (c .before .before .before .args .i + 1) (c .before .before .before .args .text .now)) (c .before .before .before .args .newer) (c .before .before .before .pre .1) (sym (c .before .byte-at .ensures) ∙ c .if1 .taken)))
+returns c =
+    let s = c .before .before .before in
+    width-at _ (s .args .text .now) (s .args .i) (s .pre .0) (cr-lf _ _ (s .args .newer) (s .pre .1) (sym (c .before .byte-at .ensures) ∙ c .if1 .taken))
 
 add-two-at : tie.Need-add-two-at
 add-two-at c = search needs
@@ -22,13 +23,24 @@ two-at-requires : tie.Need-two-at-requires
 two-at-requires c κs = search needs
 
 returns-2 : tie.Need-returns-2
-returns-2 c = sym (rw (at-head (c .before .before .before .before .before .before .args .text .now) (c .before .before .before .before .before .before .args .i) (c .before .before .before .before .before .before .pre .0), c .before .before .if2 .taken) (cr-nel (getD (c .before .before .before .before .before .before .args .text .now) (c .before .before .before .before .before .before .args .i) 0) (drop (c .before .before .before .before .before .before .args .i + 1) (c .before .before .before .before .before .before .args .text .now)) (c .before .before .before .before .before .before .pre .1) (sym (c .before .before .before .before .byte-at .ensures) ∙ c .before .before .before .if1 .left) (sym (c .before .two-at .ensures) ∙ c .if3 .taken)))
+returns-2 c =
+    let test = c .before .before in
+    let s = test .before .before .before .before in
+    width-at _ (s .args .text .now) (s .args .i) (s .pre .0)
+    (rw (test .if2 .taken) (cr-nel _ _ (s .pre .1) (sym (test .before .before .byte-at .ensures) ∙ test .before .if1 .left) (sym (c .before .two-at .ensures) ∙ c .if3 .taken)))
 
 returns-3 : tie.Need-returns-3
-returns-3 c = sym (rw (at-head (c .before .before .before .before .before .before .args .text .now) (c .before .before .before .before .before .before .args .i) (c .before .before .before .before .before .before .pre .0), c .before .before .if2 .taken) (cr-alone11 (getD (c .before .before .before .before .before .before .args .text .now) (c .before .before .before .before .before .before .args .i) 0) (drop (c .before .before .before .before .before .before .args .i + 1) (c .before .before .before .before .before .before .args .text .now)) (c .before .before .before .before .before .before .pre .1) (sym (c .before .before .before .before .byte-at .ensures) ∙ c .before .before .before .if1 .left) (sym (c .before .two-at .ensures) ∙ c .if3 .left)))
+returns-3 c =
+    let test = c .before .before in
+    let s = test .before .before .before .before in
+    width-at _ (s .args .text .now) (s .args .i) (s .pre .0)
+    (rw (test .if2 .taken) (cr-alone11 _ _ (s .pre .1) (sym (test .before .before .byte-at .ensures) ∙ test .before .if1 .left) (sym (c .before .two-at .ensures) ∙ c .if3 .left)))
 
 returns-4 : tie.Need-returns-4
-returns-4 c = sym (rw (at-head (c .before .before .before .before .args .text .now) (c .before .before .before .before .args .i) (c .before .before .before .before .pre .0), c .if2 .left) (cr-alone10 (getD (c .before .before .before .before .args .text .now) (c .before .before .before .before .args .i) 0) (drop (c .before .before .before .before .args .i + 1) (c .before .before .before .before .args .text .now)) (c .before .before .before .before .pre .1) (sym (c .before .before .byte-at .ensures) ∙ c .before .if1 .left)))
+returns-4 c =
+    let s = c .before .before .before .before in
+    width-at _ (s .args .text .now) (s .args .i) (s .pre .0)
+    (rw (c .if2 .left) (cr-alone10 _ _ (s .pre .1) (sym (c .before .before .byte-at .ensures) ∙ c .before .if1 .left)))
 
 pub cr-width-spec : {M : Type 1} → statement M
 cr-width-spec =

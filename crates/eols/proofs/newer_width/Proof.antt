@@ -1,8 +1,7 @@
+-- `newer_width`: a law for each return (`nel`, `not-nel`, `ls`, `not-ls`, `none11`), at an index by `width-at`.
 use mathlib.Core.Path.{sym, _∙_}
-use Prim.Native.Nat.{_+_, _-_}
-use lib.ListN.{drop, getD}
-use Rattle.eols.proofs.LineEnds.{at-head, nel, not-nel, ls, not-ls, none11}
 use borrow.Author.Needs.{needs}
+use Rattle.eols.proofs.LineEnds.{width-at, nel, not-nel, ls, not-ls, none11}
 use Rattle.eols.proofs.newer_width.Statement.{statement}
 use Rattle.eols.proofs.newer_width.Tie as tie
 
@@ -16,10 +15,16 @@ byte-at-requires : tie.Need-byte-at-requires
 byte-at-requires c κs = search needs
 
 returns : tie.Need-returns
-returns c = sym (rw (at-head (c .before .before .before .before .before .args .text .now) (c .before .before .before .before .before .args .i) (c .before .before .before .before .before .pre .0)) (nel (getD (c .before .before .before .before .before .args .text .now) (c .before .before .before .before .before .args .i) 0) (drop (c .before .before .before .before .before .args .i + 1) (c .before .before .before .before .before .args .text .now)) (c .before .before .before .before .before .pre .1 .0) (c .before .before .before .before .before .pre .1 .1) (c .before .before .if1 .taken) (sym (c .before .byte-at .ensures) ∙ c .if2 .taken)))
+returns c =
+    let s = c .before .before .before .before .before in
+    width-at _ (s .args .text .now) (s .args .i) (s .pre .0)
+    (nel _ _ (s .pre .1 .0) (s .pre .1 .1) (c .before .before .if1 .taken) (sym (c .before .byte-at .ensures) ∙ c .if2 .taken))
 
 returns-2 : tie.Need-returns-2
-returns-2 c = sym (rw (at-head (c .before .before .before .before .before .args .text .now) (c .before .before .before .before .before .args .i) (c .before .before .before .before .before .pre .0)) (not-nel (getD (c .before .before .before .before .before .args .text .now) (c .before .before .before .before .before .args .i) 0) (drop (c .before .before .before .before .before .args .i + 1) (c .before .before .before .before .before .args .text .now)) (c .before .before .before .before .before .pre .1 .0) (c .before .before .before .before .before .pre .1 .1) (c .before .before .if1 .taken) (sym (c .before .byte-at .ensures) ∙ c .if2 .left)))
+returns-2 c =
+    let s = c .before .before .before .before .before in
+    width-at _ (s .args .text .now) (s .args .i) (s .pre .0)
+    (not-nel _ _ (s .pre .1 .0) (s .pre .1 .1) (c .before .before .if1 .taken) (sym (c .before .byte-at .ensures) ∙ c .if2 .left))
 
 shared-slice-read-if3 : tie.Need-shared-slice-read-if3
 shared-slice-read-if3 c = search needs
@@ -31,13 +36,21 @@ two-at-requires : tie.Need-two-at-requires
 two-at-requires c κs = search needs
 
 returns-3 : tie.Need-returns-3
-returns-3 c = sym (rw (at-head (c .before .before .before .before .before .before .before .args .text .now) (c .before .before .before .before .before .before .before .args .i) (c .before .before .before .before .before .before .before .pre .0)) (ls (getD (c .before .before .before .before .before .before .before .args .text .now) (c .before .before .before .before .before .before .before .args .i) 0) (drop (c .before .before .before .before .before .before .before .args .i + 1) (c .before .before .before .before .before .before .before .args .text .now)) (c .before .before .before .before .before .before .before .pre .1 .0) (c .before .before .before .before .before .before .before .pre .1 .1) (c .before .before .if3 .taken) (sym (c .before .two-at .ensures) ∙ c .if4 .taken)))
+returns-3 c =
+    let s = c .before .before .before .before .before .before .before in
+    width-at _ (s .args .text .now) (s .args .i) (s .pre .0)
+    (ls _ _ (s .pre .1 .0) (s .pre .1 .1) (c .before .before .if3 .taken) (sym (c .before .two-at .ensures) ∙ c .if4 .taken))
 
 returns-4 : tie.Need-returns-4
-returns-4 c = sym (rw (at-head (c .before .before .before .before .before .before .before .args .text .now) (c .before .before .before .before .before .before .before .args .i) (c .before .before .before .before .before .before .before .pre .0)) (not-ls (getD (c .before .before .before .before .before .before .before .args .text .now) (c .before .before .before .before .before .before .before .args .i) 0) (drop (c .before .before .before .before .before .before .before .args .i + 1) (c .before .before .before .before .before .before .before .args .text .now)) (c .before .before .before .before .before .before .before .pre .1 .0) (c .before .before .before .before .before .before .before .pre .1 .1) (c .before .before .if3 .taken) (sym (c .before .two-at .ensures) ∙ c .if4 .left)))
+returns-4 c =
+    let s = c .before .before .before .before .before .before .before in
+    width-at _ (s .args .text .now) (s .args .i) (s .pre .0)
+    (not-ls _ _ (s .pre .1 .0) (s .pre .1 .1) (c .before .before .if3 .taken) (sym (c .before .two-at .ensures) ∙ c .if4 .left))
 
 returns-5 : tie.Need-returns-5
-returns-5 c = sym (rw (at-head (c .before .before .before .before .before .args .text .now) (c .before .before .before .before .before .args .i) (c .before .before .before .before .before .pre .0)) (none11 (getD (c .before .before .before .before .before .args .text .now) (c .before .before .before .before .before .args .i) 0) (drop (c .before .before .before .before .before .args .i + 1) (c .before .before .before .before .before .args .text .now)) (c .before .before .before .before .before .pre .1 .0) (c .before .before .before .before .before .pre .1 .1) (c .before .before .if1 .left) (c .if3 .left)))
+returns-5 c =
+    let s = c .before .before .before .before .before in
+    width-at _ (s .args .text .now) (s .args .i) (s .pre .0) (none11 _ _ (s .pre .1 .0) (s .pre .1 .1) (c .before .before .if1 .left) (c .if3 .left))
 
 pub newer-width-spec : {M : Type 1} → statement M
 newer-width-spec =

@@ -19,22 +19,34 @@ eols-length-requires c κs = search needs
 
 returns : tie.Need-returns
 returns c =
-    finish-short (eols (ruleOf (c .before .before .before .before .before .args .version)) (c .before .before .before .before .before .args .text .now)) 0 (c .before .before .before .before .before .args .out .now)
-    (c .before .eols-length .ensures ∙ ap (λ (r : Rule). length (eols r (c .before .before .before .before .before .args .text .now))) (version-rule (c .before .before .before .before .before .args .version) _ refl)) (c .if2 .taken)
+    let after-eols-length = c .before in
+    let start = after-eols-length .before .before .before .before in
+    let given = start .args in
+    finish-short (eols (ruleOf (given .version)) (given .text .now)) 0 (given .out .now)
+    (after-eols-length .eols-length .ensures ∙ ap (λ (r : Rule). length (eols r (given .text .now))) (version-rule (given .version) _ refl)) (c .if2 .taken)
 
 write-eols-requires : tie.Need-write-eols-requires
 write-eols-requires c κs =
-    ⊎-elim (λ w. omega (arith, w .1 .ensures, w .2)) (λ w. omega (arith, w .left, no-longer (ruleFor (ltb 1 (c .before .before .before .before .args .version))) (c .before .before .before .before .args .text .now))) (c .before .if1 .came)
+    let after-if1 = c .before in
+    let start = after-if1 .before .before .before in
+    let given = start .args in
+    ⊎-elim (λ w. omega (arith, w .1 .ensures, w .2)) (λ w. omega (arith, w .left, no-longer (ruleFor (ltb 1 (given .version))) (given .text .now))) (after-if1 .if1 .came)
 
 same-length : tie.Need-same-length
 same-length c = search needs
 
 returns-2 : tie.Need-returns-2
 returns-2 c =
-    finish-laid (eols (ruleOf (c .before .before .before .before .before .before .before .args .version)) (c .before .before .before .before .before .before .before .args .text .now)) 0 (c .before .before .before .before .before .before .before .args .out .now)
-    (c .before .before .write-eols .ensures .0 ∙ ap (λ (r : Rule). length (eols r (c .before .before .before .before .before .before .before .args .text .now))) (version-rule (c .before .before .before .before .before .before .before .args .version) _ refl))
-    (⊎-elim (λ w. omega (arith, w .1 .ensures, w .2, c .before .before .write-eols .ensures .0)) (λ w. omega (arith, w .left, no-longer (ruleFor (ltb 1 (c .before .before .before .before .before .before .before .args .version))) (c .before .before .before .before .before .before .before .args .text .now), c .before .before .write-eols .ensures .0)) (c .before .before .before .before .if1 .came))
-    (c .before .before .write-eols .ensures .1 ∙ ap (λ (r : Rule). laid (eols r (c .before .before .before .before .before .before .before .args .text .now)) (c .before .before .before .before .before .before .before .args .out .now)) (version-rule (c .before .before .before .before .before .before .before .args .version) _ refl))
+    let after-write-eols = c .before .before in
+    let after-if1 = after-write-eols .before .before in
+    let start = after-if1 .before .before .before in
+    let given = start .args in
+    let at-write-eols = after-write-eols .write-eols in
+    finish-laid (eols (ruleOf (given .version)) (given .text .now)) 0 (given .out .now)
+    (at-write-eols .ensures .0 ∙ ap (λ (r : Rule). length (eols r (given .text .now))) (version-rule (given .version) _ refl))
+    (⊎-elim (λ w. omega (arith, w .1 .ensures, w .2, at-write-eols .ensures .0))
+    (λ w. omega (arith, w .left, no-longer (ruleFor (ltb 1 (given .version))) (given .text .now), at-write-eols .ensures .0)) (after-if1 .if1 .came))
+    (at-write-eols .ensures .1 ∙ ap (λ (r : Rule). laid (eols r (given .text .now)) (given .out .now)) (version-rule (given .version) _ refl))
 
 pub normalize-eols-spec : {M : Type 1} → statement M
 normalize-eols-spec =

@@ -1,5 +1,4 @@
 use mathlib.Core.Path.{sym, _∙_}
-use Prim.Native.Nat.{_-_}
 use Rattle.eols.proofs.LineEnds.{begins-two, begins-not}
 use borrow.Author.Needs.{needs}
 use Rattle.eols.proofs.two_at.Statement.{statement}
@@ -15,10 +14,19 @@ byte-at-requires-2 : tie.Need-byte-at-requires-2
 byte-at-requires-2 c κs = search needs
 
 returns : tie.Need-returns
-returns c = c .byte-at2 .ensures ∙ begins-two (c .before .before .before .before .args .a) (c .before .before .before .before .args .b) (c .before .before .before .before .args .text .now) (c .before .before .before .before .args .i) (sym (c .before .before .byte-at .ensures) ∙ c .before .if1 .taken)
+returns c =
+    let after-if1 = c .before in
+    let after-byte-at = after-if1 .before in
+    let start = after-byte-at .before .before in
+    let given = start .args in
+    c .byte-at2 .ensures ∙ begins-two (given .a) (given .b) (given .text .now) (given .i) (sym (after-byte-at .byte-at .ensures) ∙ after-if1 .if1 .taken)
 
 returns-2 : tie.Need-returns-2
-returns-2 c = begins-not (c .before .before .before .args .a) (c .before .before .before .args .b) (c .before .before .before .args .text .now) (c .before .before .before .args .i) (sym (c .before .byte-at .ensures) ∙ c .if1 .left)
+returns-2 c =
+    let after-byte-at = c .before in
+    let start = after-byte-at .before .before in
+    let given = start .args in
+    begins-not (given .a) (given .b) (given .text .now) (given .i) (sym (after-byte-at .byte-at .ensures) ∙ c .if1 .left)
 
 pub two-at-spec : {M : Type 1} → statement M
 two-at-spec =

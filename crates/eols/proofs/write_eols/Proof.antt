@@ -1,12 +1,14 @@
--- `write_eols` meets its contract: at each turn what is written of the first i bytes lies in the output, and the rest of it is kept. The
--- loop starts behind the run that `put_wide` has copied, so what the output was before that is any `old` over which it was copied. Assumes nothing.
+-- `write_eols`: at each turn what is written of the first i bytes lies in the output (`Written`), then the run that is copied (`put`), then
+-- a byte. The loop starts behind the run that `put_wide` has copied, so what the output was before is any `old` over which it was copied.
 use mathlib.Core.List.{List}
 use Prim.Native.Nat.{ℕ, _+_, _-_, _≤_}
 use native.Mathlib.Omega.{arith}
 use lib.ListN.{length, drop}
+use borrow.Rule.Slice.PartMut.{putMid}
 use Rattle.output.specs.Runs.{Copied}
+use Rattle.runs.specs.RunEnds.{lineStop}
 use Rattle.eols.specs.LineEnds.{eolsFrom, eols}
-use Rattle.eols.specs.Stops.{ruleFor, stopByte}
+use Rattle.eols.specs.Stops.{ruleFor}
 use Rattle.eols.proofs.Writing.{eols-over, start-room, start-written}
 use Rattle.eols.proofs.LineEnds.{plain-run}
 use Rattle.output.proofs.Writers.{rest-room, rest-run, run-written}
@@ -16,16 +18,74 @@ use Rattle.eols.proofs.write_eols.Statement.{statement}
 use Rattle.eols.proofs.write_eols.Tie as tie
 
 abbrev Inv-loop : tie.InvT-loop
-Inv-loop text newer out₀ start at₀ i₀ out at i = (i ≤ length text) × ((old : List ℕ) → Copied (stopByte newer) text old out₀ start → length (eols (ruleFor newer) text) ≤ length old → Written (eols (ruleFor newer) text) (eolsFrom (ruleFor newer) 0 (drop i text)) old out at)
+Inv-loop text newer out₀ start at₀ i₀ out at i =
+    (i ≤ length text)
+    × ((old : List ℕ) → Copied (lineStop newer) text old out₀ start → length (eols (ruleFor newer) text) ≤ length old
+    → Written (eols (ruleFor newer) text) (eolsFrom (ruleFor newer) 0 (drop i text)) old out at)
 
 abbrev μ-loop : tie.MeasureT-loop
 μ-loop text newer out₀ start at₀ i₀ out at i = length text - i
 
+-- places: the entry, seen from the end of the first run; that, seen from a turn; and the turn, seen from the end of its run
+abbrev entry : tie.After-put-wide Inv-loop μ-loop → tie.Start Inv-loop μ-loop
+entry c = c .before .before .before .before
+
+abbrev wide : tie.At-loop Inv-loop μ-loop → tie.After-put-wide Inv-loop μ-loop
+wide c = c .before .before .before
+
+abbrev turn : tie.After-put-plain Inv-loop μ-loop → tie.At-loop Inv-loop μ-loop
+turn c = c .before .before .before .before
+
+abbrev start : tie.At-loop Inv-loop μ-loop → tie.Start Inv-loop μ-loop
+start c = entry (wide c)
+
+-- what is to be written, whole and from an index on
+abbrev whole : tie.Start Inv-loop μ-loop → List ℕ
+whole s = eols (ruleFor (s .args .newer)) (s .args .text .now)
+
+abbrev rest : tie.Start Inv-loop μ-loop → ℕ → List ℕ
+rest s i = eolsFrom (ruleFor (s .args .newer)) 0 (drop i (s .args .text .now))
+
+-- where the run ends, and what lies in the output then
+abbrev end : tie.After-put-plain Inv-loop μ-loop → ℕ
+end c = turn c .loop .i + c .put-plain .result
+
+abbrev held : tie.After-put-plain Inv-loop μ-loop → List ℕ
+held c =
+    let l = turn c .loop in
+    putMid (l .at) (length (l .out) - l .at) (l .out) (c .put-plain .last .1 .1 .0)
+
+so-far : (c : tie.At-loop Inv-loop μ-loop) → Written (whole (start c)) (rest (start c) (c .loop .i)) (start c .args .out .now) (c .loop .out) (c .loop .at)
+so-far c = c .loop .inv .1 (start c .args .out .now) (wide c .put-wide .ensures) (start c .pre)
+
+run-put : (c : tie.After-put-plain Inv-loop μ-loop) {old : List ℕ}
+    → Written (whole (start (turn c))) (rest (start (turn c)) (turn c .loop .i)) old (turn c .loop .out) (turn c .loop .at)
+    → Written (whole (start (turn c))) (rest (start (turn c)) (end c)) old (held c) (turn c .loop .at + c .put-plain .result)
+run-put c w =
+    let a = start (turn c) .args in
+    let l = turn c .loop in
+    run-written (lineStop (a .newer)) (eolsFrom (ruleFor (a .newer)) 0) (plain-run (a .newer)) (a .text .now) (l .i) w (l .inv .0) (c .put-plain .ensures)
+
+put : (c : tie.After-put-plain Inv-loop μ-loop)
+    → Written (whole (start (turn c))) (rest (start (turn c)) (end c)) (start (turn c) .args .out .now) (held c) (turn c .loop .at + c .put-plain .result)
+put c = run-put c (so-far (turn c))
+
+inside : (c : tie.After-put-plain Inv-loop μ-loop) → end c ≤ length (start (turn c) .args .text .now)
+inside c =
+    let a = start (turn c) .args in
+    let l = turn c .loop in
+    rest-run (lineStop (a .newer)) (eolsFrom (ruleFor (a .newer)) 0) (plain-run (a .newer)) (a .text .now) (l .i) (so-far (turn c)) (l .inv .0) (c .put-plain .ensures) .to
+
 put-wide-requires : tie.Need-put-wide-requires Inv-loop μ-loop
-put-wide-requires c κs = start-room (c .before .before .before .args .newer) (c .before .before .before .args .text .now) (c .before .before .before .args .out .now) (c .before .before .before .pre)
+put-wide-requires c κs =
+    let s = c .before .before .before in
+    start-room (s .args .newer) (s .args .text .now) (s .args .out .now) (s .pre)
 
 loop-holds : tie.Need-loop-holds Inv-loop μ-loop
-loop-holds c = (c .before .before .put-wide .ensures .run .to, λ old d h. start-written (c .before .before .before .before .before .before .args .newer) (c .before .before .before .before .before .before .args .text .now) d)
+loop-holds c =
+    let first = c .before .before in
+    let a = entry first .args in
+    (first .put-wide .ensures .run .to, λ old d h. start-written (a .newer) (a .text .now) d)
 
 sub-put-plain : tie.Need-sub-put-plain Inv-loop μ-loop
 sub-put-plain c = c .before .loop .inv .0
@@ -38,61 +98,74 @@ part-put-plain-end c = search needs
 
 sub-put-plain-2 : tie.Need-sub-put-plain-2 Inv-loop μ-loop
 sub-put-plain-2 c =
-    let w = c .before .before .loop .inv .1 _ (c .before .before .before .before .before .put-wide .ensures) (c .before .before .before .before .before .before .before .before .before .pre) in
-    omega (arith, to-come w, same w (c .before .before .before .before .before .before .before .before .before .pre), c .before .before .before .before .before .before .before .before .before .pre)
+    let l = c .before .before in
+    omega (arith, to-come (so-far l), same (so-far l) (start l .pre), start l .pre)
 
 part-put-plain-start-2 : tie.Need-part-put-plain-start-2 Inv-loop μ-loop
 part-put-plain-start-2 c =
-    let w = c .before .before .loop .inv .1 _ (c .before .before .before .before .before .put-wide .ensures) (c .before .before .before .before .before .before .before .before .before .pre) in
-    omega (arith, to-come w, same w (c .before .before .before .before .before .before .before .before .before .pre), c .before .before .before .before .before .before .before .before .before .pre)
+    let l = c .before .before in
+    omega (arith, to-come (so-far l), same (so-far l) (start l .pre), start l .pre)
 
 part-put-plain-end-2 : tie.Need-part-put-plain-end-2 Inv-loop μ-loop
 part-put-plain-end-2 c = search needs
 
 put-plain-requires : tie.Need-put-plain-requires Inv-loop μ-loop
-put-plain-requires c κs = rest-room (stopByte (c .before .before .before .before .before .before .before .before .before .before .args .newer)) (eolsFrom (ruleFor (c .before .before .before .before .before .before .before .before .before .before .args .newer)) 0) (plain-run (c .before .before .before .before .before .before .before .before .before .before .args .newer)) (c .before .before .before .before .before .before .before .before .before .before .args .text .now) (c .before .before .before .loop .i) (c .before .before .before .loop .inv .1 _ (c .before .before .before .before .before .before .put-wide .ensures) (c .before .before .before .before .before .before .before .before .before .before .pre)) (c .before .before .before .before .before .before .before .before .before .before .pre)
+put-plain-requires c κs =
+    let l = c .before .before .before in
+    let a = start l .args in
+    rest-room (lineStop (a .newer)) (eolsFrom (ruleFor (a .newer)) 0) (plain-run (a .newer)) (a .text .now) (l .loop .i) (so-far l) (start l .pre)
 
 add-e : tie.Need-add-e Inv-loop μ-loop
-add-e c = omega (arith, rest-run (stopByte (c .before .before .before .before .before .before .before .before .before .before .before .before .before .args .newer)) (eolsFrom (ruleFor (c .before .before .before .before .before .before .before .before .before .before .before .before .before .args .newer)) 0) (plain-run (c .before .before .before .before .before .before .before .before .before .before .before .before .before .args .newer)) (c .before .before .before .before .before .before .before .before .before .before .before .before .before .args .text .now) (c .before .before .before .before .before .before .loop .i) (c .before .before .before .before .before .before .loop .inv .1 _ (c .before .before .before .before .before .before .before .before .before .put-wide .ensures) (c .before .before .before .before .before .before .before .before .before .before .before .before .before .pre)) (c .before .before .before .before .before .before .loop .inv .0) (c .before .before .put-plain .ensures) .to)
+add-e c = omega (arith, inside (c .before .before))
 
 add-at : tie.Need-add-at Inv-loop μ-loop
-add-at c = omega (arith, to-come (run-written (stopByte (c .before .before .before .before .before .before .before .before .before .before .before .before .before .args .newer)) (eolsFrom (ruleFor (c .before .before .before .before .before .before .before .before .before .before .before .before .before .args .newer)) 0) (plain-run (c .before .before .before .before .before .before .before .before .before .before .before .before .before .args .newer)) (c .before .before .before .before .before .before .before .before .before .before .before .before .before .args .text .now) (c .before .before .before .before .before .before .loop .i) (c .before .before .before .before .before .before .loop .inv .1 _ (c .before .before .before .before .before .before .before .before .before .put-wide .ensures) (c .before .before .before .before .before .before .before .before .before .before .before .before .before .pre)) (c .before .before .before .before .before .before .loop .inv .0) (c .before .before .put-plain .ensures)), c .before .before .before .before .before .before .before .before .before .before .before .before .before .pre)
+add-at c = omega (arith, to-come (put (c .before .before)), start (turn (c .before .before)) .pre)
 
 same-length : tie.Need-same-length Inv-loop μ-loop
-same-length c = same (run-written (stopByte (c .before .before .before .before .before .before .before .before .before .before .before .before .before .before .args .newer)) (eolsFrom (ruleFor (c .before .before .before .before .before .before .before .before .before .before .before .before .before .before .args .newer)) 0) (plain-run (c .before .before .before .before .before .before .before .before .before .before .before .before .before .before .args .newer)) (c .before .before .before .before .before .before .before .before .before .before .before .before .before .before .args .text .now) (c .before .before .before .before .before .before .before .loop .i) (c .before .before .before .before .before .before .before .loop .inv .1 _ (c .before .before .before .before .before .before .before .before .before .before .put-wide .ensures) (c .before .before .before .before .before .before .before .before .before .before .before .before .before .before .pre)) (c .before .before .before .before .before .before .before .loop .inv .0) (c .before .before .before .put-plain .ensures)) (c .before .before .before .before .before .before .before .before .before .before .before .before .before .before .pre)
+same-length c = same (put (c .before .before .before)) (start (turn (c .before .before .before)) .pre)
 
 returns : tie.Need-returns Inv-loop μ-loop
 returns c =
-    let w = written-as (eols-over (c .before .before .before .before .before .before .before .before .before .before .before .before .before .before .args .newer) (c .before .before .before .before .before .before .before .before .before .before .before .before .before .before .args .text .now) (c .before .before .before .before .before .before .before .loop .i + c .before .before .before .put-plain .result) (omega arith)) (run-written (stopByte (c .before .before .before .before .before .before .before .before .before .before .before .before .before .before .args .newer)) (eolsFrom (ruleFor (c .before .before .before .before .before .before .before .before .before .before .before .before .before .before .args .newer)) 0) (plain-run (c .before .before .before .before .before .before .before .before .before .before .before .before .before .before .args .newer)) (c .before .before .before .before .before .before .before .before .before .before .before .before .before .before .args .text .now) (c .before .before .before .before .before .before .before .loop .i) (c .before .before .before .before .before .before .before .loop .inv .1 _ (c .before .before .before .before .before .before .before .before .before .before .put-wide .ensures) (c .before .before .before .before .before .before .before .before .before .before .before .before .before .before .pre)) (c .before .before .before .before .before .before .before .loop .inv .0) (c .before .before .before .put-plain .ensures)) in
+    let r = c .before .before .before in
+    let a = start (turn r) .args in
+    let w = written-as (eols-over (a .newer) (a .text .now) (end r) (omega (arith, c .if1 .taken))) (put r) in
     (written-all w, written-end w)
 
 normalize-eol-step-requires : tie.Need-normalize-eol-step-requires Inv-loop μ-loop
-normalize-eol-step-requires c κs = omega (arith, rest-run (stopByte (c .before .before .before .before .before .before .before .before .before .before .before .before .before .before .args .newer)) (eolsFrom (ruleFor (c .before .before .before .before .before .before .before .before .before .before .before .before .before .before .args .newer)) 0) (plain-run (c .before .before .before .before .before .before .before .before .before .before .before .before .before .before .args .newer)) (c .before .before .before .before .before .before .before .before .before .before .before .before .before .before .args .text .now) (c .before .before .before .before .before .before .before .loop .i) (c .before .before .before .before .before .before .before .loop .inv .1 _ (c .before .before .before .before .before .before .before .before .before .before .put-wide .ensures) (c .before .before .before .before .before .before .before .before .before .before .before .before .before .before .pre)) (c .before .before .before .before .before .before .before .loop .inv .0) (c .before .before .before .put-plain .ensures) .to)
+normalize-eol-step-requires c κs = omega (arith, inside (c .before .before .before), c .if1 .left)
 
 slice-write-out : tie.Need-slice-write-out Inv-loop μ-loop
-slice-write-out c = byte-room (written-as (c .normalize-eol-step .ensures .rest) (run-written (stopByte (c .before .before .before .before .before .before .before .before .before .before .before .before .before .before .before .args .newer)) (eolsFrom (ruleFor (c .before .before .before .before .before .before .before .before .before .before .before .before .before .before .before .args .newer)) 0) (plain-run (c .before .before .before .before .before .before .before .before .before .before .before .before .before .before .before .args .newer)) (c .before .before .before .before .before .before .before .before .before .before .before .before .before .before .before .args .text .now) (c .before .before .before .before .before .before .before .before .loop .i) (c .before .before .before .before .before .before .before .before .loop .inv .1 _ (c .before .before .before .before .before .before .before .before .before .before .before .put-wide .ensures) (c .before .before .before .before .before .before .before .before .before .before .before .before .before .before .before .pre)) (c .before .before .before .before .before .before .before .before .loop .inv .0) (c .before .before .before .before .put-plain .ensures))) (c .before .before .before .before .before .before .before .before .before .before .before .before .before .before .before .pre)
+slice-write-out c =
+    let r = c .before .before .before .before in
+    byte-room (written-as (c .normalize-eol-step .ensures .rest) (put r)) (start (turn r) .pre)
 
 add-at-2 : tie.Need-add-at-2 Inv-loop μ-loop
-add-at-2 c = omega (arith, to-come (written-as (c .normalize-eol-step .ensures .rest) (run-written (stopByte (c .before .before .before .before .before .before .before .before .before .before .before .before .before .before .before .args .newer)) (eolsFrom (ruleFor (c .before .before .before .before .before .before .before .before .before .before .before .before .before .before .before .args .newer)) 0) (plain-run (c .before .before .before .before .before .before .before .before .before .before .before .before .before .before .before .args .newer)) (c .before .before .before .before .before .before .before .before .before .before .before .before .before .before .before .args .text .now) (c .before .before .before .before .before .before .before .before .loop .i) (c .before .before .before .before .before .before .before .before .loop .inv .1 _ (c .before .before .before .before .before .before .before .before .before .before .before .put-wide .ensures) (c .before .before .before .before .before .before .before .before .before .before .before .before .before .before .before .pre)) (c .before .before .before .before .before .before .before .before .loop .inv .0) (c .before .before .before .before .put-plain .ensures))), c .before .before .before .before .before .before .before .before .before .before .before .before .before .before .before .pre)
+add-at-2 c =
+    let r = c .before .before .before .before in
+    omega (arith, to-come (written-as (c .normalize-eol-step .ensures .rest) (put r)), start (turn r) .pre)
 
 add-i : tie.Need-add-i Inv-loop μ-loop
 add-i c = omega (arith, c .before .normalize-eol-step .ensures .inside)
 
 loop-less : tie.Need-loop-less Inv-loop μ-loop
-loop-less c = omega (arith, c .before .normalize-eol-step .ensures .some, c .before .normalize-eol-step .ensures .inside)
+loop-less c =
+    let step = c .before .normalize-eol-step .ensures in
+    omega (arith, step .some, step .inside)
 
 loop-again : tie.Need-loop-again Inv-loop μ-loop
-loop-again c = (
-  c .before .normalize-eol-step .ensures .inside,
-  λ old d h. written-byte _ (written-as (c .before .normalize-eol-step .ensures .rest) (run-written (stopByte (c .before .before .before .before .before .before .before .before .before .before .before .before .before .before .before .before .args .newer)) (eolsFrom (ruleFor (c .before .before .before .before .before .before .before .before .before .before .before .before .before .before .before .before .args .newer)) 0) (plain-run (c .before .before .before .before .before .before .before .before .before .before .before .before .before .before .before .before .args .newer)) (c .before .before .before .before .before .before .before .before .before .before .before .before .before .before .before .before .args .text .now) (c .before .before .before .before .before .before .before .before .before .loop .i) (c .before .before .before .before .before .before .before .before .before .loop .inv .1 old d h) (c .before .before .before .before .before .before .before .before .before .loop .inv .0) (c .before .before .before .before .before .put-plain .ensures))) h,
-)
+loop-again c =
+    let step = c .before .normalize-eol-step .ensures in
+    let r = c .before .before .before .before .before in
+    (step .inside, λ old d h. written-byte _ (written-as (step .rest) (run-put r (turn r .loop .inv .1 old d h))) h)
 
 same-length-2 : tie.Need-same-length-2 Inv-loop μ-loop
-same-length-2 c = same (c .before .loop .inv .1 _ (c .before .before .before .before .put-wide .ensures) (c .before .before .before .before .before .before .before .before .pre)) (c .before .before .before .before .before .before .before .before .pre)
+same-length-2 c = same (so-far (c .before)) (start (c .before) .pre)
 
 returns-2 : tie.Need-returns-2 Inv-loop μ-loop
 returns-2 c =
-    let w = written-as (eols-over (c .before .before .before .before .before .before .before .before .args .newer) (c .before .before .before .before .before .before .before .before .args .text .now) (c .before .loop .i) (c .loop-test .left)) (c .before .loop .inv .1 _ (c .before .before .before .before .put-wide .ensures) (c .before .before .before .before .before .before .before .before .pre)) in
+    let l = c .before in
+    let a = start l .args in
+    let w = written-as (eols-over (a .newer) (a .text .now) (l .loop .i) (c .loop-test .left)) (so-far l) in
     (written-all w, written-end w)
 
 pub write-eols-spec : {M : Type 1} → statement M

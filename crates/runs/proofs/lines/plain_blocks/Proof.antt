@@ -1,17 +1,22 @@
+-- `plain_blocks`: block by block, what is passed stays a run (`plain-join`).
 use Prim.Native.Nat.{_-_}
 use native.Mathlib.Omega.{arith}
 use lib.ListN.{length}
-use Rattle.eols.specs.Stops.{stopByte}
+use Rattle.runs.specs.RunEnds.{lineStop}
 use Rattle.output.specs.Runs.{Plain}
 use Rattle.output.proofs.Runs.{plain-none, plain-join}
-use Rattle.eols.proofs.plain_blocks.Statement.{statement}
-use Rattle.eols.proofs.plain_blocks.Tie as tie
+use Rattle.runs.proofs.lines.plain_blocks.Statement.{statement}
+use Rattle.runs.proofs.lines.plain_blocks.Tie as tie
 
 abbrev Inv-loop : tie.InvT-loop
-Inv-loop text from newer i₀ i = Plain (stopByte newer) text from i
+Inv-loop text from newer i₀ i = Plain (lineStop newer) text from i
 
 abbrev μ-loop : tie.MeasureT-loop
 μ-loop text from newer i₀ i = length text - i
+
+-- places, each seen from a later one
+abbrev to-turn : tie.After-any-stop Inv-loop μ-loop → tie.At-loop Inv-loop μ-loop
+to-turn c = c .before .before
 
 loop-holds : tie.Need-loop-holds Inv-loop μ-loop
 loop-holds c = plain-none _ _ _ (c .before .pre)
@@ -23,16 +28,26 @@ any-stop-requires : tie.Need-any-stop-requires Inv-loop μ-loop
 any-stop-requires c κs = omega (arith, c .before .loop .inv .to)
 
 returns : tie.Need-returns Inv-loop μ-loop
-returns c = c .before .before .before .loop .inv
+returns c =
+    let turn = to-turn (c .before) in
+    turn .loop .inv
 
 add-i : tie.Need-add-i Inv-loop μ-loop
-add-i c = omega (arith, c .before .before .before .loop .inv .to)
+add-i c =
+    let turn = to-turn (c .before) in
+    omega (arith, turn .loop .inv .to)
 
 loop-less : tie.Need-loop-less Inv-loop μ-loop
-loop-less c = omega (arith, c .before .before .before .loop .inv .to)
+loop-less c =
+    let turn = to-turn (c .before) in
+    omega (arith, turn .loop .inv .to)
 
 loop-again : tie.Need-loop-again Inv-loop μ-loop
-loop-again c = plain-join _ _ _ (c .before .before .before .loop .i) _ (c .before .before .before .loop .inv) (c .before .any-stop .ensures (c .if1 .left))
+loop-again c =
+    let after-any-stop = c .before in
+    let turn = to-turn after-any-stop in
+    let kept = turn .loop in
+    plain-join _ _ _ (kept .i) _ (kept .inv) (after-any-stop .any-stop .ensures (c .if1 .left))
 
 returns-2 : tie.Need-returns-2 Inv-loop μ-loop
 returns-2 c = c .before .loop .inv

@@ -1,15 +1,16 @@
+-- `plain_end`: behind the blocks, byte by byte, what is passed stays a run (`plain-join`).
 use mathlib.Core.Path.{sym, _∙_}
 use Prim.Native.Nat.{_-_}
 use lib.ListN.{length}
-use Rattle.eols.specs.Stops.{stopByte}
+use Rattle.runs.specs.RunEnds.{lineStop}
 use Rattle.output.specs.Runs.{Plain}
 use Rattle.output.proofs.Runs.{plain-byte, plain-join}
 use borrow.Author.Needs.{needs}
-use Rattle.eols.proofs.plain_end.Statement.{statement}
-use Rattle.eols.proofs.plain_end.Tie as tie
+use Rattle.runs.proofs.lines.plain_end.Statement.{statement}
+use Rattle.runs.proofs.lines.plain_end.Tie as tie
 
 abbrev Inv-loop : tie.InvT-loop
-Inv-loop text from newer i₀ i = Plain (stopByte newer) text from i
+Inv-loop text from newer i₀ i = Plain (lineStop newer) text from i
 
 abbrev μ-loop : tie.MeasureT-loop
 μ-loop text from newer i₀ i = length text - i
@@ -36,7 +37,12 @@ loop-less : tie.Need-loop-less Inv-loop μ-loop
 loop-less c = search needs
 
 loop-again : tie.Need-loop-again Inv-loop μ-loop
-loop-again c = plain-join _ _ _ (c .before .before .before .before .loop .i) _ (c .before .before .before .before .loop .inv) (plain-byte _ _ _ (c .before .before .before .loop-test .taken) (sym (c .before .is-stop .ensures) ∙ c .if1 .left))
+loop-again c =
+    let after-is-stop = c .before in
+    let after-loop-test = after-is-stop .before .before in
+    let turn = after-loop-test .before in
+    let kept = turn .loop in
+    plain-join _ _ _ (kept .i) _ (kept .inv) (plain-byte _ _ _ (after-loop-test .loop-test .taken) (sym (after-is-stop .is-stop .ensures) ∙ c .if1 .left))
 
 returns-2 : tie.Need-returns-2 Inv-loop μ-loop
 returns-2 c = c .before .loop .inv

@@ -1,7 +1,7 @@
 use native.Mathlib.Omega.{arith}
-use Rattle.eols.proofs.LineEnds.{common-plain}
-use Rattle.eols.proofs.is_common.Statement.{statement}
-use Rattle.eols.proofs.is_common.Tie as tie
+use Rattle.runs.proofs.Bytes.{common-plain}
+use Rattle.runs.proofs.lines.is_common.Statement.{statement}
+use Rattle.runs.proofs.lines.is_common.Tie as tie
 
 returns : tie.Need-returns
 returns c = λ e. common-plain (c .args .b) e (omega arith) (omega arith)

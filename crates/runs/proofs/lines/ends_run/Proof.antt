@@ -1,13 +1,16 @@
 use mathlib.Core.Path.{sym}
 use borrow.Author.Needs.{needs}
-use Rattle.eols.proofs.ends_run.Statement.{statement}
-use Rattle.eols.proofs.ends_run.Tie as tie
+use Rattle.runs.proofs.lines.ends_run.Statement.{statement}
+use Rattle.runs.proofs.lines.ends_run.Tie as tie
 
 is-common-requires : tie.Need-is-common-requires
 is-common-requires c κs = search needs
 
 returns : tie.Need-returns
-returns c = sym (c .before .is-common .ensures (c .if1 .taken) (c .before .before .args .newer))
+returns c =
+    let after-is-common = c .before in
+    let start = after-is-common .before in
+    sym (after-is-common .is-common .ensures (c .if1 .taken) (start .args .newer))
 
 is-stop-requires : tie.Need-is-stop-requires
 is-stop-requires c κs = search needs
