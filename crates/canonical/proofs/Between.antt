@@ -1,19 +1,16 @@
 -- The canonical form run by run: a run without U+0085 and U+2028 is written as level 3, each of those by its reference. Assumes nothing.
 use mathlib.Core.Path.{_≡_, refl, sym, ap, ap₂, _∙_}
-use mathlib.Core.Bool.{Bool, true, false, _&&_, _||_, not, true≢false}
+use mathlib.Core.Bool.{Bool, true, false, not, true≢false}
 use mathlib.Core.List.{List, [], _∷_, _++_, append-assoc}
 use Prim.Native.Nat.{ℕ, zero, suc, _+_, _-_, _*_, _≤_, _<_}
 use native.Mathlib.Omega.{arith}
-use native.Mathlib.Numerals.{add-one}
-use lib.Dec.{eqb, ltb}
 use lib.ListN.{length, take, drop, getD, length-drop, length-append, length-take, drop-of-length-le}
-use borrow.Author.Tests.{ltb-true, ltb-false}
 use lib.Seq.{drop-cons, drop-drop}
 use Rattle.text.specs.Bytes.{pick, begins}
 use borrow.Rule.Slice.PartMut.{midOf, putMid}
 use Rattle.text.specs.Call.{laid}
 use Rattle.text.specs.Version.{Rule, xml10, xml11}
-use Rattle.text.proofs.Bytes.{pick-by, or-left, or-right, and-true}
+use Rattle.text.proofs.Bytes.{pick-by}
 use Rattle.output.proofs.Written.{Written, written-as, written-more, piece-room}
 use Rattle.eols.specs.Stops.{ruleFor}
 use Rattle.eols.proofs.LineEnds.{begins-fits}
@@ -22,7 +19,8 @@ use Rattle.escape.specs.Scan.{charsSet, levelChars}
 use Rattle.escape.specs.declared.EscapeChars.{EscapeChars}
 use Rattle.escape.proofs.Levels.{chars-level, escape-most}
 use Rattle.canonical.specs.Canonical.{canonicalByte, covered, canonicalFrom, canonical}
-use Rattle.canonical.specs.Runs.{special, specialReference, Common}
+use Rattle.runs.specs.Specials.{special, Common}
+use Rattle.canonical.specs.Runs.{specialReference}
 
 -- to skip is to start later
 pub canonical-skip : (r : Rule) (k : ℕ) (value : List ℕ) → canonicalFrom r k value ≡ canonicalFrom r 0 (drop k value)
@@ -70,40 +68,6 @@ common-run r value (suc n) i h none =
     let more = common-run r value n (suc i) (omega (arith, h)) (λ k a b. none k (omega (arith, a)) (omega (arith, b))) in
     rw here (common-byte r (getD value i 0) (drop (suc i) value) one ∙ rw (more, q, append-assoc) refl)
 
--- ---- where one of the two stands
-
-module _ (l : List ℕ) where
-  pub special-nel : begins (0xC2 ∷ 0x85 ∷ []) l ≡ true → special xml11 l ≡ 2
-  special-nel e = rw e
-
-  pub special-ls : begins (0xC2 ∷ 0x85 ∷ []) l ≡ false → begins (0xE2 ∷ 0x80 ∷ 0xA8 ∷ []) l ≡ true → special xml11 l ≡ 3
-  special-ls e f = rw (e, f)
-
-  pub special-none : begins (0xC2 ∷ 0x85 ∷ []) l ≡ false → begins (0xE2 ∷ 0x80 ∷ 0xA8 ∷ []) l ≡ false → special xml11 l ≡ 0
-  special-none e f = rw (e, f)
-
--- three bytes that are neither
-pub special-bytes : (t : List ℕ) (i : ℕ) → i + 3 ≤ length t
-    → (eqb (getD t i 0) 0xC2 && eqb (getD t (i + 1) 0) 0x85) || ((eqb (getD t i 0) 0xE2 && eqb (getD t (i + 1) 0) 0x80) && eqb (getD t (i + 2) 0) 0xA8) ≡ false
-    → special xml11 (drop i t) ≡ 0
-special-bytes t i h e =
-    let a = getD t i 0 in
-    let b = getD t (i + 1) 0 in
-    let c = getD t (i + 2) 0 in
-    let one : drop i t ≡ a ∷ drop (i + 1) t = rw (add-one i, drop-cons t i 0 (omega (arith, h))) in
-    let two : drop (i + 1) t ≡ b ∷ drop (i + 2) t = let q : suc (i + 1) ≡ i + 2 = omega arith in rw (drop-cons t (i + 1) 0 (omega (arith, h)), q) in
-    let three : drop (i + 2) t ≡ c ∷ drop (suc (i + 2)) t = drop-cons t (i + 2) 0 (omega (arith, h)) in
-    rw (one, two, three)
-    (special-none (a ∷ b ∷ c ∷ drop (suc (i + 2)) t)
-    (ap (λ (u : Bool). eqb a 0xC2 && u) (and-true (eqb b 0x85)) ∙ or-left (eqb a 0xC2 && eqb b 0x85) ((eqb a 0xE2 && eqb b 0x80) && eqb c 0xA8) e)
-    (shift (eqb a 0xE2) (eqb b 0x80) (eqb c 0xA8) ∙ or-right (eqb a 0xC2 && eqb b 0x85) ((eqb a 0xE2 && eqb b 0x80) && eqb c 0xA8) e))
-  where
-    shift : (x y z : Bool) → x && (y && (z && true)) ≡ (x && y) && z
-    shift true true true = refl
-    shift true true false = refl
-    shift true false z = refl
-    shift false y z = refl
-
 -- only the newer version has any
 pub special-newer : (newer : Bool) (l : List ℕ) → 0 < special (ruleFor newer) l → special (ruleFor newer) l ≡ special xml11 l
 special-newer false l h = absurd (omega (arith, h))
@@ -118,29 +82,6 @@ special-fits t i h =
     (λ f. omega arith))
 
 -- ---- runs
-
-pub common-none : (r : Rule) (t : List ℕ) (i : ℕ) → i ≤ length t → Common r t i i
-common-none r t i h = record { from = omega arith; to = h; none = λ k a b. absurd (omega (arith, a, b)) }
-
-pub common-of : (r : Rule) (t : List ℕ) (i n : ℕ) → i + n ≤ length t → ((m : ℕ) → m < n → special r (drop (i + m) t) ≡ 0) → Common r t i (i + n)
-common-of r t i n h f =
-    record {
-      from = omega arith;
-      to = h;
-      none = λ k a b. let q : i + (k - i) ≡ k = omega (arith, a) in rw q at (f (k - i) (omega (arith, a, b)));
-    }
-
-pub common-join : (r : Rule) (t : List ℕ) (i j e : ℕ) → Common r t i j → Common r t j e → Common r t i e
-common-join r t i j e p q =
-    record {
-      from = omega (arith, p .from, q .from);
-      to = q .to;
-      none = λ k a b. go k a b (ltb k j) refl;
-    }
-  where
-    go : (k : ℕ) → i ≤ k → k < e → (b : Bool) → ltb k j ≡ b → special r (drop k t) ≡ 0
-    go k a b true h = p .none k a (ltb-true k j h)
-    go k a b false h = q .none k (ltb-false k j h) b
 
 -- the older version has none at all
 pub common-older : (newer : Bool) (t : List ℕ) (i : ℕ) → not newer ≡ true → i ≤ length t → Common (ruleFor newer) t i (length t)
@@ -173,14 +114,6 @@ special-write r t i w h e p =
     ap (canonicalFrom r 0) here
     ∙ special-byte r (getD t i 0) (drop (suc i) t) (w - 1) f
     ∙ ap₂ (λ (n : ℕ) (l : List ℕ). specialReference n ++ canonicalFrom r 0 l) (sym q) (drop-drop (w - 1) (suc i) t ∙ ap (λ (n : ℕ). drop n t) s)
-
-pub common-one : (r : Rule) (t : List ℕ) (i : ℕ) → i < length t → special r (drop i t) ≡ 0 → Common r t i (i + 1)
-common-one r t i h e =
-    record {
-      from = omega arith;
-      to = omega (arith, h);
-      none = λ k a b. let q : k ≡ i = omega (arith, a, b) in rw q e;
-    }
 
 -- ---- counting and writing
 

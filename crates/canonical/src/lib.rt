@@ -1,49 +1,14 @@
 // The canonical form of a normalized value: level 3, and under XML 1.1 also U+0085 and U+2028 as references. Runs between
 // those two go to the writer of level 3.
 ghost use mathlib.Core.Path.{_≡_};
-ghost use mathlib.Core.Bool.{false};
 ghost use Prim.Native.Nat.{_+_, _≤_, _<_};
 ghost use lib.ListN.{length, drop};
 ghost use Rattle.text.specs.Version.{xml11};
 ghost use Rattle.text.specs.Call.{laid};
 ghost use Rattle.eols.specs.Stops.{ruleFor};
 ghost use Rattle.canonical.specs.Canonical.{canonical};
-ghost use Rattle.canonical.specs.Runs.{special, specialReference, Common};
-
-// Does U+0085 or U+2028 stand at i? Without branches, so that the block loop runs on vectors.
-fn special_at(value: &[u8], i: usize) -> bool
-    requires { ⌜ i + 3 ≤ length (now value) ⌝ }
-    ensures { λ r. ⌜ (r ≡ false → special xml11 (drop i (now (value .entry))) ≡ 0) ⌝ }
-{
-    ((value[i] == 0xc2) & (value[i + 1] == 0x85))
-        | ((value[i] == 0xe2) & (value[i + 1] == 0x80) & (value[i + 2] == 0xa8))
-}
-
-// At one of the 32 bytes from i on?
-fn any_special(value: &[u8], i: usize) -> bool
-    requires { ⌜ i + 34 ≤ length (now value) ⌝ }
-    ensures { λ r. ⌜ (r ≡ false → Common xml11 (now (value .entry)) i (i + 32)) ⌝ }
-{
-    let mut hit = false;
-    for k in 0..32usize {
-        hit = hit | special_at(value, i + k);
-    }
-    hit
-}
-
-fn skip_common(value: &[u8], from: usize) -> usize
-    requires { ⌜ from ≤ length (now value) ⌝ }
-    ensures { λ r. ⌜ Common xml11 (now (value .entry)) from r ⌝ }
-{
-    let mut i = from;
-    while 34 <= value.len() - i {
-        if any_special(value, i) {
-            return i;
-        }
-        i += 32;
-    }
-    i
-}
+ghost use Rattle.runs.specs.Specials.{special, Common};
+ghost use Rattle.canonical.specs.Runs.{specialReference};
 
 // The width of the U+0085 or U+2028 at i, 0 where none is.
 fn special_width(value: &[u8], i: usize) -> usize
@@ -70,7 +35,7 @@ fn next_special(value: &[u8], from: usize, newer: bool) -> usize
     if !newer {
         return value.len();
     }
-    let mut i = skip_common(value, from);
+    let mut i = runs::special::skip_common(value, from);
     while i < value.len() {
         if special_width(value, i) != 0 {
             return i;

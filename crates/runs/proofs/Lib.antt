@@ -3,3 +3,4 @@ pub mod Puts
 pub mod Blockwise
 pub mod Copying
 pub mod Bytes
+pub mod Specials

@@ -6,6 +6,7 @@ ghost use Rattle.text.specs.Call.{laid};
 
 pub mod amp;
 pub mod lines;
+pub mod special;
 
 // Copies a run of 32 bytes, by two blocks.
 fn put_two_blocks(src: &[u8], out: &mut [u8])

@@ -1,17 +1,26 @@
+-- `special_width`: a law for each return (`special-nel`, `special-ls`, `special-none`).
 use mathlib.Core.Path.{sym, _∙_}
 use lib.ListN.{drop}
 use mathlib.Core.List.{[], _∷_}
-use Rattle.canonical.proofs.Between.{special-nel, special-ls, special-none}
+use Rattle.runs.proofs.Specials.{special-nel, special-ls, special-none}
 use Rattle.eols.proofs.LineEnds.{begins-cons}
 use borrow.Author.Needs.{needs}
 use Rattle.canonical.proofs.special_width.Statement.{statement}
 use Rattle.canonical.proofs.special_width.Tie as tie
 
+-- places, each seen from a later one
+abbrev entry : tie.After-two-at → tie.Start
+entry c = c .before .before
+
 two-at-requires : tie.Need-two-at-requires
 two-at-requires c κs = search needs
 
 returns : tie.Need-returns
-returns c = sym (special-nel (drop (c .before .before .before .args .i) (c .before .before .before .args .value .now)) (sym (c .before .two-at .ensures) ∙ c .if1 .taken))
+returns c =
+    let after-two-at = c .before in
+    let start = entry after-two-at in
+    let given = start .args in
+    sym (special-nel (drop (given .i) (given .value .now)) (sym (after-two-at .two-at .ensures) ∙ c .if1 .taken))
 
 byte-at-requires : tie.Need-byte-at-requires
 byte-at-requires c κs = search needs
@@ -23,13 +32,40 @@ two-at-requires-2 : tie.Need-two-at-requires-2
 two-at-requires-2 c κs = search needs
 
 returns-2 : tie.Need-returns-2
-returns-2 c = sym (special-ls (drop (c .before .before .before .before .before .before .before .args .i) (c .before .before .before .before .before .before .before .args .value .now)) (sym (c .before .before .before .before .before .two-at .ensures) ∙ c .before .before .before .before .if1 .left) (begins-cons 0xE2 (0x80 ∷ 0xA8 ∷ []) (c .before .before .before .before .before .before .before .args .value .now) (c .before .before .before .before .before .before .before .args .i) ∙ rw (sym (c .before .before .before .byte-at .ensures) ∙ c .before .before .if2 .taken, sym (c .before .two-at2 .ensures) ∙ c .if3 .taken)))
+returns-2 c =
+    let after-two-at2 = c .before in
+    let after-if2 = after-two-at2 .before in
+    let after-byte-at = after-if2 .before in
+    let after-if1 = after-byte-at .before in
+    let after-two-at = after-if1 .before in
+    let start = entry after-two-at in
+    let given = start .args in
+    sym (special-ls (drop (given .i) (given .value .now)) (sym (after-two-at .two-at .ensures) ∙ after-if1 .if1 .left)
+    (begins-cons 0xE2 (0x80 ∷ 0xA8 ∷ []) (given .value .now) (given .i)
+    ∙ rw (sym (after-byte-at .byte-at .ensures) ∙ after-if2 .if2 .taken, sym (after-two-at2 .two-at2 .ensures) ∙ c .if3 .taken)))
 
 returns-3 : tie.Need-returns-3
-returns-3 c = sym (special-none (drop (c .before .before .before .before .before .before .before .args .i) (c .before .before .before .before .before .before .before .args .value .now)) (sym (c .before .before .before .before .before .two-at .ensures) ∙ c .before .before .before .before .if1 .left) (begins-cons 0xE2 (0x80 ∷ 0xA8 ∷ []) (c .before .before .before .before .before .before .before .args .value .now) (c .before .before .before .before .before .before .before .args .i) ∙ rw (sym (c .before .before .before .byte-at .ensures) ∙ c .before .before .if2 .taken, sym (c .before .two-at2 .ensures) ∙ c .if3 .left)))
+returns-3 c =
+    let after-two-at2 = c .before in
+    let after-if2 = after-two-at2 .before in
+    let after-byte-at = after-if2 .before in
+    let after-if1 = after-byte-at .before in
+    let after-two-at = after-if1 .before in
+    let start = entry after-two-at in
+    let given = start .args in
+    sym (special-none (drop (given .i) (given .value .now)) (sym (after-two-at .two-at .ensures) ∙ after-if1 .if1 .left)
+    (begins-cons 0xE2 (0x80 ∷ 0xA8 ∷ []) (given .value .now) (given .i)
+    ∙ rw (sym (after-byte-at .byte-at .ensures) ∙ after-if2 .if2 .taken, sym (after-two-at2 .two-at2 .ensures) ∙ c .if3 .left)))
 
 returns-4 : tie.Need-returns-4
-returns-4 c = sym (special-none (drop (c .before .before .before .before .before .args .i) (c .before .before .before .before .before .args .value .now)) (sym (c .before .before .before .two-at .ensures) ∙ c .before .before .if1 .left) (begins-cons 0xE2 (0x80 ∷ 0xA8 ∷ []) (c .before .before .before .before .before .args .value .now) (c .before .before .before .before .before .args .i) ∙ rw (sym (c .before .byte-at .ensures) ∙ c .if2 .left)))
+returns-4 c =
+    let after-byte-at = c .before in
+    let after-if1 = after-byte-at .before in
+    let after-two-at = after-if1 .before in
+    let start = entry after-two-at in
+    let given = start .args in
+    sym (special-none (drop (given .i) (given .value .now)) (sym (after-two-at .two-at .ensures) ∙ after-if1 .if1 .left)
+    (begins-cons 0xE2 (0x80 ∷ 0xA8 ∷ []) (given .value .now) (given .i) ∙ rw (sym (after-byte-at .byte-at .ensures) ∙ c .if2 .left)))
 
 pub special-width-spec : {M : Type 1} → statement M
 special-width-spec =

@@ -1,6 +1,10 @@
+-- `write_canonical`: at each turn what is written of the first i bytes lies in the output (`Written`), then the run that level 3 writes
+-- (`run-put`), then the reference (`own-put`); the last run ends it.
 use native.Mathlib.Omega.{arith}
-use Prim.Native.Nat.{_-_, _≤_, _<_}
+use mathlib.Core.List.{List}
+use Prim.Native.Nat.{ℕ, _+_, _-_, _≤_, _<_}
 use lib.ListN.{length, drop}
+use borrow.Rule.Slice.PartMut.{putMid}
 use Rattle.eols.specs.Stops.{ruleFor}
 use Rattle.output.proofs.Written.{Written, written-start, written-as, written-all, written-end, to-come, same-length as same}
 use Rattle.canonical.specs.Canonical.{canonicalFrom, canonical}
@@ -10,10 +14,49 @@ use Rattle.canonical.proofs.write_canonical.Statement.{statement}
 use Rattle.canonical.proofs.write_canonical.Tie as tie
 
 abbrev Inv-loop : tie.InvT-loop
-Inv-loop value newer out₀ chars at₀ i₀ out at i = (i ≤ length value) × Written (canonical (ruleFor newer) value) (canonicalFrom (ruleFor newer) 0 (drop i value)) out₀ out at
+Inv-loop value newer out₀ chars at₀ i₀ out at i =
+    (i ≤ length value) × Written (canonical (ruleFor newer) value) (canonicalFrom (ruleFor newer) 0 (drop i value)) out₀ out at
 
 abbrev μ-loop : tie.MeasureT-loop
 μ-loop value newer out₀ chars at₀ i₀ out at i = length value - i
+
+-- places: the entry, seen from a turn; the turn, seen from the end of a run; that, seen from where it is not the last
+abbrev entry : tie.At-loop Inv-loop μ-loop → tie.Start Inv-loop μ-loop
+entry c = c .before .before .before .before
+
+abbrev turn : tie.After-write-escaped Inv-loop μ-loop → tie.At-loop Inv-loop μ-loop
+turn c = c .before .before .before .before
+
+abbrev run : tie.Else1 Inv-loop μ-loop → tie.After-write-escaped Inv-loop μ-loop
+run c = c .before .before .before
+
+abbrev start : tie.Else1 Inv-loop μ-loop → tie.Start Inv-loop μ-loop
+start c = entry (turn (run c))
+
+-- where the run ends
+abbrev end : tie.After-write-escaped Inv-loop μ-loop → ℕ
+end c = c .before .before .before .next-special .result
+
+-- what lies in the output after it
+abbrev held : tie.After-write-escaped Inv-loop μ-loop → List ℕ
+held c =
+    let l = turn c .loop in
+    putMid (l .at) (length (l .out) - l .at) (l .out) (c .write-escaped .last .1 .1 .0)
+
+run-put : (c : tie.After-write-escaped Inv-loop μ-loop)
+    → Written (canonical (ruleFor (entry (turn c) .args .newer)) (entry (turn c) .args .value .now))
+    (canonicalFrom (ruleFor (entry (turn c) .args .newer)) 0 (drop (end c) (entry (turn c) .args .value .now)))
+    (entry (turn c) .args .out .now) (held c) (turn c .loop .at + c .write-escaped .result)
+run-put c =
+    let a = entry (turn c) .args in
+    let l = turn c .loop in
+    let put = c .write-escaped .ensures in
+    run-written (ruleFor (a .newer)) (a .value .now) (l .i) (end c) (c .before .before .before .next-special .ensures .0)
+    (c .before .before .before .before .before .escape-chars .ensures) (l .inv .1) (put .0) (put .1)
+
+-- a run that is not the last ends inside
+inside : (c : tie.Else1 Inv-loop μ-loop) → end (run c) < length (start c .args .value .now)
+inside c = omega (arith, c .if1 .left, run c .before .before .before .next-special .ensures .0 .to)
 
 escape-chars-requires : tie.Need-escape-chars-requires Inv-loop μ-loop
 escape-chars-requires c κs = search needs
@@ -35,75 +78,107 @@ part-write-escaped-end : tie.Need-part-write-escaped-end Inv-loop μ-loop
 part-write-escaped-end c = c .next-special .ensures .0 .to
 
 sub-write-escaped-2 : tie.Need-sub-write-escaped-2 Inv-loop μ-loop
-sub-write-escaped-2 c = omega (arith, to-come (c .before .before .loop .inv .1), same (c .before .before .loop .inv .1) (c .before .before .before .before .before .before .pre), c .before .before .before .before .before .before .pre)
+sub-write-escaped-2 c =
+    let l = c .before .before in
+    omega (arith, to-come (l .loop .inv .1), same (l .loop .inv .1) (entry l .pre), entry l .pre)
 
 part-write-escaped-start-2 : tie.Need-part-write-escaped-start-2 Inv-loop μ-loop
-part-write-escaped-start-2 c = omega (arith, to-come (c .before .before .loop .inv .1), same (c .before .before .loop .inv .1) (c .before .before .before .before .before .before .pre), c .before .before .before .before .before .before .pre)
+part-write-escaped-start-2 c =
+    let l = c .before .before in
+    omega (arith, to-come (l .loop .inv .1), same (l .loop .inv .1) (entry l .pre), entry l .pre)
 
 part-write-escaped-end-2 : tie.Need-part-write-escaped-end-2 Inv-loop μ-loop
 part-write-escaped-end-2 c = search needs
 
 write-escaped-requires : tie.Need-write-escaped-requires Inv-loop μ-loop
-write-escaped-requires c κs = run-room _ _ _ _ (c .before .before .next-special .ensures .0) (c .before .before .before .before .escape-chars .ensures) (c .before .before .before .loop .inv .1) (c .before .before .before .before .before .before .before .pre)
+write-escaped-requires c κs =
+    let found = c .before .before in
+    let l = found .before in
+    run-room _ _ _ _ (found .next-special .ensures .0) (l .before .escape-chars .ensures) (l .loop .inv .1) (entry l .pre)
 
 add-at : tie.Need-add-at Inv-loop μ-loop
-add-at c = omega (arith, to-come (run-written (ruleFor (c .before .before .before .before .before .before .before .before .before .before .args .newer)) (c .before .before .before .before .before .before .before .before .before .before .args .value .now) (c .before .before .before .before .before .before .loop .i) (c .before .before .before .before .before .next-special .result) (c .before .before .before .before .before .next-special .ensures .0) (c .before .before .before .before .before .before .before .escape-chars .ensures) (c .before .before .before .before .before .before .loop .inv .1) (c .before .before .write-escaped .ensures .0) (c .before .before .write-escaped .ensures .1)), c .before .before .before .before .before .before .before .before .before .before .pre)
+add-at c = omega (arith, to-come (run-put (c .before .before)), entry (turn (c .before .before)) .pre)
 
 same-length : tie.Need-same-length Inv-loop μ-loop
-same-length c = same (run-written (ruleFor (c .before .before .before .before .before .before .before .before .before .before .before .args .newer)) (c .before .before .before .before .before .before .before .before .before .before .before .args .value .now) (c .before .before .before .before .before .before .before .loop .i) (c .before .before .before .before .before .before .next-special .result) (c .before .before .before .before .before .before .next-special .ensures .0) (c .before .before .before .before .before .before .before .before .escape-chars .ensures) (c .before .before .before .before .before .before .before .loop .inv .1) (c .before .before .before .write-escaped .ensures .0) (c .before .before .before .write-escaped .ensures .1)) (c .before .before .before .before .before .before .before .before .before .before .before .pre)
+same-length c = same (run-put (c .before .before .before)) (entry (turn (c .before .before .before)) .pre)
 
 returns : tie.Need-returns Inv-loop μ-loop
 returns c =
-    let w = written-as (canonical-over (ruleFor (c .before .before .before .before .before .before .before .before .before .before .before .args .newer)) (c .before .before .before .before .before .before .before .before .before .before .before .args .value .now) (c .before .before .before .before .before .before .next-special .result) (omega (arith, c .if1 .taken))) (run-written (ruleFor (c .before .before .before .before .before .before .before .before .before .before .before .args .newer)) (c .before .before .before .before .before .before .before .before .before .before .before .args .value .now) (c .before .before .before .before .before .before .before .loop .i) (c .before .before .before .before .before .before .next-special .result) (c .before .before .before .before .before .before .next-special .ensures .0) (c .before .before .before .before .before .before .before .before .escape-chars .ensures) (c .before .before .before .before .before .before .before .loop .inv .1) (c .before .before .before .write-escaped .ensures .0) (c .before .before .before .write-escaped .ensures .1)) in
+    let r = c .before .before .before in
+    let a = entry (turn r) .args in
+    let w = written-as (canonical-over (ruleFor (a .newer)) (a .value .now) (end r) (omega (arith, c .if1 .taken))) (run-put r) in
     (written-all w, written-end w)
 
 special-width-requires : tie.Need-special-width-requires Inv-loop μ-loop
-special-width-requires c κs = omega (arith, c .if1 .left, c .before .before .before .before .before .before .next-special .ensures .0 .to)
+special-width-requires c κs = inside c
 
 sub-put-special : tie.Need-sub-put-special Inv-loop μ-loop
 sub-put-special c =
-    let w = run-written (ruleFor (c .before .before .before .before .before .before .before .before .before .before .before .before .args .newer)) (c .before .before .before .before .before .before .before .before .before .before .before .before .args .value .now) (c .before .before .before .before .before .before .before .before .loop .i) (c .before .before .before .before .before .before .before .next-special .result) (c .before .before .before .before .before .before .before .next-special .ensures .0) (c .before .before .before .before .before .before .before .before .before .escape-chars .ensures) (c .before .before .before .before .before .before .before .before .loop .inv .1) (c .before .before .before .before .write-escaped .ensures .0) (c .before .before .before .before .write-escaped .ensures .1) in
-    omega (arith, to-come w, same w (c .before .before .before .before .before .before .before .before .before .before .before .before .pre), c .before .before .before .before .before .before .before .before .before .before .before .before .pre)
+    let w = run-put (run (c .before)) in
+    omega (arith, to-come w, same w (start (c .before) .pre), start (c .before) .pre)
 
 part-put-special-start : tie.Need-part-put-special-start Inv-loop μ-loop
 part-put-special-start c =
-    let w = run-written (ruleFor (c .before .before .before .before .before .before .before .before .before .before .before .before .args .newer)) (c .before .before .before .before .before .before .before .before .before .before .before .before .args .value .now) (c .before .before .before .before .before .before .before .before .loop .i) (c .before .before .before .before .before .before .before .next-special .result) (c .before .before .before .before .before .before .before .next-special .ensures .0) (c .before .before .before .before .before .before .before .before .before .escape-chars .ensures) (c .before .before .before .before .before .before .before .before .loop .inv .1) (c .before .before .before .before .write-escaped .ensures .0) (c .before .before .before .before .write-escaped .ensures .1) in
-    omega (arith, to-come w, same w (c .before .before .before .before .before .before .before .before .before .before .before .before .pre), c .before .before .before .before .before .before .before .before .before .before .before .before .pre)
+    let w = run-put (run (c .before)) in
+    omega (arith, to-come w, same w (start (c .before) .pre), start (c .before) .pre)
 
 part-put-special-end : tie.Need-part-put-special-end Inv-loop μ-loop
 part-put-special-end c = search needs
 
 put-special-requires : tie.Need-put-special-requires Inv-loop μ-loop
 put-special-requires c κs =
-    let e = c .before .before .before .before .before .before .before .before .next-special .result in
-    let inside : e < length (c .before .before .before .before .before .before .before .before .before .before .before .before .before .args .value .now) = omega (arith, c .before .before .if1 .left, c .before .before .before .before .before .before .before .before .next-special .ensures .0 .to) in
-    let w = run-written (ruleFor (c .before .before .before .before .before .before .before .before .before .before .before .before .before .args .newer)) (c .before .before .before .before .before .before .before .before .before .before .before .before .before .args .value .now) (c .before .before .before .before .before .before .before .before .before .loop .i) e (c .before .before .before .before .before .before .before .before .next-special .ensures .0) (c .before .before .before .before .before .before .before .before .before .before .escape-chars .ensures) (c .before .before .before .before .before .before .before .before .before .loop .inv .1) (c .before .before .before .before .before .write-escaped .ensures .0) (c .before .before .before .before .before .write-escaped .ensures .1) in
-    own-room (c .before .before .before .before .before .before .before .before .before .before .before .before .before .args .newer) (c .before .before .before .before .before .before .before .before .before .before .before .before .before .args .value .now) e inside (c .before .before .before .before .before .before .before .before .next-special .ensures .1 inside) (c .before .special-width .ensures) w (c .before .before .before .before .before .before .before .before .before .before .before .before .before .pre)
+    let e = c .before .before in
+    let a = start e .args in
+    own-room (a .newer) (a .value .now) (end (run e)) (inside e) (run e .before .before .before .next-special .ensures .1 (inside e))
+    (c .before .special-width .ensures) (run-put (run e)) (start e .pre)
 
 special-length-requires : tie.Need-special-length-requires Inv-loop μ-loop
 special-length-requires c κs = search needs
 
+-- the reference, where the next run starts
+next-inside : (c : tie.After-special-width Inv-loop μ-loop) → end (run (c .before)) + c .special-width .result ≤ length (start (c .before) .args .value .now)
+next-inside c =
+    let e = c .before in
+    let a = start e .args in
+    own-inside (a .newer) (a .value .now) (end (run e)) (inside e) (run e .before .before .before .next-special .ensures .1 (inside e)) (c .special-width .ensures)
+
+own-put : (c : tie.After-special-length Inv-loop μ-loop)
+    → Written (canonical (ruleFor (start (c .before .before .before .before .before .before) .args .newer))
+    (start (c .before .before .before .before .before .before) .args .value .now))
+    (canonicalFrom (ruleFor (start (c .before .before .before .before .before .before) .args .newer)) 0
+    (drop (end (run (c .before .before .before .before .before .before)) + c .before .before .before .before .before .special-width .result)
+    (start (c .before .before .before .before .before .before) .args .value .now)))
+    (start (c .before .before .before .before .before .before) .args .out .now)
+    (putMid (turn (run (c .before .before .before .before .before .before)) .loop .at + run (c .before .before .before .before .before .before) .write-escaped .result)
+    (length (held (run (c .before .before .before .before .before .before))) -
+    (turn (run (c .before .before .before .before .before .before)) .loop .at + run
+    (c .before .before .before .before .before .before) .write-escaped .result)) (held (run (c .before .before .before .before .before .before)))
+    (c .before .before .before .put-special .last .1 .0))
+    (turn (run (c .before .before .before .before .before .before)) .loop .at + run
+    (c .before .before .before .before .before .before) .write-escaped .result + c .special-length .result)
+own-put c =
+    let e = c .before .before .before .before .before .before in
+    let a = start e .args in
+    own-written (a .newer) (a .value .now) (end (run e)) (inside e) (run e .before .before .before .next-special .ensures .1 (inside e))
+    (c .before .before .before .before .before .special-width .ensures)
+    (run-put (run e)) (c .special-length .ensures .0) (c .before .before .before .put-special .ensures)
+
 add-at-2 : tie.Need-add-at-2 Inv-loop μ-loop
-add-at-2 c =
-    let e = c .before .before .before .before .before .before .before .before .before .before .before .before .next-special .result in
-    let inside : e < length (c .before .before .before .before .before .before .before .before .before .before .before .before .before .before .before .before .before .args .value .now) = omega (arith, c .before .before .before .before .before .before .if1 .left, c .before .before .before .before .before .before .before .before .before .before .before .before .next-special .ensures .0 .to) in
-    let w = run-written (ruleFor (c .before .before .before .before .before .before .before .before .before .before .before .before .before .before .before .before .before .args .newer)) (c .before .before .before .before .before .before .before .before .before .before .before .before .before .before .before .before .before .args .value .now) (c .before .before .before .before .before .before .before .before .before .before .before .before .before .loop .i) e (c .before .before .before .before .before .before .before .before .before .before .before .before .next-special .ensures .0) (c .before .before .before .before .before .before .before .before .before .before .before .before .before .before .escape-chars .ensures) (c .before .before .before .before .before .before .before .before .before .before .before .before .before .loop .inv .1) (c .before .before .before .before .before .before .before .before .before .write-escaped .ensures .0) (c .before .before .before .before .before .before .before .before .before .write-escaped .ensures .1) in
-    omega (arith, to-come (own-written (c .before .before .before .before .before .before .before .before .before .before .before .before .before .before .before .before .before .args .newer) (c .before .before .before .before .before .before .before .before .before .before .before .before .before .before .before .before .before .args .value .now) e inside (c .before .before .before .before .before .before .before .before .before .before .before .before .next-special .ensures .1 inside) (c .before .before .before .before .before .special-width .ensures) w (c .special-length .ensures .0) (c .before .before .before .put-special .ensures)), c .before .before .before .before .before .before .before .before .before .before .before .before .before .before .before .before .before .pre)
+add-at-2 c = omega (arith, to-come (own-put c), start (c .before .before .before .before .before .before) .pre)
 
 add-i : tie.Need-add-i Inv-loop μ-loop
-add-i c = omega (arith, own-inside (c .before .before .before .before .before .before .before .before .before .before .before .before .before .before .before .before .before .args .newer) (c .before .before .before .before .before .before .before .before .before .before .before .before .before .before .before .before .before .args .value .now) (c .before .before .before .before .before .before .before .before .before .before .before .before .next-special .result) (omega (arith, c .before .before .before .before .before .before .if1 .left, c .before .before .before .before .before .before .before .before .before .before .before .before .next-special .ensures .0 .to)) (c .before .before .before .before .before .before .before .before .before .before .before .before .next-special .ensures .1 (omega (arith, c .before .before .before .before .before .before .if1 .left, c .before .before .before .before .before .before .before .before .before .before .before .before .next-special .ensures .0 .to))) (c .before .before .before .before .before .special-width .ensures))
+add-i c = omega (arith, next-inside (c .before .before .before .before .before))
 
 loop-less : tie.Need-loop-less Inv-loop μ-loop
-loop-less c = omega (arith, c .before .before .before .before .before .before .before .before .before .before .before .before .next-special .ensures .0 .from, own-least (c .before .before .before .before .before .before .before .before .before .before .before .before .before .before .before .before .before .args .newer) (c .before .before .before .before .before .before .before .before .before .before .before .before .before .before .before .before .before .args .value .now) (c .before .before .before .before .before .before .before .before .before .before .before .before .next-special .result) (omega (arith, c .before .before .before .before .before .before .if1 .left, c .before .before .before .before .before .before .before .before .before .before .before .before .next-special .ensures .0 .to)) (c .before .before .before .before .before .before .before .before .before .before .before .before .next-special .ensures .1 (omega (arith, c .before .before .before .before .before .before .if1 .left, c .before .before .before .before .before .before .before .before .before .before .before .before .next-special .ensures .0 .to))) (c .before .before .before .before .before .special-width .ensures), own-inside (c .before .before .before .before .before .before .before .before .before .before .before .before .before .before .before .before .before .args .newer) (c .before .before .before .before .before .before .before .before .before .before .before .before .before .before .before .before .before .args .value .now) (c .before .before .before .before .before .before .before .before .before .before .before .before .next-special .result) (omega (arith, c .before .before .before .before .before .before .if1 .left, c .before .before .before .before .before .before .before .before .before .before .before .before .next-special .ensures .0 .to)) (c .before .before .before .before .before .before .before .before .before .before .before .before .next-special .ensures .1 (omega (arith, c .before .before .before .before .before .before .if1 .left, c .before .before .before .before .before .before .before .before .before .before .before .before .next-special .ensures .0 .to))) (c .before .before .before .before .before .special-width .ensures))
+loop-less c =
+    let w = c .before .before .before .before .before in
+    let e = w .before in
+    let a = start e .args in
+    let least = own-least (a .newer) (a .value .now) (end (run e)) (inside e) (run e .before .before .before .next-special .ensures .1 (inside e)) (w .special-width .ensures) in
+    omega (arith, run e .before .before .before .next-special .ensures .0 .from, least, next-inside w)
 
 loop-again : tie.Need-loop-again Inv-loop μ-loop
-loop-again c =
-    let e = c .before .before .before .before .before .before .before .before .before .before .before .before .next-special .result in
-    let inside : e < length (c .before .before .before .before .before .before .before .before .before .before .before .before .before .before .before .before .before .args .value .now) = omega (arith, c .before .before .before .before .before .before .if1 .left, c .before .before .before .before .before .before .before .before .before .before .before .before .next-special .ensures .0 .to) in
-    let w = run-written (ruleFor (c .before .before .before .before .before .before .before .before .before .before .before .before .before .before .before .before .before .args .newer)) (c .before .before .before .before .before .before .before .before .before .before .before .before .before .before .before .before .before .args .value .now) (c .before .before .before .before .before .before .before .before .before .before .before .before .before .loop .i) e (c .before .before .before .before .before .before .before .before .before .before .before .before .next-special .ensures .0) (c .before .before .before .before .before .before .before .before .before .before .before .before .before .before .escape-chars .ensures) (c .before .before .before .before .before .before .before .before .before .before .before .before .before .loop .inv .1) (c .before .before .before .before .before .before .before .before .before .write-escaped .ensures .0) (c .before .before .before .before .before .before .before .before .before .write-escaped .ensures .1) in (
-      own-inside (c .before .before .before .before .before .before .before .before .before .before .before .before .before .before .before .before .before .args .newer) (c .before .before .before .before .before .before .before .before .before .before .before .before .before .before .before .before .before .args .value .now) e inside (c .before .before .before .before .before .before .before .before .before .before .before .before .next-special .ensures .1 inside) (c .before .before .before .before .before .special-width .ensures),
-      own-written (c .before .before .before .before .before .before .before .before .before .before .before .before .before .before .before .before .before .args .newer) (c .before .before .before .before .before .before .before .before .before .before .before .before .before .before .before .before .before .args .value .now) e inside (c .before .before .before .before .before .before .before .before .before .before .before .before .next-special .ensures .1 inside) (c .before .before .before .before .before .special-width .ensures) w (c .special-length .ensures .0) (c .before .before .before .put-special .ensures),
-    )
+loop-again c = (next-inside (c .before .before .before .before .before), own-put c)
 
 pub write-canonical-spec : {M : Type 1} → statement M
 write-canonical-spec =

@@ -1,11 +1,12 @@
+-- `skip_common`: block by block, what is passed stays without one (`common-join`).
 use native.Mathlib.Omega.{arith}
 use Prim.Native.Nat.{_-_}
 use lib.ListN.{length}
 use Rattle.text.specs.Version.{xml11}
-use Rattle.canonical.specs.Runs.{Common}
-use Rattle.canonical.proofs.Between.{common-none, common-join}
-use Rattle.canonical.proofs.skip_common.Statement.{statement}
-use Rattle.canonical.proofs.skip_common.Tie as tie
+use Rattle.runs.specs.Specials.{Common}
+use Rattle.runs.proofs.Specials.{common-none, common-join}
+use Rattle.runs.proofs.special.skip_common.Statement.{statement}
+use Rattle.runs.proofs.special.skip_common.Tie as tie
 
 abbrev Inv-loop : tie.InvT-loop
 Inv-loop value from i₀ i = Common xml11 value from i
@@ -26,13 +27,23 @@ returns : tie.Need-returns Inv-loop μ-loop
 returns c = c .before .before .before .loop .inv
 
 add-i : tie.Need-add-i Inv-loop μ-loop
-add-i c = omega (arith, c .before .before .before .loop .inv .to, c .before .before .loop-test .taken)
+add-i c =
+    let after-loop-test = c .before .before in
+    let turn = after-loop-test .before in
+    omega (arith, turn .loop .inv .to, after-loop-test .loop-test .taken)
 
 loop-less : tie.Need-loop-less Inv-loop μ-loop
-loop-less c = omega (arith, c .before .before .before .loop .inv .to, c .before .before .loop-test .taken)
+loop-less c =
+    let after-loop-test = c .before .before in
+    let turn = after-loop-test .before in
+    omega (arith, turn .loop .inv .to, after-loop-test .loop-test .taken)
 
 loop-again : tie.Need-loop-again Inv-loop μ-loop
-loop-again c = common-join xml11 _ _ (c .before .before .before .loop .i) _ (c .before .before .before .loop .inv) (c .before .any-special .ensures (c .if1 .left))
+loop-again c =
+    let after-any-special = c .before in
+    let turn = after-any-special .before .before in
+    let kept = turn .loop in
+    common-join xml11 _ _ (kept .i) _ (kept .inv) (after-any-special .any-special .ensures (c .if1 .left))
 
 returns-2 : tie.Need-returns-2 Inv-loop μ-loop
 returns-2 c = c .before .loop .inv

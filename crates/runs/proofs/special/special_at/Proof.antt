@@ -1,7 +1,7 @@
-use Rattle.canonical.proofs.Between.{special-bytes}
+use Rattle.runs.proofs.Specials.{special-bytes}
 use borrow.Author.Needs.{needs}
-use Rattle.canonical.proofs.special_at.Statement.{statement}
-use Rattle.canonical.proofs.special_at.Tie as tie
+use Rattle.runs.proofs.special.special_at.Statement.{statement}
+use Rattle.runs.proofs.special.special_at.Tie as tie
 
 shared-slice-read-result : tie.Need-shared-slice-read-result
 shared-slice-read-result c = search needs
@@ -28,7 +28,10 @@ shared-slice-read-result-5 : tie.Need-shared-slice-read-result-5
 shared-slice-read-result-5 c = search needs
 
 returns : tie.Need-returns
-returns c = λ e. special-bytes (c .before .before .before .before .before .args .value .now) (c .before .before .before .before .before .args .i) (c .before .before .before .before .before .pre) e
+returns c =
+    let start = c .before .before .before .before .before in
+    let given = start .args in
+    λ e. special-bytes (given .value .now) (given .i) (start .pre) e
 
 pub special-at-spec : {M : Type 1} → statement M
 special-at-spec =
