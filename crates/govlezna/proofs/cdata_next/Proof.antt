@@ -1,4 +1,4 @@
--- `govlezna::cdata_next`: the checks of the text, then the step. Assumes nothing.
+-- `cdata_next` leaves what its checks refuse beside the old cursor, or else the answer of the step beside the new one.
 use mathlib.Core.Path.{_∙_}
 use Rattle.govlezna.proofs.Lent.{cursor-halts, cursor-passes}
 use borrow.Author.Needs.{needs}
@@ -30,7 +30,11 @@ leave-requires-2 : tie.Need-leave-requires-2
 leave-requires-2 c κs = search needs
 
 returns-2 : tie.Need-returns-2
-returns-2 c = c .leave2 .ensures ∙ cursor-passes _ _ (c .before .before .before .before .before .before .check-text .ensures) (c .before .before .before .before .enum-told .given .1) (c .before .before .before .cdata-step .ensures) (c .before .piece-answer .ensures)
+returns-2 c =
+    let stepped = c .before .before .before in
+    let told = stepped .before in
+    c .leave2 .ensures
+    ∙ cursor-passes _ _ (told .before .before .check-text .ensures) (told .enum-told .given .1) (stepped .cdata-step .ensures) (c .before .piece-answer .ensures)
 
 pub cdata-next-spec : {M : Type 1} → statement M
 cdata-next-spec =

@@ -1,11 +1,23 @@
--- `checked_number` meets its contract: the first check that refuses answers, and a number needs no check of UTF-8. Assumes nothing.
-use mathlib.Core.Path.{sym, ap, _∙_}
+-- `checked_number`: the first check that refuses answers, and a number needs no check of UTF-8, since its digits are ASCII.
+use mathlib.Core.Path.{_≡_, sym, ap, _∙_}
+use mathlib.Core.List.{List}
+use Prim.Native.Nat.{ℕ}
 use Rattle.charref.specs.CharRef.{numberAnswer, charNumber, anyCharacter}
 use Rattle.charref.proofs.Ascii.{number-utf8}
 use Rattle.govlezna.proofs.Checks.{first-answers, second-answers, later-answers, known-answers}
 use borrow.Author.Needs.{needs}
 use Rattle.govlezna.proofs.checked_number.Statement.{statement}
 use Rattle.govlezna.proofs.checked_number.Tie as tie
+
+-- the text, seen from the check of its length, and that check, seen from the number
+abbrev text : tie.After-check-length → List ℕ
+text c = c .before .before .args .text .now
+
+abbrev measured : tie.After-answer-of → tie.After-check-length
+measured c = c .before .before .before .before
+
+number : (c : tie.After-answer-of) → c .answer-of .result ≡ numberAnswer (charNumber anyCharacter (text (measured c)))
+number c = c .answer-of .ensures ∙ ap numberAnswer (c .before .parse-number .ensures)
 
 check-length-requires : tie.Need-check-length-requires
 check-length-requires c κs = search needs
@@ -17,7 +29,9 @@ enum-told-2 : tie.Need-enum-told-2
 enum-told-2 c = search needs
 
 returns : tie.Need-returns
-returns c = first-answers (c .before .before .before .before .args .text .now) _ (c .before .before .check-length .ensures) (c .enum-told2 .given .1)
+returns c =
+    let length = c .before .before in
+    first-answers (text length) _ (length .check-length .ensures) (c .enum-told2 .given .1)
 
 parse-number-requires : tie.Need-parse-number-requires
 parse-number-requires c κs = search needs
@@ -33,9 +47,11 @@ enum-told-4 c = search needs
 
 returns-2 : tie.Need-returns-2
 returns-2 c =
-    let text = c .before .before .before .before .before .before .before .before .args .text .now in
-    let number = c .before .before .answer-of .ensures ∙ ap numberAnswer (c .before .before .before .parse-number .ensures) in
-    known-answers text (numberAnswer (charNumber anyCharacter text)) (c .before .before .before .before .before .before .check-length .ensures) (c .before .before .before .before .enum-told .given .1) (number-utf8 text (sym number ∙ c .enum-told4 .given .1)) number
+    let read = c .before .before in
+    let short = read .before .before in
+    let length = measured read in
+    known-answers (text length) (numberAnswer (charNumber anyCharacter (text length))) (length .check-length .ensures) (short .enum-told .given .1)
+    (number-utf8 (text length) (sym (number read) ∙ c .enum-told4 .given .1)) (number read)
 
 check-utf8-requires : tie.Need-check-utf8-requires
 check-utf8-requires c κs = search needs
@@ -47,12 +63,20 @@ enum-told-6 : tie.Need-enum-told-6
 enum-told-6 c = search needs
 
 returns-3 : tie.Need-returns-3
-returns-3 c = second-answers (c .before .before .before .before .before .before .before .before .before .before .before .args .text .now) _ (c .before .before .before .before .before .before .before .before .before .check-length .ensures) (c .before .before .before .before .before .before .before .enum-told .given .1) (c .before .before .check-utf8 .ensures) (c .enum-told6 .given .1)
+returns-3 c =
+    let valid = c .before .before in
+    let short = valid .before .before .before .before .before in
+    let length = short .before .before in
+    second-answers (text length) _ (length .check-length .ensures) (short .enum-told .given .1) (valid .check-utf8 .ensures) (c .enum-told6 .given .1)
 
 returns-4 : tie.Need-returns-4
 returns-4 c =
-    let text = c .before .before .before .before .before .before .before .before .before .before .before .args .text .now in
-    later-answers text (numberAnswer (charNumber anyCharacter text)) (c .before .before .before .before .before .before .before .before .before .check-length .ensures) (c .before .before .before .before .before .before .before .enum-told .given .1) (c .before .before .check-utf8 .ensures) (c .enum-told5 .given .1) (c .before .before .before .before .before .answer-of .ensures ∙ ap numberAnswer (c .before .before .before .before .before .before .parse-number .ensures))
+    let valid = c .before .before in
+    let read = valid .before .before .before in
+    let short = read .before .before in
+    let length = measured read in
+    later-answers (text length) (numberAnswer (charNumber anyCharacter (text length))) (length .check-length .ensures) (short .enum-told .given .1)
+    (valid .check-utf8 .ensures) (c .enum-told5 .given .1) (number read)
 
 pub checked-number-spec : {M : Type 1} → statement M
 checked-number-spec =

@@ -1,11 +1,20 @@
-use mathlib.Core.Path.{sym, ap, _∙_}
+-- `govlezna_escape` answers as its checks refuse, or else as `escape` does, whose text is then no longer than 16,777,216 bytes.
+use mathlib.Core.Path.{_≡_, sym, ap, _∙_}
 use mathlib.Core.List.{[], _∷_}
 use Rattle.text.specs.Call.{argumentCheck}
 use Rattle.text.proofs.Call.{halts, passes, checked-length}
+use Rattle.escape.specs.Escape.{levelCheck}
 use Rattle.govlezna.specs.Calls.{escapeCall}
 use borrow.Author.Needs.{needs}
 use Rattle.govlezna.proofs.govlezna_escape.Statement.{statement}
 use Rattle.govlezna.proofs.govlezna_escape.Tie as tie
+
+-- the entry, seen from the place after the checks, and what these gave
+abbrev entry : tie.After-check-arguments → tie.Start
+entry c = c .before .before .before .before
+
+checked : (c : tie.After-check-arguments) → c .check-arguments .result ≡ argumentCheck (entry c .args .text .now) (levelCheck (entry c .args .level))
+checked c = c .check-arguments .ensures ∙ ap (argumentCheck (entry c .args .text .now)) (c .before .check-level .ensures)
 
 check-level-requires : tie.Need-check-level-requires
 check-level-requires c κs = search needs
@@ -25,11 +34,14 @@ put-requires c κs = search needs
 returns : tie.Need-returns
 unfolding escapeCall
 returns c =
-    c .put .ensures (c .before .before .before .before .before .before .before .before .args .out .now ∷ [])
-    ∙ halts (c .before .before .before .before .before .before .before .before .args .out .now ∷ []) _ (c .before .before .before .before .check-arguments .ensures ∙ ap (argumentCheck (c .before .before .before .before .before .before .before .before .args .text .now)) (c .before .before .before .before .before .check-level .ensures)) (c .before .before .enum-told2 .given .1)
+    let asked = c .before .before .before .before in
+    let lent = entry asked .args .out .now ∷ [] in
+    c .put .ensures lent ∙ halts lent _ (checked asked) (c .before .before .enum-told2 .given .1)
 
 escape-requires : tie.Need-escape-requires
-escape-requires c κs = checked-length (c .before .before .before .before .before .before .before .args .text .now) _ (sym (c .before .before .before .check-arguments .ensures) ∙ c .before .enum-told .given .1)
+escape-requires c κs =
+    let asked = c .before .before .before in
+    checked-length (entry asked .args .text .now) _ (sym (asked .check-arguments .ensures) ∙ c .before .enum-told .given .1)
 
 put-requires-2 : tie.Need-put-requires-2
 put-requires-2 c κs = search needs
@@ -40,9 +52,10 @@ same-length c = search needs
 returns-2 : tie.Need-returns-2
 unfolding escapeCall
 returns-2 c =
-    c .put2 .ensures _
-    ∙ c .before .before .before .before .escape .ensures
-    ∙ passes (c .before .before .before .before .before .before .before .before .before .before .before .before .args .out .now ∷ []) _ (c .before .before .before .before .before .before .before .before .check-arguments .ensures ∙ ap (argumentCheck (c .before .before .before .before .before .before .before .before .before .before .before .before .args .text .now)) (c .before .before .before .before .before .before .before .before .before .check-level .ensures)) (c .before .before .before .before .before .before .enum-told .given .1)
+    let wrote = c .before .before .before .before in
+    let told = wrote .before .before in
+    let asked = told .before .before in
+    c .put2 .ensures _ ∙ wrote .escape .ensures ∙ passes (entry asked .args .out .now ∷ []) _ (checked asked) (told .enum-told .given .1)
 
 pub govlezna-escape-spec : {M : Type 1} → statement M
 govlezna-escape-spec =

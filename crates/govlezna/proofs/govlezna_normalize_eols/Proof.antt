@@ -1,11 +1,20 @@
-use mathlib.Core.Path.{ap, _∙_}
+-- `govlezna_normalize_eols` answers as its checks refuse, or else as `normalize_eols` does.
+use mathlib.Core.Path.{_≡_, ap, _∙_}
 use mathlib.Core.List.{[], _∷_}
-use Rattle.text.specs.Call.{argumentCheck}
+use Rattle.text.specs.Call.{argumentCheck, versionCheck}
 use Rattle.text.proofs.Call.{halts, passes}
 use Rattle.govlezna.specs.Calls.{normalizeEolsCall}
 use borrow.Author.Needs.{needs}
 use Rattle.govlezna.proofs.govlezna_normalize_eols.Statement.{statement}
 use Rattle.govlezna.proofs.govlezna_normalize_eols.Tie as tie
+
+-- the entry, seen from the place after the checks, and what these gave
+abbrev entry : tie.After-check-arguments → tie.Start
+entry c = c .before .before .before .before
+
+checked : (c : tie.After-check-arguments)
+    → c .check-arguments .result ≡ argumentCheck (entry c .args .text .now) (versionCheck (entry c .args .version))
+checked c = c .check-arguments .ensures ∙ ap (argumentCheck (entry c .args .text .now)) (c .before .check-version .ensures)
 
 check-version-requires : tie.Need-check-version-requires
 check-version-requires c κs = search needs
@@ -25,8 +34,9 @@ put-requires c κs = search needs
 returns : tie.Need-returns
 unfolding normalizeEolsCall
 returns c =
-    c .put .ensures (c .before .before .before .before .before .before .before .before .args .out .now ∷ [])
-    ∙ halts (c .before .before .before .before .before .before .before .before .args .out .now ∷ []) _ (c .before .before .before .before .check-arguments .ensures ∙ ap (argumentCheck (c .before .before .before .before .before .before .before .before .args .text .now)) (c .before .before .before .before .before .check-version .ensures)) (c .before .before .enum-told2 .given .1)
+    let asked = c .before .before .before .before in
+    let lent = entry asked .args .out .now ∷ [] in
+    c .put .ensures lent ∙ halts lent _ (checked asked) (c .before .before .enum-told2 .given .1)
 
 normalize-eols-requires : tie.Need-normalize-eols-requires
 normalize-eols-requires c κs = search needs
@@ -40,9 +50,10 @@ same-length c = search needs
 returns-2 : tie.Need-returns-2
 unfolding normalizeEolsCall
 returns-2 c =
-    c .put2 .ensures _
-    ∙ c .before .before .before .before .normalize-eols .ensures
-    ∙ passes (c .before .before .before .before .before .before .before .before .before .before .before .before .args .out .now ∷ []) _ (c .before .before .before .before .before .before .before .before .check-arguments .ensures ∙ ap (argumentCheck (c .before .before .before .before .before .before .before .before .before .before .before .before .args .text .now)) (c .before .before .before .before .before .before .before .before .before .check-version .ensures)) (c .before .before .before .before .before .before .enum-told .given .1)
+    let wrote = c .before .before .before .before in
+    let told = wrote .before .before in
+    let asked = told .before .before in
+    c .put2 .ensures _ ∙ wrote .normalize-eols .ensures ∙ passes (entry asked .args .out .now ∷ []) _ (checked asked) (told .enum-told .given .1)
 
 pub govlezna-normalize-eols-spec : {M : Type 1} → statement M
 govlezna-normalize-eols-spec =

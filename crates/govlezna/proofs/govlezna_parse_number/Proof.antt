@@ -1,3 +1,4 @@
+-- `govlezna_parse_number` puts the answer of `checked_number`, which is that of the checks or of the number (`guards`).
 use Rattle.charref.specs.CharRef.{numberAnswer, charNumber, anyCharacter}
 use mathlib.Core.Path.{ap, _∙_}
 use mathlib.Core.List.{[]}
@@ -17,7 +18,11 @@ put-requires c κs = search needs
 
 returns : tie.Need-returns
 unfolding parseNumberCall
-returns c = c .put .ensures [] ∙ ap (λ (a : Answer). callOf a []) (c .before .before .checked-number .ensures) ∙ guards (textCheck (c .before .before .before .before .args .text .now)) (numberAnswer (charNumber anyCharacter (c .before .before .before .before .args .text .now))) []
+returns c =
+    let asked = c .before .before in
+    let text = asked .before .before .args .text .now in
+    c .put .ensures [] ∙ ap (λ (a : Answer). callOf a []) (asked .checked-number .ensures)
+    ∙ guards (textCheck text) (numberAnswer (charNumber anyCharacter text)) []
 
 pub govlezna-parse-number-spec : {M : Type 1} → statement M
 govlezna-parse-number-spec = tie.close (tie.spec checked-number-requires put-requires returns)

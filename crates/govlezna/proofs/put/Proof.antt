@@ -1,3 +1,4 @@
+-- `put` writes the words of the answer's case and returns its number: what `callOf` says of that case, whatever buffers are lent.
 use mathlib.Core.Path.{sym, ap, ap₂, _∙_}
 use mathlib.Core.List.{List}
 use Prim.Native.Nat.{ℕ}
@@ -20,10 +21,14 @@ answered-requires-2 : tie.Need-answered-requires-2
 answered-requires-2 c κs = search needs
 
 returns : tie.Need-returns
-returns c = λ buffers. ap₂ (λ (n : ℕ) (words : List ℕ). called n words buffers) (c .answered .ensures .0) (c .answered .ensures .1) ∙ sym (ap (λ (a : Answer). callOf a buffers) (c .before .before .before .result .given .1))
+returns c = λ buffers.
+    ap₂ (λ (n : ℕ) (words : List ℕ). called n words buffers) (c .answered .ensures .0) (c .answered .ensures .1)
+    ∙ sym (ap (λ (a : Answer). callOf a buffers) (c .before .before .before .result .given .1))
 
 returns-2 : tie.Need-returns-2
-returns-2 c = λ buffers. ap₂ (λ (n : ℕ) (words : List ℕ). called n words buffers) (c .answered2 .ensures .0) (c .answered2 .ensures .1) ∙ sym (ap (λ (a : Answer). callOf a buffers) (c .before .before .before .result2 .given .1))
+returns-2 c = λ buffers.
+    ap₂ (λ (n : ℕ) (words : List ℕ). called n words buffers) (c .answered2 .ensures .0) (c .answered2 .ensures .1)
+    ∙ sym (ap (λ (a : Answer). callOf a buffers) (c .before .before .before .result2 .given .1))
 
 pub put-spec : {M : Type 1} → statement M
 put-spec =
