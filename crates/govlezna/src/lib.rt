@@ -17,9 +17,9 @@ ghost use Rattle.utils.specs.Trim.{trimStart, trimEnd, trimSpaces};
 
 // All that `govlezna_cdata_next` leaves behind: its number, the answer words and the cursor.
 pub struct CDataNext {
-    number: u32,
-    words: [u64; 2],
-    next: Cursor,
+    pub number: u32,
+    pub words: [u64; 2],
+    pub next: Cursor,
 }
 
 // Writes both answer words and hands the number on.
@@ -363,8 +363,8 @@ fn leave(result: Answer, next: Cursor) -> CDataNext
     }
 }
 
-// The by-value core: the checks of the text, then the step.
-fn cdata_next(text: &[u8], cursor: Cursor) -> CDataNext
+// The by-value core, which other crates can call: the checks of the text, then the step.
+pub fn cdata_next(text: &[u8], cursor: Cursor) -> CDataNext
     ensures { λ r. ⌜ r ≡ cdataNextCall (now (text .entry)) cursor ⌝ }
 {
     let fine = text::check_text(text);

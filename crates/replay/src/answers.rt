@@ -1,8 +1,7 @@
 // What came of a stored line, and the comparison of an answer with the stored one.
 ghost use Prim.Native.Nat.{_<_};
 use crate::fields::field;
-use crate::values::Parsed;
-use crate::values::decimal;
+use crate::values::decimals;
 use crate::values::decode_hex;
 
 // Stands in both answer words before a call. No stored answer has it, so a word that a call leaves
@@ -38,21 +37,16 @@ pub fn differs(number: u32, answer: [u64; 2]) -> Outcome {
 // Compares with `= NUMBER FIRST SECOND`, which stands in the line from field `at` on. How many
 // fields follow it, the call has seen.
 pub fn compare(line: &[u8], at: usize, number: u32, answer: [u64; 2]) -> Outcome
-    requires { ⌜ at < 100 ⌝ }
+    requires { ⌜ at < 99 ⌝ }
 {
     if !check::same(field(line, at), b"=") {
         return Outcome::Malformed;
     }
-    let Parsed::Number(stored) = decimal(field(line, at + 1)) else {
+    let mut stored = [0u64; 3];
+    if !decimals(line, at + 1, 3, &mut stored) {
         return Outcome::Malformed;
-    };
-    let Parsed::Number(first) = decimal(field(line, at + 2)) else {
-        return Outcome::Malformed;
-    };
-    let Parsed::Number(second) = decimal(field(line, at + 3)) else {
-        return Outcome::Malformed;
-    };
-    if stored == number as u64 && first == answer[0] && second == answer[1] {
+    }
+    if (stored[0] == number as u64) & (stored[1] == answer[0]) & (stored[2] == answer[1]) {
         return Outcome::Same;
     }
     differs(number, answer)
@@ -66,7 +60,7 @@ pub fn compare_output(
     answer: [u64; 2],
     out: &[u8; 2048],
 ) -> Outcome
-    requires { ⌜ at < 100 ⌝ }
+    requires { ⌜ at < 99 ⌝ }
 {
     let outcome = compare(line, at, number, answer);
     let Outcome::Same = outcome else {

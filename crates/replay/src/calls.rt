@@ -8,23 +8,22 @@ use crate::cdata;
 use crate::fields::field;
 use crate::fields::field_count;
 use crate::tables;
-use crate::values::Parsed;
-use crate::values::decimal;
+use crate::values::decimals;
 use crate::values::decode_hex;
 
-// The calls of a text alone.
-enum TextCall {
-    CheckUtf8,
-    ParseNumber,
-    TrimStart,
-    TrimEnd,
-    TrimSpaces,
-}
-
-// The calls that write an output.
-enum OutputCall {
-    Escape,
-    NormalizeEols,
+// Which call field 0 of the line names: its place among these names, or 12 where it is none of them.
+fn call_number(line: &[u8]) -> usize {
+    let names =
+        b"check_utf8 parse_number trim_xml_start trim_xml_end trim_xml_spaces escape normalize_eols cdata_next check_table unescape normalize_attribute_value canonical_form";
+    let call = field(line, 0);
+    let mut k = 0;
+    while k < 12 {
+        if check::same(call, field(names, k)) {
+            return k;
+        }
+        k += 1;
+    }
+    12
 }
 
 pub fn replay_line(line: &[u8]) -> Outcome {
@@ -34,42 +33,17 @@ pub fn replay_line(line: &[u8]) -> Outcome {
     if line[0] == b'#' {
         return Outcome::Nothing;
     }
-    let call = field(line, 0);
-    if check::same(call, b"escape") {
-        return replay_output(line, OutputCall::Escape);
+    let call = call_number(line);
+    match call {
+        0..=4 => replay_text(line, call),
+        5..=6 => replay_output(line, call),
+        7 => cdata::replay_cdata(line),
+        _ => tables::replay_table_line(line, call),
     }
-    if check::same(call, b"normalize_eols") {
-        return replay_output(line, OutputCall::NormalizeEols);
-    }
-    if check::same(call, b"cdata_next") {
-        return cdata::replay_cdata(line);
-    }
-    replay_text_line(line)
-}
-
-// A call of a text alone, or else one with a table.
-fn replay_text_line(line: &[u8]) -> Outcome {
-    let call = field(line, 0);
-    if check::same(call, b"check_utf8") {
-        return replay_text(line, TextCall::CheckUtf8);
-    }
-    if check::same(call, b"parse_number") {
-        return replay_text(line, TextCall::ParseNumber);
-    }
-    if check::same(call, b"trim_xml_start") {
-        return replay_text(line, TextCall::TrimStart);
-    }
-    if check::same(call, b"trim_xml_end") {
-        return replay_text(line, TextCall::TrimEnd);
-    }
-    if check::same(call, b"trim_xml_spaces") {
-        return replay_text(line, TextCall::TrimSpaces);
-    }
-    tables::replay_table_line(line)
 }
 
 // CALL TEXT = NUMBER FIRST SECOND
-fn replay_text(line: &[u8], call: TextCall) -> Outcome {
+fn replay_text(line: &[u8], call: usize) -> Outcome {
     if field_count(line) != 6 {
         return Outcome::Malformed;
     }
@@ -84,19 +58,20 @@ fn replay_text(line: &[u8], call: TextCall) -> Outcome {
     compare(line, 2, number, answer)
 }
 
-fn call_text(call: TextCall, text: &[u8], answer: &mut [u64; 2]) -> u32 {
+// The calls 0 to 4.
+fn call_text(call: usize, text: &[u8], answer: &mut [u64; 2]) -> u32 {
     match call {
-        TextCall::CheckUtf8 => govlezna::govlezna_check_utf8(text, answer),
-        TextCall::ParseNumber => govlezna::govlezna_parse_number(text, answer),
-        TextCall::TrimStart => govlezna::govlezna_trim_xml_start(text, answer),
-        TextCall::TrimEnd => govlezna::govlezna_trim_xml_end(text, answer),
-        TextCall::TrimSpaces => govlezna::govlezna_trim_xml_spaces(text, answer),
+        0 => govlezna::govlezna_check_utf8(text, answer),
+        1 => govlezna::govlezna_parse_number(text, answer),
+        2 => govlezna::govlezna_trim_xml_start(text, answer),
+        3 => govlezna::govlezna_trim_xml_end(text, answer),
+        _ => govlezna::govlezna_trim_xml_spaces(text, answer),
     }
 }
 
 // CALL TEXT CHOICE ROOM = NUMBER FIRST SECOND OUTPUT, with a level or a version as the choice, and
 // the length of the output lent as the room.
-fn replay_output(line: &[u8], call: OutputCall) -> Outcome {
+fn replay_output(line: &[u8], call: usize) -> Outcome {
     if field_count(line) != 9 {
         return Outcome::Malformed;
     }
@@ -106,12 +81,12 @@ fn replay_output(line: &[u8], call: OutputCall) -> Outcome {
         return Outcome::Malformed;
     }
     let n = decoded.length;
-    let Parsed::Number(choice) = decimal(field(line, 2)) else {
+    let mut read = [0u64; 3];
+    if !decimals(line, 2, 2, &mut read) {
         return Outcome::Malformed;
-    };
-    let Parsed::Number(room) = decimal(field(line, 3)) else {
-        return Outcome::Malformed;
-    };
+    }
+    let choice = read[0];
+    let room = read[1];
     if 255 < choice {
         return Outcome::Malformed;
     }
@@ -125,15 +100,10 @@ fn replay_output(line: &[u8], call: OutputCall) -> Outcome {
     compare_output(line, 4, number, answer, &out)
 }
 
-fn call_output(
-    call: OutputCall,
-    text: &[u8],
-    choice: u8,
-    out: &mut [u8],
-    answer: &mut [u64; 2],
-) -> u32 {
+// The calls 5 and 6.
+fn call_output(call: usize, text: &[u8], choice: u8, out: &mut [u8], answer: &mut [u64; 2]) -> u32 {
     match call {
-        OutputCall::Escape => govlezna::govlezna_escape(text, choice, out, answer),
-        OutputCall::NormalizeEols => govlezna::govlezna_normalize_eols(text, choice, out, answer),
+        5 => govlezna::govlezna_escape(text, choice, out, answer),
+        _ => govlezna::govlezna_normalize_eols(text, choice, out, answer),
     }
 }

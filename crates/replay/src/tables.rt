@@ -10,14 +10,8 @@ use crate::fields::field;
 use crate::fields::field_count;
 use crate::values::Parsed;
 use crate::values::decimal;
+use crate::values::decimals;
 use crate::values::decode_hex;
-
-enum TableCall {
-    CheckTable,
-    Unescape,
-    NormalizeAttributeValue,
-    CanonicalForm,
-}
 
 // VERSION DEPTH LIMIT
 struct Settings {
@@ -31,25 +25,18 @@ enum ParsedSettings {
     Malformed,
 }
 
-pub fn replay_table_line(line: &[u8]) -> Outcome {
-    let call = field(line, 0);
-    if check::same(call, b"check_table") {
-        return replay_table(line, TableCall::CheckTable, b"", 1);
+// The calls 8 to 11 (`call_number` of calls.rt).
+pub fn replay_table_line(line: &[u8], call: usize) -> Outcome {
+    match call {
+        8 => replay_table(line, call, b"", 1),
+        9 => replay_text_and_table(line, call, 2),
+        10..=11 => replay_text_and_table(line, call, 5),
+        _ => Outcome::Malformed,
     }
-    if check::same(call, b"unescape") {
-        return replay_text_and_table(line, TableCall::Unescape, 2);
-    }
-    if check::same(call, b"normalize_attribute_value") {
-        return replay_text_and_table(line, TableCall::NormalizeAttributeValue, 5);
-    }
-    if check::same(call, b"canonical_form") {
-        return replay_text_and_table(line, TableCall::CanonicalForm, 5);
-    }
-    Outcome::Malformed
 }
 
 // Reads TEXT; LIST is field `at`.
-fn replay_text_and_table(line: &[u8], call: TableCall, at: usize) -> Outcome
+fn replay_text_and_table(line: &[u8], call: usize, at: usize) -> Outcome
     requires { ⌜ at < 100 ⌝ }
 {
     let mut text = [0u8; 2048];
@@ -62,7 +49,7 @@ fn replay_text_and_table(line: &[u8], call: TableCall, at: usize) -> Outcome
 }
 
 // Reads LIST, which is field `at`, and POOL, the next.
-fn replay_table(line: &[u8], call: TableCall, text: &[u8], at: usize) -> Outcome
+fn replay_table(line: &[u8], call: usize, text: &[u8], at: usize) -> Outcome
     requires { ⌜ at < 100 ⌝ }
 {
     let mut list = [0u8; 2048];
@@ -80,12 +67,12 @@ fn replay_table(line: &[u8], call: TableCall, text: &[u8], at: usize) -> Outcome
     replay_call(line, call, text, &list[..n], &pool[..m])
 }
 
-fn replay_call(line: &[u8], call: TableCall, text: &[u8], list: &[u8], pool: &[u8]) -> Outcome {
+fn replay_call(line: &[u8], call: usize, text: &[u8], list: &[u8], pool: &[u8]) -> Outcome {
     match call {
-        TableCall::CheckTable => replay_check_table(line, list, pool),
-        TableCall::Unescape => replay_unescape(line, text, list, pool),
-        TableCall::NormalizeAttributeValue => replay_normalize(line, text, list, pool),
-        TableCall::CanonicalForm => replay_canonical(line, text, list, pool),
+        8 => replay_check_table(line, list, pool),
+        9 => replay_unescape(line, text, list, pool),
+        10 => replay_normalize(line, text, list, pool),
+        _ => replay_canonical(line, text, list, pool),
     }
 }
 
@@ -119,22 +106,18 @@ fn replay_unescape(line: &[u8], text: &[u8], list: &[u8], pool: &[u8]) -> Outcom
 
 // Fields 2 to 4 of a call that walks an attribute value.
 fn parse_settings(line: &[u8]) -> ParsedSettings {
-    let Parsed::Number(version) = decimal(field(line, 2)) else {
+    let mut read = [0u64; 3];
+    if !decimals(line, 2, 3, &mut read) {
         return ParsedSettings::Malformed;
-    };
-    let Parsed::Number(depth) = decimal(field(line, 3)) else {
-        return ParsedSettings::Malformed;
-    };
-    let Parsed::Number(limit) = decimal(field(line, 4)) else {
-        return ParsedSettings::Malformed;
-    };
+    }
+    let version = read[0];
     if 255 < version {
         return ParsedSettings::Malformed;
     }
     ParsedSettings::Known(Settings {
         version: version as u8,
-        depth,
-        limit,
+        depth: read[1],
+        limit: read[2],
     })
 }
 
@@ -187,12 +170,12 @@ fn replay_canonical(line: &[u8], text: &[u8], list: &[u8], pool: &[u8]) -> Outco
     let ParsedSettings::Known(settings) = parse_settings(line) else {
         return Outcome::Malformed;
     };
-    let Parsed::Number(scratch_room) = decimal(field(line, 7)) else {
+    let mut read = [0u64; 3];
+    if !decimals(line, 7, 2, &mut read) {
         return Outcome::Malformed;
-    };
-    let Parsed::Number(room) = decimal(field(line, 8)) else {
-        return Outcome::Malformed;
-    };
+    }
+    let scratch_room = read[0];
+    let room = read[1];
     if 2048 < scratch_room {
         return Outcome::Malformed;
     }

@@ -1,13 +1,29 @@
 // What a field writes: a number in decimal, or bytes in hexadecimal.
-ghost use Prim.Native.Nat.{_*_, _≤_};
+ghost use Prim.Native.Nat.{_*_, _≤_, _<_};
 ghost use mathlib.Core.Path.{_≡_};
 ghost use lib.ListN.{length, take};
 ghost use Rattle.io.specs.Counts.{Counts};
 ghost use Rattle.replay.specs.Values.{Writes, Digit, HexDigit, When, hexOf, Decodes};
+use crate::fields::field;
 
 pub enum Parsed {
     Number(u64),
     Malformed,
+}
+
+// Puts the numbers that fields `at` on write, count of them, at the start of out, and answers whether all are numbers.
+pub fn decimals(line: &[u8], at: usize, count: usize, out: &mut [u64; 3]) -> bool
+    requires { ⌜ (at < 100) × (count ≤ 3) ⌝ }
+{
+    let mut k = 0;
+    while k < count {
+        let Parsed::Number(n) = decimal(field(line, at + k)) else {
+            return false;
+        };
+        out[k] = n;
+        k += 1;
+    }
+    true
 }
 
 // The number that the field writes in decimal.

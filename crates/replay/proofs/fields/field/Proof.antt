@@ -1,3 +1,4 @@
+-- `field` goes from the end of one field to the next: `from` and `end` bound a field inside the line, and one less is left to pass.
 use Prim.Native.Nat.{_≤_}
 use lib.ListN.{length}
 use borrow.Author.Needs.{needs}

@@ -1,3 +1,4 @@
+-- `decimal`: after i bytes n has i digits, which are the field's first i (`more-digits`); n stays below 10 ^ i (`more-room`).
 use lib.Seq.{take-length}
 use native.Mathlib.Omega.{arith}
 use Rattle.replay.specs.Values.{Digit}
@@ -58,8 +59,9 @@ loop-again c =
 returns-3 : tie.Need-returns-3 Inv-loop μ-loop
 returns-3 c =
     let l = c .before .loop in
-    let all : l .i ≡ length (c .before .before .before .before .args .field .now) = omega arith in
-    (omega arith, rw all at (l .inv .1), (rw all at (l .inv .2)) ∙ take-length (c .before .before .before .before .args .field .now))
+    let field = c .before .before .before .before .args .field .now in
+    let all : l .i ≡ length field = omega arith in
+    (omega arith, rw all at (l .inv .1), (rw all at (l .inv .2)) ∙ take-length field)
 
 pub decimal-spec : {M : Type 1} → statement M
 decimal-spec =

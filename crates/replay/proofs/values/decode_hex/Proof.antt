@@ -1,3 +1,4 @@
+-- `decode_hex`: `-` writes no bytes; else the n bytes that `decode_pairs` put are what the field writes, since n is not 0 (`fieldOf-some`).
 use mathlib.Core.Path.{_≡_, refl, sym, _∙_}
 use Prim.Native.Nat.{_<_, _≤_, _/_}
 use lib.ListN.{length, take}

@@ -1,3 +1,4 @@
+-- `decode_pairs`: after i pairs the first i bytes of `out` are written by the field's first 2 i digits (`more-hex`).
 use Prim.Native.Nat.{_≤_, _*_, _-_}
 use mathlib.Core.Path.{_≡_, _∙_, refl}
 use lib.ListN.{length, take, length-set}
