@@ -77,8 +77,10 @@ uint32_t next_piece(const struct request *request, struct govlezna_cursor *curso
 /* place.c */
 struct place find_place(const struct request *request, const struct outcome *outcome);
 
-/* report.c */
+/* words.c. No words for a number that the header has not. */
 const char *words_of(uint32_t number);
+
+/* report.c */
 size_t line_of(struct span text, size_t offset);
 void report_refusal(const struct request *request, const struct outcome *outcome);
 

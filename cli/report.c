@@ -8,31 +8,6 @@
 #define BEFORE 50
 #define SHOWN 76
 
-const char *words_of(uint32_t number)
-{
-    static const char *const words[] = {
-        "",
-        "the text is over 16,777,216 bytes",
-        "the depth is over 128",
-        "the opening limit is over 1,000,000",
-        "unknown level or version",
-        "the text is not UTF-8",
-        "the entity table is too long (list over 49,153 or pool over 1,048,576 bytes)",
-        "the table's list is malformed: unknown command, cut operands, no end, or bytes after the end",
-        "a name or text of the table runs past its pool",
-        "a definition with an empty name, or with a name or text that is not UTF-8",
-        "no ; after &",
-        "unknown entity",
-        "a character number with a sign",
-        "no character number",
-        "no character has this number",
-        "the character number 0",
-        "the depth is used up",
-        "the opening limit is used up",
-    };
-    return number < sizeof words / sizeof words[0] ? words[number] : "refused";
-}
-
 /* The line, from 1. Lines end by LF, CR or both. */
 size_t line_of(struct span text, size_t offset)
 {

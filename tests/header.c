@@ -1,7 +1,8 @@
-/* The examples of include/govlezna.h, and what it says of "no table". Each line that is wrong is said. */
-#include "govlezna.h"
+/* header NUMBER..: the examples of include/govlezna.h, and what it says of "no table"; and the program has words for each of
+ * these numbers. Each line and number that is wrong is said. */
+#include "../cli/cli.h"
 
-#include <stdio.h>
+#include <stdlib.h>
 #include <string.h>
 
 static int wrong;
@@ -94,10 +95,20 @@ static void cdata_windows(void)
     }
 }
 
-int main(void)
+static void words(const char *number)
+{
+    if (words_of((uint32_t)strtoul(number, NULL, 10))[0] != '\0')
+        return;
+    wrong = 1;
+    printf("number %s: no words in cli/words.c\n", number);
+}
+
+int main(int argc, char **argv)
 {
     examples();
     no_table();
     cdata_windows();
+    for (int i = 1; i < argc; i++)
+        words(argv[i]);
     return wrong;
 }

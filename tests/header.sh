@@ -1,6 +1,7 @@
 #!/usr/bin/env bash
 # header.sh [HEADER]: what include/govlezna.h says. Its comments name refusals by its constants and not by number, each call has its
-# refusals, each call with a table says what to hand over for none, and its examples are so (tests/header.c).
+# refusals, each call with a table says what to hand over for none; its examples are so, and the command line program has words for
+# each number (tests/header.c).
 set -eu
 cd "$(dirname "$0")/.."
 header=${1:-include/govlezna.h}
@@ -19,5 +20,6 @@ awk '/^\/\*/ { block = "" } { block = block " " $0 } /\);$/ { print block; block
 if grep '^ /\*' "$room/blocks" | grep -v 'Refusals, in this order: '; then exit 1; fi
 if grep 'const uint8_t \*list' "$room/blocks" | grep -v 'for none the list { 0 } of length 1, and NULL with length 0'; then exit 1; fi
 
-cc -std=c11 -O2 -Wall -Wextra -Werror -pedantic -Iinclude tests/header.c target/staticlib/libgovlezna.a -o "$room/header"
-"$room/header"
+cc -std=c11 -O2 -Wall -Wextra -Werror -pedantic -Iinclude tests/header.c cli/words.c target/staticlib/libgovlezna.a \
+    -o "$room/header"
+"$room/header" $(sed -n 's/^#define GOVLEZNA_[A-Z0-9_]* \([0-9][0-9]*\).*/\1/p' "$header")

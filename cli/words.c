@@ -1,0 +1,38 @@
+/* The numbers of include/govlezna.h in words: a row for each, and tests/header.sh asks for all of them. */
+#include "cli.h"
+
+static const struct {
+    uint32_t number;
+    const char *words;
+} rows[] = {
+    { GOVLEZNA_TOO_LONG, "the text is over 16,777,216 bytes" },
+    { GOVLEZNA_DEPTH_TOO_LARGE, "the depth is over 128" },
+    { GOVLEZNA_LIMIT_TOO_LARGE, "the opening limit is over 1,000,000" },
+    { GOVLEZNA_UNKNOWN_BYTE, "unknown level or version" },
+    { GOVLEZNA_NOT_UTF8, "the text is not UTF-8" },
+    { GOVLEZNA_TABLE_TOO_LONG, "the entity table is too long (list over 49,153 or pool over 1,048,576 bytes)" },
+    { GOVLEZNA_MALFORMED_LIST,
+      "the table's list is malformed: unknown command, cut operands, no end, or bytes after the end" },
+    { GOVLEZNA_OUTSIDE_POOL, "a name or text of the table runs past its pool" },
+    { GOVLEZNA_INVALID_DEFINITION, "a definition with an empty name, or with a name or text that is not UTF-8" },
+    { GOVLEZNA_UNTERMINATED_ENTITY, "no ; after &" },
+    { GOVLEZNA_UNRECOGNIZED_ENTITY, "unknown entity" },
+    { GOVLEZNA_UNEXPECTED_SIGN, "a character number with a sign" },
+    { GOVLEZNA_INVALID_NUMBER, "no character number" },
+    { GOVLEZNA_INVALID_CODEPOINT, "no character has this number" },
+    { GOVLEZNA_ILLEGAL_CHARACTER, "the character number 0" },
+    { GOVLEZNA_TOO_DEEP, "the depth is used up" },
+    { GOVLEZNA_TOO_MANY_OPENINGS, "the opening limit is used up" },
+    { GOVLEZNA_NO_SCRATCH, "the scratch is shorter than the value" },
+    { GOVLEZNA_NO_ROOM, "the output is shorter than the result" },
+    { GOVLEZNA_CURSOR_OUTSIDE, "the cursor is past the text's end or inside a character" },
+    { GOVLEZNA_NO_MORE, "there is no further piece" },
+};
+
+const char *words_of(uint32_t number)
+{
+    for (size_t i = 0; i < sizeof rows / sizeof rows[0]; i++)
+        if (rows[i].number == number)
+            return rows[i].words;
+    return "";
+}
