@@ -1,23 +1,18 @@
 //! The memory that a call is lent: filled before the call, with guard bytes on both sides, and
 //! checked whole after it.
 
-use crate::calls::{Arguments, Place, Room};
-use crate::inputs::MOST_SPARE;
-use crate::library::{Cursor, Lent};
-use crate::oracle::{Answer, LONGEST_TEXT};
+use crate::answer::Answer;
+use crate::arguments::{Arguments, Place, Room};
+use crate::arguments::{ALIGNMENTS, LONGEST_OUTPUT, LONGEST_SCRATCH, LONGEST_TEXT};
+use crate::lent::{Cursor, Lent};
 use crate::table::{Table, LONGEST_LIST, LONGEST_POOL};
 
 const GUARD: usize = 64;
-/// Buffers start at every address modulo this.
-pub const ALIGNMENTS: usize = 64;
 const WORD: usize = std::mem::size_of::<u64>();
 const WORDS: usize = 2;
 /// The offset and the flag: no byte of a cursor is padding, so each of them is compared.
 const CURSOR: usize = 2 * WORD;
 const _: () = assert!(std::mem::size_of::<Cursor>() == CURSOR);
-/// The longest text at 6 bytes for each of its own, and what is spare.
-pub const LONGEST_OUTPUT: usize = 6 * LONGEST_TEXT + MOST_SPARE;
-pub const LONGEST_SCRATCH: usize = LONGEST_TEXT + MOST_SPARE;
 
 /// Buffers and guards take these in turn: a byte that happens to be written as it was is seen at
 /// another turn. A text read past its end goes on with a digit, a lead byte or a continuation byte.

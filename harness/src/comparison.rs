@@ -1,11 +1,11 @@
 //! Runs one call on inputs and compares each answer, and every byte lent, with what has to be.
 
-use crate::buffers::{Buffers, Damage, ALIGNMENTS};
-use crate::calls::{Arguments, Call};
+use crate::answer::Answer;
+use crate::arguments::{Arguments, Family, ALIGNMENTS};
+use crate::buffers::{Buffers, Damage};
+use crate::call::{Call, Parameter};
 use crate::hex::shortened;
-use crate::inputs::Family;
-use crate::library::Lent;
-use crate::oracle::Answer;
+use crate::lent::Lent;
 use crate::random::Random;
 use std::collections::BTreeMap;
 
@@ -89,7 +89,7 @@ impl<'a> Comparison<'a> {
             expected.first,
             expected.second,
         );
-        if self.call.form.has_table() {
+        if self.call.has(Parameter::Table) {
             description += &table_description(arguments, lent);
         }
         if let Some(damage) = damage {

@@ -1,15 +1,15 @@
 //! Inputs that a fuzzer found, kept for the comparison and the stored results.
 
-use crate::calls::{Arguments, Call};
-use crate::cut::cut;
+use crate::arguments::{Arguments, Sink};
+use crate::call::Call;
+use crate::cut::{cut, cut_for};
 use crate::hex::{bytes, hex};
-use crate::inputs::Sink;
-use crate::stored;
+use crate::line::{is_short, line};
 use std::collections::{BTreeMap, HashSet};
 use std::fs;
 use std::io::{Result, Write};
 
-/// One input to a line, in hexadecimal, as cut.rs reads it; `#` starts a remark.
+/// One input to a line: the call's name, and in hexadecimal what cut.rs reads after the call; `#` starts a remark.
 const KEPT: &str = include_str!("../corpus/fuzz.txt");
 
 /// Stored lines are no longer than this.
@@ -17,13 +17,11 @@ const LONGEST_LINE: usize = 750;
 
 /// Those of this call.
 pub fn each(call: &Call, sink: &mut Sink) {
-    for line in KEPT.lines().filter(|line| !line.starts_with('#')) {
-        let input = bytes(line).expect("hexadecimal digits in corpus/fuzz.txt");
-        cut(&input, &mut |other, arguments, _| {
-            if other.name == call.name {
-                sink(arguments);
-            }
-        });
+    for (name, digits) in KEPT.lines().filter_map(|line| line.split_once(' ')) {
+        if name == call.name {
+            let input = bytes(digits).expect("hexadecimal digits in corpus/fuzz.txt");
+            cut_for(call, &input, &mut |arguments, _| sink(arguments));
+        }
     }
 }
 
@@ -33,7 +31,8 @@ pub fn choose(folder: &str, out: &mut dyn Write) -> Result<()> {
     for entry in fs::read_dir(folder)? {
         let input = fs::read(entry?.path())?;
         cut(&input, &mut |call, arguments, _| {
-            if let Some((number, found)) = candidate(call, &arguments, &input) {
+            let input = input.get(1..).unwrap_or(&[]);
+            if let Some((number, found)) = candidate(call, &arguments, input) {
                 let group: &mut Vec<_> = groups.entry((call.name, number)).or_default();
                 group.push(found);
             }
@@ -41,12 +40,12 @@ pub fn choose(folder: &str, out: &mut dyn Write) -> Result<()> {
     }
     writeln!(
         out,
-        "# What a fuzzer found: ../../scripts/fuzz writes this file, ../src/cut.rs reads a line."
+        "# What a fuzzer found: ../../scripts/fuzz writes this file, ../src/corpus.rs reads it."
     )?;
     for ((call, number), group) in groups {
         eprintln!("{call}, number {number}: {} inputs", group.len());
         for found in few(group) {
-            writeln!(out, "{}", hex(&found.input))?;
+            writeln!(out, "{call} {}", hex(&found.input))?;
         }
     }
     Ok(())
@@ -62,8 +61,8 @@ struct Found {
 
 fn candidate(call: &Call, arguments: &Arguments, input: &[u8]) -> Option<(u32, Found)> {
     let answer = (call.expected)(arguments);
-    let length = stored::line(call, arguments, &answer).len();
-    let short = stored::is_short(arguments, &answer) && length <= LONGEST_LINE;
+    let length = line(call, arguments, &answer).len();
+    let short = is_short(arguments, &answer) && length <= LONGEST_LINE;
     let found = Found {
         length,
         words: (answer.first, answer.second),

@@ -1,42 +1,50 @@
 //! Cuts bytes into a call and its arguments, so that a fuzzer's inputs, and those of its inputs that
 //! are kept, mean the same. Every sequence of bytes is an input; what is missing is 0.
 
-use crate::calls::{Arguments, Call, Form, Place, Room, CALLS};
-use crate::inputs::MOST_SPARE;
-use crate::library::Cursor;
-use crate::table::{Table, DEFINE, END};
+use crate::arguments::{Arguments, Room, MOST_SPARE};
+use crate::call::{Call, Parameter};
+use crate::calls::CALLS;
+use crate::draft::Draft;
+use crate::lent::Cursor;
+use crate::table::Table;
 
 /// Longer texts take longer, and are the differential run's.
 const LONGEST_TEXT: usize = 300;
 /// What precedes list, pool and text.
-const HEAD: usize = 13;
+const HEAD: usize = 12;
 /// A definition whose starts and lengths have a byte each.
 const SHORT_DEFINITION: usize = 4;
 
-/// Gives the call, its arguments, and the turn that picks addresses and fills.
+/// Gives the call that the first byte picks, its arguments, and the turn that picks addresses and fills.
 pub fn cut(bytes: &[u8], each: &mut dyn FnMut(&'static Call, Arguments, usize)) {
+    let (first, rest) = bytes.split_first().unwrap_or((&0, &[]));
+    let call = &CALLS[usize::from(*first) % CALLS.len()];
+    cut_for(call, rest, &mut |arguments, turn| {
+        each(call, arguments, turn)
+    });
+}
+
+/// The arguments and the turn alone. These bytes mean the same whatever other calls there are.
+pub fn cut_for(call: &Call, bytes: &[u8], each: &mut dyn FnMut(Arguments, usize)) {
     let mut head = [0; HEAD];
     let (first, rest) = bytes.split_at(bytes.len().min(HEAD));
     head[..first.len()].copy_from_slice(first);
-    let [call, choice, depth, limit, room, scratch, turn_low, turn_high, offset_low, offset_high, finished, list, pool] =
+    let [choice, depth, limit, room, scratch, turn_low, turn_high, offset_low, offset_high, finished, list, pool] =
         head;
     let (list, rest) = rest.split_at(rest.len().min(list.into()));
     let (pool, text) = rest.split_at(rest.len().min(pool.into()));
     let list = list_of(list);
     let text = &text[..text.len().min(LONGEST_TEXT)];
-    let call = &CALLS[usize::from(call) % CALLS.len()];
     let offset = i16::from_le_bytes([offset_low, offset_high]);
     // The others leave the cursor as it is lent, the usual one.
-    let cursor = match call.form {
-        Form::Cursor => Cursor {
+    let cursor = match call.has(Parameter::Cursor) {
+        true => Cursor {
             offset: i64::from(offset) as u64,
             finished: flag_of(finished),
         },
-        _ => Cursor::default(),
+        false => Cursor::default(),
     };
     let arguments = Arguments {
-        text,
-        place: Place::Any,
         choice: choice_of(choice),
         depth: depth_of(depth),
         limit: limit_of(limit),
@@ -44,9 +52,10 @@ pub fn cut(bytes: &[u8], each: &mut dyn FnMut(&'static Call, Arguments, usize)) 
         room: room_of(room),
         scratch: room_of(scratch),
         cursor,
+        ..Arguments::text(text)
     };
     let turn = u16::from_le_bytes([turn_low, turn_high]);
-    each(call, arguments, turn.into());
+    each(arguments, turn.into());
 }
 
 /// Mostly a level or a version that there is.
@@ -98,31 +107,13 @@ fn room_of(byte: u8) -> Room {
 /// The list as it is after a 1, or else of definitions of four bytes and an end: a fuzzer finds few
 /// tables in the long form.
 fn list_of(bytes: &[u8]) -> Vec<u8> {
-    match bytes {
-        [1, list @ ..] => list.to_vec(),
-        [] => vec![END],
-        [_, short @ ..] => {
-            let definitions = short.chunks_exact(SHORT_DEFINITION);
-            definitions.flat_map(definition).chain([END]).collect()
-        }
+    if let [1, list @ ..] = bytes {
+        return list.to_vec();
     }
-}
-
-fn definition(short: &[u8]) -> [u8; 12] {
-    let (name_start, name_length, text_start, text_length) =
-        (short[0], short[1], short[2], short[3]);
-    [
-        DEFINE,
-        name_start,
-        0,
-        0,
-        0,
-        name_length,
-        text_start,
-        0,
-        0,
-        0,
-        text_length,
-        0,
-    ]
+    let mut draft = Draft::default();
+    for short in bytes.get(1..).unwrap_or(&[]).chunks_exact(SHORT_DEFINITION) {
+        let part = |at: usize| (short[at].into(), short[at + 1].into());
+        draft.refer(part(0), part(2));
+    }
+    draft.ended().list
 }

@@ -1,9 +1,9 @@
 //! Compares every call of the library with the Rust.
 
-use crate::calls::Call;
+use crate::call::Call;
 use crate::comparison::Comparison;
 use crate::corpus;
-use crate::library::Lent;
+use crate::lent::Lent;
 use crate::random::Random;
 use std::time::{Duration, Instant};
 

@@ -2,11 +2,12 @@
 //! is the coverage of the Rust, which is built for this, and the answers; the library's own code is
 //! not instrumented.
 
-use crate::calls::{Call, CALLS};
+use crate::answer::Answer;
+use crate::call::Call;
+use crate::calls::CALLS;
 use crate::comparison::Comparison;
 use crate::cut::cut;
-use crate::library::Lent;
-use crate::oracle::Answer;
+use crate::lent::Lent;
 use std::cell::RefCell;
 use std::ffi::{c_char, c_int, CString};
 
@@ -71,8 +72,8 @@ fn comparisons() -> Vec<Comparison<'static>> {
     CALLS.iter().map(of).collect()
 }
 
-/// Numbers of answers: 0 to 20, and 255.
-const NUMBERS: usize = 22;
+/// Numbers of answers: more than there are, and one for "no more".
+const NUMBERS: usize = 40;
 /// A word by how many bits it has, up to this.
 const SIZES: usize = 16;
 const WORDS: usize = 2;

@@ -1,11 +1,12 @@
 //! Counts the instructions of our calls and of the Rust that does the same work, by valgrind's callgrind: no clock, so that the
 //! figures are the same on every machine.
 
-mod profile;
-mod rows;
-
-use crate::calls::Call;
-use rows::{Row, Side};
+use crate::call::Call;
+use crate::counting::{Row, Side};
+use crate::draft::Draft;
+use crate::lent::Lent;
+use crate::profile;
+use crate::rows::table::{ours, Tables};
 use std::arch::asm;
 use std::collections::HashMap;
 use std::hint::black_box;
@@ -21,7 +22,7 @@ pub fn run(calls: &[&Call], part: &str, before: Option<&str>) -> io::Result<()> 
         Some(file) => Some(earlier(&fs::read_to_string(file)?)),
         None => None,
     };
-    let mut rows = rows::of(calls);
+    let mut rows = rows_of(calls);
     rows.retain(|row| row.has(part));
     rows.iter_mut().for_each(Row::check);
     let counts = count(calls, part, rows.len())?;
@@ -36,6 +37,13 @@ pub fn run(calls: &[&Call], part: &str, before: Option<&str>) -> io::Result<()> 
         }
     }
     Ok(())
+}
+
+/// The dearest come last: a run without them has the same counts.
+fn rows_of(calls: &[&Call]) -> Vec<Row> {
+    let mut rows: Vec<Row> = calls.iter().flat_map(|call| (call.counted)()).collect();
+    rows.sort_by_key(|row| row.runs_before == 0);
+    rows
 }
 
 fn ratio(one: &u64, other: &u64) -> String {
@@ -115,8 +123,8 @@ pub fn run_under_callgrind(calls: &[&Call], part: &str) {
     });
     counted(&mut nothing);
     counted(&mut known);
-    counted(&mut rows::call_of_nothing());
-    let mut rows = rows::of(calls);
+    counted(&mut call_of_nothing());
+    let mut rows = rows_of(calls);
     for row in rows.iter_mut().filter(|row| row.has(part)) {
         for side in [&mut row.ours, &mut row.rust] {
             for _ in 0..row.runs_before {
@@ -136,4 +144,46 @@ fn counted(side: &mut Side) {
 #[inline(never)]
 fn harness_counted(side: &mut Side, words: &mut [u64; 2]) -> u32 {
     black_box(side(words))
+}
+
+/// A call that does nothing: what it takes to hand everything over. (`canonical_form` has two arguments more: a few instructions.)
+fn call_of_nothing() -> Side {
+    // Behind a pointer, so that the compiler leaves nothing out.
+    let nothing = black_box(nothing as extern "C" fn(_, _, _, _, _, _, _, _, _, _, _, _) -> _);
+    let run = move |lent: &Lent| {
+        nothing(
+            lent.text,
+            lent.text_length,
+            lent.choice,
+            lent.depth,
+            lent.limit,
+            lent.list,
+            lent.list_length,
+            lent.pool,
+            lent.pool_length,
+            lent.out,
+            lent.out_length,
+            lent.answer,
+        )
+    };
+    let table = Tables::new(Draft::of(&[])).lent;
+    Box::new(ours(run, &[], 0, table, 0))
+}
+
+#[allow(clippy::too_many_arguments)]
+extern "C" fn nothing(
+    _: *const u8,
+    _: usize,
+    _: u8,
+    _: u64,
+    _: u64,
+    _: *const u8,
+    _: usize,
+    _: *const u8,
+    _: usize,
+    _: *mut u8,
+    _: usize,
+    _: *mut u64,
+) -> u32 {
+    0
 }

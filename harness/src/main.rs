@@ -1,25 +1,38 @@
 //! Compares the library with the unchanged Rust that it takes the place of, and measures both.
 
+mod answer;
+mod arguments;
 mod benchmark;
 mod buffers;
+mod call;
 mod calls;
 mod comparison;
 mod corpus;
+mod counting;
 mod cut;
 mod differential;
+mod documented;
+mod draft;
+mod faults;
 #[cfg(feature = "fuzz")]
 mod fuzz;
 mod hex;
 mod inputs;
 mod instructions;
-mod library;
+mod lent;
+mod line;
 mod oracle;
+mod profile;
 mod random;
+mod rows;
+mod rust;
 mod self_test;
 mod stored;
 mod table;
+mod timing;
 
-use calls::Call;
+use call::Call;
+use random::DEFAULT_SEED;
 use std::process::ExitCode;
 use std::time::Duration;
 use std::{env, fs, io};
@@ -32,8 +45,6 @@ harness benchmark [--calls A,B]                               measure every call
 harness instructions [--calls A,B] [--rows PART] [--before FILE]   count both sides' instructions (valgrind)
 harness corpus FOLDER                                         print those of a fuzzer's inputs that are kept
 harness fuzz OPTIONS                                          run libFuzzer (where it is built in: ../scripts/fuzz)";
-
-const DEFAULT_SEED: u64 = 1;
 
 fn main() -> ExitCode {
     let words: Vec<String> = env::args().skip(1).collect();

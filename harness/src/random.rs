@@ -1,5 +1,7 @@
 //! SplitMix64: the inputs are the same for the same seed, on every machine.
 
+pub const DEFAULT_SEED: u64 = 1;
+
 pub struct Random(u64);
 
 impl Random {

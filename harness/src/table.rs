@@ -1,10 +1,12 @@
 //! The entity table, read as document 01 says. The Rust has no such format: this reading is the
 //! comparison's own, made from the document's text alone.
 
-use crate::oracle::source::escape::resolve_xml_entity;
+use crate::rust::escape::resolve_xml_entity;
 
 pub const LONGEST_LIST: usize = 49_153;
 pub const LONGEST_POOL: usize = 1_048_576;
+pub const LONGEST_NAME: usize = 255;
+pub const LONGEST_REPLACEMENT: usize = 65_535;
 
 pub const END: u8 = 0;
 pub const DEFINE: u8 = 1;
@@ -58,17 +60,35 @@ impl<'a> Table<'a> {
         let Some(command) = self.list.get(at..at + DEFINITION) else {
             return Err((7, at));
         };
-        let part = |start: &[u8], length: &[u8]| {
-            let start = little_endian(start);
-            let end = start + little_endian(length);
-            self.pool.get(start..end).ok_or((8, at))
-        };
-        let name = part(&command[1..5], &command[5..6])?;
-        let text = part(&command[6..10], &command[10..12])?;
+        let name = self.name(command).ok_or((8, at))?;
+        let text = self.text(command).ok_or((8, at))?;
         match (std::str::from_utf8(name), std::str::from_utf8(text)) {
             (Ok(name), Ok(text)) if !name.is_empty() => Ok(Definition { name, text }),
             _ => Err((9, at)),
         }
+    }
+
+    /// The name that a definition's command gives, if the pool has it.
+    pub fn name(self, command: &[u8]) -> Option<&'a [u8]> {
+        self.part(&command[1..5], &command[5..6])
+    }
+
+    /// The text that it gives, if the pool has it.
+    pub fn text(self, command: &[u8]) -> Option<&'a [u8]> {
+        self.part(&command[6..10], &command[10..12])
+    }
+
+    fn part(self, start: &[u8], length: &[u8]) -> Option<&'a [u8]> {
+        let start = little_endian(start);
+        self.pool.get(start..start + little_endian(length))
+    }
+
+    /// The definitions' commands, of a list that has nothing else before its end.
+    pub fn commands(self) -> Option<Vec<&'a [u8]>> {
+        let (end, commands) = self.list.split_last()?;
+        let commands: Vec<&[u8]> = commands.chunks(DEFINITION).collect();
+        let sound = |command: &&[u8]| command[0] == DEFINE && command.len() == DEFINITION;
+        (*end == END && commands.iter().all(sound)).then_some(commands)
     }
 }
 

@@ -1,13 +1,15 @@
 //! Texts, tables and settings for attribute values: section 3.3.3 of XML 1.0 and of XML 1.1.
 
 use super::entities::{referring, with_some_table, NUMBERS, REFUSED_TABLES, SOUND};
-use super::table::{few, Draft};
+use super::rooms::random_room;
+use super::sequences::every_sequence;
+use super::sizes::BLOCK_ENDS;
+use super::tables::few;
 use super::text::{woven, Mix};
 use super::woven::Subject;
-use super::{every_sequence, random_room, Sink, BLOCK_ENDS, MOST_SPARE};
-use crate::calls::{Arguments, Room, ROOMS};
-use crate::oracle::entities::{DEEPEST, MOST_OPENINGS};
-use crate::oracle::LONGEST_TEXT;
+use crate::arguments::{Arguments, Room, Sink};
+use crate::arguments::{DEEPEST, LONGEST_TEXT, MOST_OPENINGS, MOST_SPARE, ROOMS};
+use crate::draft::Draft;
 use crate::random::Random;
 use crate::table::EMPTY;
 

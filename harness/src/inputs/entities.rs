@@ -1,13 +1,14 @@
 //! What the calls that look up names share: references in texts, and tables for them.
 
 use super::number::{written, Form};
-use super::table::{few, random_draft, Draft, LONGEST_NAME, NAMES};
+use super::rooms::random_room;
+use super::spoiled::spoil_at_random;
+use super::tables::{few, random_draft, NAMES};
 use super::text::{text, Mix};
-use super::{random_room, spoil_at_random, Sink};
-use crate::calls::Arguments;
-use crate::oracle::entities::MOST_OPENINGS;
+use crate::arguments::{Arguments, Sink, MOST_OPENINGS};
+use crate::draft::Draft;
 use crate::random::Random;
-use crate::table::{Table, DEFINITION, LONGEST_LIST};
+use crate::table::{Table, DEFINITION, LONGEST_LIST, LONGEST_NAME};
 
 /// References that some table of `few` knows, and all numbers good.
 pub const SOUND: &[&[u8]] = &[

@@ -1,9 +1,8 @@
 //! Tables and texts for what a walk over attribute values keeps of the texts that it opened.
 
-use super::table::Draft;
-use super::{random_room, Sink};
-use crate::calls::Arguments;
-use crate::oracle::entities::{DEEPEST, MOST_OPENINGS};
+use super::rooms::random_room;
+use crate::arguments::{Arguments, Sink, DEEPEST, MOST_OPENINGS};
+use crate::draft::Draft;
 use crate::random::Random;
 
 /// Five names of one slot of the memory (`slot_of` of crates/memory), and two and two of others.

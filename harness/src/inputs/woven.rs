@@ -1,10 +1,10 @@
 //! Texts in which the pieces that matter to a call are woven, and whatever else it is handed.
 
+use super::sequences::every_sequence;
+use super::sizes::{random_length, MEBIBYTE, PAGE, SHORT_LENGTHS};
+use super::spoiled::{every_spoiled, spoil_at_random};
 use super::text::{woven, Mix, MIXES};
-use super::{every_sequence, every_spoiled, random_length, spoil_at_random, Sink};
-use super::{MEBIBYTE, PAGE, SHORT_LENGTHS};
-use crate::buffers::ALIGNMENTS;
-use crate::calls::{Arguments, Place};
+use crate::arguments::{Arguments, Place, Sink, ALIGNMENTS};
 use crate::random::Random;
 
 /// What a call is about.

@@ -1,56 +1,17 @@
-//! The calls with an entity table. The walks are the Rust's, with the table behind its resolver;
-//! the table's format, the opening count, 17 and 18 are document 01's.
+//! What the calls with an entity table share. The walks are the Rust's, with the table behind its resolver; the table's format,
+//! the count of openings, and 17 are document 01's.
 
-use super::source::escape::{self, EscapeError};
-use super::source::XmlVersion;
-use super::{checked, finished, in_some_room, length_checked, number_refusal, refusal, success};
-use super::{Answer, Made};
-use crate::buffers::{LONGEST_OUTPUT, LONGEST_SCRATCH};
-use crate::calls::Arguments;
+use super::result::Made;
+use super::text::{checked, length_checked};
+use crate::answer::{refusal, Answer};
+use crate::arguments::{Arguments, DEEPEST, MOST_OPENINGS};
+use crate::rust::escape::{EscapeError, ParseCharRefError};
+use crate::rust::XmlVersion;
 use crate::table::{look_up, Definition, Meaning, Table};
 
-pub const DEEPEST: u64 = 128;
-pub const MOST_OPENINGS: u64 = 1_000_000;
-
-pub fn check_table(table: Table) -> Answer {
-    match defined_by(table) {
-        Ok(definitions) => success(definitions.len() as u64),
-        Err(refusal) => refusal,
-    }
-}
-
-fn defined_by(table: Table) -> Result<Vec<Definition>, Answer> {
+pub fn defined_by(table: Table) -> Result<Vec<Definition>, Answer> {
     let refused = |(number, first)| refusal(number, first as u64);
     table.definitions().map_err(refused)
-}
-
-pub fn unescape(arguments: &Arguments) -> Answer {
-    finished(arguments, unescaped(arguments))
-}
-
-/// The table is asked for every name. What no output is long enough for is counted and not made.
-fn unescaped(arguments: &Arguments) -> Result<Made, Answer> {
-    let text = checked(arguments.text)?;
-    let definitions = defined_by(arguments.table)?;
-    let (mut copied, mut left_out) = (0, 0);
-    let mut resolve = |name: &str| match look_up(&definitions, name) {
-        Meaning::Defined(text) if copied + text.len() > LONGEST_OUTPUT => {
-            left_out += text.len();
-            Some("")
-        }
-        Meaning::Defined(text) => {
-            copied += text.len();
-            Some(text)
-        }
-        Meaning::Predefined(text) => Some(text),
-        Meaning::Nothing => None,
-    };
-    let result = escape::unescape_with(text, &mut resolve).map_err(walk_refusal)?;
-    Ok(Made {
-        bytes: result.into_owned().into_bytes(),
-        left_out,
-        second: 0,
-    })
 }
 
 pub fn walk_refusal(error: EscapeError) -> Answer {
@@ -69,12 +30,17 @@ fn range_refusal(number: u32, range: std::ops::Range<usize>) -> Answer {
     }
 }
 
-pub fn normalize_attribute_value(arguments: &Arguments) -> Answer {
-    finished(arguments, normalized(arguments))
+pub fn number_refusal(error: ParseCharRefError) -> Answer {
+    match error {
+        ParseCharRefError::UnexpectedSign => refusal(12, 0),
+        ParseCharRefError::InvalidNumber(_) => refusal(13, 0),
+        ParseCharRefError::InvalidCodepoint(value) => refusal(14, u64::from(value)),
+        ParseCharRefError::IllegalCharacter(_) => refusal(15, 0),
+    }
 }
 
 /// The normalized value, with the openings as its second word. The Rust's depth is document 01's.
-fn normalized(arguments: &Arguments) -> Result<Made, Answer> {
+pub fn normalized(arguments: &Arguments) -> Result<Made, Answer> {
     let version = settings_checked(arguments)?;
     let text = checked(arguments.text)?;
     let definitions = defined_by(arguments.table)?;
@@ -106,7 +72,7 @@ fn normalized(arguments: &Arguments) -> Result<Made, Answer> {
 }
 
 /// Refusals 1 to 4, which come before the text's bytes.
-fn settings_checked(arguments: &Arguments) -> Result<XmlVersion, Answer> {
+pub fn settings_checked(arguments: &Arguments) -> Result<XmlVersion, Answer> {
     length_checked(arguments.text)?;
     if arguments.depth > DEEPEST {
         return Err(refusal(2, 0));
@@ -120,45 +86,4 @@ fn settings_checked(arguments: &Arguments) -> Result<XmlVersion, Answer> {
         2 => Ok(XmlVersion::Explicit1_1),
         _ => Err(refusal(4, 0)),
     }
-}
-
-/// Normalizes into the scratch and writes from there: 18 comes before 19, and with 19 the scratch
-/// holds the value.
-pub fn canonical_form(arguments: &Arguments) -> Answer {
-    let value = match normalized(arguments) {
-        Ok(value) => value,
-        Err(refusal) => return in_some_room(arguments, refusal),
-    };
-    let form = canonical(&value.bytes, arguments.choice);
-    let needed = value.bytes.len();
-    let scratch_room = arguments.scratch.length(needed).min(LONGEST_SCRATCH);
-    if scratch_room < needed {
-        return Answer {
-            room: arguments.room.length(form.len()).min(LONGEST_OUTPUT),
-            scratch_room,
-            ..refusal(18, needed as u64)
-        };
-    }
-    let made = Made {
-        bytes: form,
-        left_out: 0,
-        second: value.second,
-    };
-    Answer {
-        scratch_room,
-        scratch: value.bytes,
-        ..finished(arguments, Ok(made))
-    }
-}
-
-/// The Rust's writer for attributes; what 1.1 needs beside it is document 01's.
-fn canonical(value: &[u8], version: u8) -> Vec<u8> {
-    let value = std::str::from_utf8(value).expect("the Rust makes UTF-8");
-    let mut form = escape::escape_attribute(value).into_owned();
-    if version == 2 {
-        form = form
-            .replace('\u{85}', "&#133;")
-            .replace('\u{2028}', "&#8232;");
-    }
-    form.into_bytes()
 }

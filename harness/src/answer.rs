@@ -1,0 +1,40 @@
+//! What a call has to answer.
+
+use crate::lent::Cursor;
+
+/// No refusal: there is nothing more.
+pub const NO_MORE: u32 = 255;
+
+/// Document 01's number, where 0 is success, and the two answer words; then what a call writes.
+#[derive(Debug)]
+pub struct Answer {
+    pub number: u32,
+    pub first: u64,
+    pub second: u64,
+    /// How long the output is for which this is the answer.
+    pub room: usize,
+    /// The first bytes of the output; the rest is kept.
+    pub written: Vec<u8>,
+    /// How long the scratch is for which this is the answer, and its first bytes.
+    pub scratch_room: usize,
+    pub scratch: Vec<u8>,
+    /// The cursor after the call.
+    pub cursor: Cursor,
+}
+
+pub fn success(first: u64) -> Answer {
+    refusal(0, first)
+}
+
+pub fn refusal(number: u32, first: u64) -> Answer {
+    Answer {
+        number,
+        first,
+        second: 0,
+        room: 0,
+        written: vec![],
+        scratch_room: 0,
+        scratch: vec![],
+        cursor: Cursor::default(),
+    }
+}

@@ -1,0 +1,103 @@
+//! What a call is handed, and how the inputs of a comparison are made: one after the other, each taken as it is made.
+
+use crate::lent::Cursor;
+use crate::random::Random;
+use crate::table::{Table, EMPTY};
+
+/// Document 01's limits. The Rust has the depth alone.
+pub const LONGEST_TEXT: usize = 16_777_216;
+pub const DEEPEST: u64 = 128;
+pub const MOST_OPENINGS: u64 = 1_000_000;
+
+/// Outputs are longer than the result by fewer bytes than this.
+pub const MOST_SPARE: usize = 40;
+/// The longest text at 6 bytes for each of its own, and what is spare.
+pub const LONGEST_OUTPUT: usize = 6 * LONGEST_TEXT + MOST_SPARE;
+pub const LONGEST_SCRATCH: usize = LONGEST_TEXT + MOST_SPARE;
+/// Buffers start at every address modulo this.
+pub const ALIGNMENTS: usize = 64;
+
+/// Takes each input as it is made.
+pub type Sink<'s> = dyn FnMut(Arguments) + 's;
+pub type Family = fn(&mut Random, &mut Sink);
+
+/// What a caller hands over. A call reads the parts that it has.
+#[derive(Clone, Copy)]
+pub struct Arguments<'a> {
+    pub text: &'a [u8],
+    pub place: Place,
+    /// The level or the version.
+    pub choice: u8,
+    pub depth: u64,
+    pub limit: u64,
+    pub table: Table<'a>,
+    pub room: Room,
+    pub scratch: Room,
+    pub cursor: Cursor,
+}
+
+/// Where the text lies when the call is made.
+#[derive(Clone, Copy)]
+pub enum Place {
+    /// In a guarded buffer, at changing addresses.
+    Any,
+    /// In a guarded buffer, at this address modulo ALIGNMENTS.
+    At(usize),
+    /// At NULL; the text is empty.
+    Null,
+    /// Where the input has it, since it is too long to be copied; so it is not checked for changes.
+    Itself,
+}
+
+/// How long the output is, beside the result, or the scratch, beside the value.
+#[derive(Clone, Copy, PartialEq, Eq)]
+pub enum Room {
+    Exact,
+    /// One byte too short, unless the result is empty.
+    Short,
+    /// No output: NULL and length 0.
+    Null,
+    /// So many bytes longer.
+    Spare(usize),
+}
+
+pub const ROOMS: [Room; 4] = [Room::Exact, Room::Short, Room::Null, Room::Spare(9)];
+
+impl Room {
+    /// The output's length when the result has so many bytes.
+    pub fn length(self, needed: usize) -> usize {
+        match self {
+            Room::Exact => needed,
+            Room::Short => needed.saturating_sub(1),
+            Room::Null => 0,
+            Room::Spare(more) => needed + more,
+        }
+    }
+}
+
+impl<'a> Arguments<'a> {
+    pub fn text(text: &'a [u8]) -> Self {
+        Arguments::at(Place::Any, text)
+    }
+
+    pub fn at(place: Place, text: &'a [u8]) -> Self {
+        Arguments {
+            text,
+            place,
+            choice: 0,
+            depth: DEEPEST,
+            limit: MOST_OPENINGS,
+            table: EMPTY,
+            room: Room::Exact,
+            scratch: Room::Exact,
+            cursor: Cursor::default(),
+        }
+    }
+
+    pub fn of_table(table: Table<'a>) -> Self {
+        Arguments {
+            table,
+            ..Arguments::text(&[])
+        }
+    }
+}

@@ -1,0 +1,54 @@
+//! What a call is. Each is declared in a folder of calls/, with all that the commands of this program need of it.
+
+use crate::answer::Answer;
+use crate::arguments::{Arguments, Family};
+use crate::documented::Documented;
+use crate::lent::{Lent, Run};
+use crate::{counting, timing};
+
+pub struct Call {
+    /// Without `govlezna_`.
+    pub name: &'static str,
+    /// In their order, before the answer words.
+    pub parameters: &'static [Parameter],
+    pub run: Run,
+    pub expected: fn(&Arguments) -> Answer,
+    /// Rows of document 01 that `expected` has to agree with.
+    pub documented: &'static [Documented],
+    /// The inputs that a reader would ask about first; the stored results are made of them too.
+    pub seams: Family,
+    pub families: &'static [Family],
+    /// A few thousand random inputs, different each time: what longer runs repeat.
+    pub random: Family,
+    /// What a line of the stored results has, for those who read them; nothing where another call's says it.
+    pub stored: &'static str,
+    /// Wrong libraries beside those of its parameters.
+    pub faults: &'static [Faults],
+    pub timed: fn() -> Vec<timing::Row>,
+    pub differences: fn() -> Vec<timing::Difference>,
+    pub counted: fn() -> Vec<counting::Row>,
+}
+
+#[derive(Clone, Copy, PartialEq, Eq)]
+pub enum Parameter {
+    Text,
+    /// A level or a version.
+    Choice,
+    Depth,
+    Limit,
+    /// List and pool.
+    Table,
+    Scratch,
+    Output,
+    Cursor,
+}
+
+/// A wrong library, made of the real call.
+pub type Fault = unsafe fn(&Lent, Run) -> u32;
+pub type Faults = &'static [(&'static str, Fault)];
+
+impl Call {
+    pub fn has(&self, parameter: Parameter) -> bool {
+        self.parameters.contains(&parameter)
+    }
+}

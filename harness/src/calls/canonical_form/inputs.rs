@@ -1,0 +1,175 @@
+//! Values for canonical forms, and what demand 3 says of any two of them.
+
+use super::answer::canonical_form;
+use crate::answer::Answer;
+use crate::arguments::{Arguments, Room, Sink, DEEPEST, MOST_OPENINGS, ROOMS};
+use crate::draft::Draft;
+use crate::inputs::attribute::Attribute;
+use crate::inputs::number::{written, Form};
+use crate::inputs::rooms::random_room;
+use crate::inputs::tables::random_draft;
+use crate::inputs::text::{woven, Mix, MIXES};
+use crate::inputs::woven::Subject;
+use crate::random::Random;
+
+/// With room enough for value and form.
+fn in_room(arguments: Arguments) -> Answer {
+    canonical_form(&Arguments {
+        room: Room::Exact,
+        scratch: Room::Exact,
+        ..arguments
+    })
+}
+
+/// Canonical forms as texts. Each has to read as the value that it was written from, without an
+/// opening, and to be its own canonical form, under any table that leaves the four names alone.
+pub fn reread(random: &mut Random, sink: &mut Sink) {
+    const ROUNDS: usize = 40_000;
+    for _ in 0..ROUNDS {
+        let (mix, gap) = (random.pick(&MIXES), 1 + random.below(10));
+        let length = random.below(150);
+        let text = Attribute::text(random, mix, gap, length);
+        let mut accepted = None;
+        Attribute::one(random, Arguments::text(&text), &mut |arguments| {
+            let answer = in_room(arguments);
+            accepted = (answer.number == 0).then_some((arguments.choice, answer));
+        });
+        let Some((choice, answer)) = accepted else {
+            continue;
+        };
+        let draft = draft_without_the_four(random);
+        let arguments = Arguments {
+            choice,
+            depth: 1 + random.below(DEEPEST as usize) as u64,
+            limit: random.pick(&[0, 1, MOST_OPENINGS]),
+            table: draft.table(),
+            room: random_room(random),
+            ..Arguments::text(&answer.written)
+        };
+        let again = in_room(arguments);
+        assert_eq!((again.number, again.second), (0, 0), "a form is accepted");
+        assert!(again.scratch == answer.scratch && again.written == answer.written);
+        sink(arguments);
+    }
+}
+
+fn draft_without_the_four(random: &mut Random) -> Draft {
+    loop {
+        let draft = random_draft(random);
+        let definitions = draft.table().definitions().expect("a sound table");
+        let mut names = definitions.iter().map(|definition| definition.name);
+        if !names.any(|name| ["lt", "gt", "apos", "quot"].contains(&name)) {
+            return draft;
+        }
+    }
+}
+
+/// Values that are written in several ways, and nearly the same value: forms are equal just when
+/// the values are.
+pub fn spellings(random: &mut Random, sink: &mut Sink) {
+    const ROUNDS: usize = 20_000;
+    for _ in 0..ROUNDS {
+        let choice = random.pick(&[0, 1, 2]);
+        let length = 1 + random.below(12);
+        let value: Vec<char> = (0..length).map(|_| some_character(random)).collect();
+        let mut other = value.clone();
+        other[random.below(length)] = some_character(random);
+        let form = given(random, choice, &value, sink);
+        assert!(
+            form == given(random, choice, &value, sink),
+            "one value, one form"
+        );
+        let is_same = value == other;
+        assert_eq!(form == given(random, choice, &other, sink), is_same);
+    }
+}
+
+fn some_character(random: &mut Random) -> char {
+    let characters = "ab<>&'\" ;#\t\r\n\u{85}\u{2028}½€é😀";
+    characters
+        .chars()
+        .nth(random.below(characters.chars().count()))
+        .unwrap()
+}
+
+/// The form of the value, which a text of random references gives; the text is tried too.
+fn given(random: &mut Random, choice: u8, value: &[char], sink: &mut Sink) -> Vec<u8> {
+    let mut draft = Draft::default();
+    let mut text = vec![];
+    for &character in value {
+        text.extend(spelled(random, &mut draft, character));
+    }
+    let draft = draft.ended();
+    let arguments = Arguments {
+        choice,
+        depth: 2 + random.below(DEEPEST as usize - 1) as u64,
+        limit: random.pick(&[value.len() as u64, MOST_OPENINGS]),
+        table: draft.table(),
+        room: random_room(random),
+        ..Arguments::text(&text)
+    };
+    let answer = in_room(arguments);
+    let value: String = value.iter().collect();
+    assert!(answer.number == 0 && answer.scratch == value.as_bytes());
+    sink(arguments);
+    answer.written
+}
+
+/// The character itself, its number, or the name of a new entity that stands for its number.
+fn spelled(random: &mut Random, draft: &mut Draft, character: char) -> Vec<u8> {
+    let form = random.pick(&[Form::Decimal, Form::LowerHexadecimal]);
+    let digits = written(u128::from(u32::from(character)), form, random.below(3));
+    let number = [b"&#", &digits[..], b";"].concat();
+    match random.below(4) {
+        0 if !"\t\r\n&\u{85}\u{2028}".contains(character) => character.to_string().into_bytes(),
+        1 => {
+            let name = format!("n{}", draft.list.len());
+            draft.define(name.as_bytes(), &number);
+            format!("&{name};").into_bytes()
+        }
+        _ => number,
+    }
+}
+
+/// The seams of normalization, and characters that the writer changes under one version only.
+pub fn seams(random: &mut Random, sink: &mut Sink) {
+    Attribute::seams(random, sink);
+    for choice in [0, 1, 2] {
+        for text in [
+            "\u{85}",
+            "&#x85;&#x2028;&#9;&#10;&#13;",
+            "<a b='1' c=\"&amp;\">",
+        ] {
+            sink(Arguments {
+                choice,
+                ..Arguments::text(text.as_bytes())
+            });
+        }
+    }
+}
+
+/// Values far longer than their texts, in scratch and output that are just long enough or not.
+pub fn long_values(random: &mut Random, sink: &mut Sink) {
+    for length in [1000, 4096, 65_535] {
+        let replacement = woven(random, Mix::Mixed, &[b"<", b"\""], 3, length);
+        let replacement: Vec<u8> = replacement
+            .into_iter()
+            .map(|byte| if byte == b'&' { b'"' } else { byte })
+            .collect();
+        let mut draft = Draft::default();
+        draft.define(b"a", &replacement);
+        let draft = draft.ended();
+        for count in [1, 2, 20] {
+            for scratch in ROOMS {
+                for room in ROOMS {
+                    sink(Arguments {
+                        scratch,
+                        room,
+                        table: draft.table(),
+                        ..Arguments::text("&a;".repeat(count).as_bytes())
+                    });
+                }
+            }
+        }
+    }
+}

@@ -1,0 +1,97 @@
+//! `govlezna_canonical_form`.
+
+mod answer;
+mod faults;
+pub mod inputs;
+mod rows;
+
+use crate::call::Call;
+use crate::call::Parameter::{Choice, Depth, Limit, Output, Scratch, Table, Text};
+use crate::documented::{row, Outcome::Made};
+use crate::faults::{memory::MEMORY, table::LOOKUP, walk::WALK};
+use crate::inputs::attribute::{self, Attribute};
+use crate::inputs::{entities, memory, rooms, sizes, tables, woven};
+use crate::lent::Lent;
+
+extern "C" {
+    fn govlezna_canonical_form(
+        text: *const u8,
+        text_length: usize,
+        version: u8,
+        depth: u64,
+        limit: u64,
+        list: *const u8,
+        list_length: usize,
+        pool: *const u8,
+        pool_length: usize,
+        scratch: *mut u8,
+        scratch_length: usize,
+        out: *mut u8,
+        out_length: usize,
+        answer: *mut u64,
+    ) -> u32;
+}
+
+unsafe fn run(lent: &Lent) -> u32 {
+    govlezna_canonical_form(
+        lent.text,
+        lent.text_length,
+        lent.choice,
+        lent.depth,
+        lent.limit,
+        lent.list,
+        lent.list_length,
+        lent.pool,
+        lent.pool_length,
+        lent.scratch,
+        lent.scratch_length,
+        lent.out,
+        lent.out_length,
+        lent.answer,
+    )
+}
+
+pub const CALL: Call = Call {
+    name: "canonical_form",
+    parameters: &[Text, Choice, Depth, Limit, Table, Scratch, Output],
+    run,
+    expected: answer::canonical_form,
+    documented: &[
+        row("a&#x85;b", 2, Made("a&#133;b", 0)),
+        row("a&#x85;b", 0, Made("a\u{85}b", 0)),
+    ],
+    seams: inputs::seams,
+    families: &[
+        sizes::limits,
+        rooms::unknown_choices,
+        attribute::every_setting,
+        tables::limits,
+        entities::text_before_table,
+        entities::lookups,
+        entities::similar_names,
+        entities::first_binds,
+        entities::repeated,
+        memory::kept,
+        attribute::nested,
+        attribute::wide,
+        attribute::most_openings,
+        inputs::long_values,
+        entities::damaged_tables,
+        inputs::reread,
+        inputs::spellings,
+        woven::long::<Attribute>,
+        woven::every_character::<Attribute>,
+        woven::every_short_text::<Attribute>,
+        woven::every_length_and_address::<Attribute>,
+        woven::damaged::<Attribute>,
+    ],
+    random: woven::random::<Attribute>,
+    stored: "\
+canonical_form TEXT VERSION DEPTH LIMIT LIST POOL SCRATCH ROOM = NUMBER FIRST SECOND VALUE OUTPUT
+# with SCRATCH for the scratch's length and VALUE for what it holds at its start after the call.",
+    faults: &[LOOKUP, WALK, MEMORY, faults::SCRATCH],
+    // SAFETY: everything that is lent is of the length stated.
+    timed: || rows::timed(|lent| unsafe { run(lent) }),
+    differences: || vec![],
+    counted: || rows::counted(|lent| unsafe { run(lent) }),
+};

@@ -1,0 +1,34 @@
+//! The Rust's walk and writer beside ours.
+
+use crate::counting;
+use crate::rows::attribute::{self, long_values, rust_normalize, short_values};
+use crate::rows::table::{Ours, TableRule};
+use crate::rust::escape::{escape_attribute, EscapeError};
+use crate::table::Definition;
+use crate::timing::{self, Made};
+
+const CALLS: [&str; 2] = ["canonical_form, 1.0", "canonical_form, 1.1"];
+
+pub fn timed(run: impl Ours) -> Vec<timing::Row> {
+    attribute::timed(CALLS, (run, rust_canonical))
+}
+
+pub fn counted(run: impl Ours) -> Vec<counting::Row> {
+    let sides: (_, TableRule) = (run, rust_canonical);
+    let mut rows = vec![];
+    for (call, version) in CALLS.into_iter().zip([0, 2]) {
+        short_values(&mut rows, call, version, 64, sides);
+        long_values(&mut rows, call, version, sides);
+    }
+    rows
+}
+
+/// No value here holds what only our writer escapes under 1.1.
+fn rust_canonical(
+    text: &'static str,
+    version: u8,
+    definitions: &[Definition<'static>],
+) -> Result<Made, EscapeError> {
+    let (value, openings) = rust_normalize(text, version, definitions)?;
+    Ok((escape_attribute(value), openings))
+}

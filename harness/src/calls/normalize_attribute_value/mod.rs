@@ -1,0 +1,106 @@
+//! `govlezna_normalize_attribute_value`.
+
+mod documented;
+mod rows;
+
+use crate::answer::Answer;
+use crate::arguments::Arguments;
+use crate::call::Parameter::{Choice, Depth, Limit, Output, Table, Text};
+use crate::call::{Call, Faults};
+use crate::calls::canonical_form::inputs::reread;
+use crate::faults::{memory::MEMORY, table::LOOKUP, walk::WALK};
+use crate::inputs::attribute::{self, Attribute};
+use crate::inputs::{entities, memory, rooms, sizes, tables, woven};
+use crate::lent::{Lent, Run};
+use crate::oracle::entities::normalized;
+use crate::oracle::result::finished;
+
+extern "C" {
+    fn govlezna_normalize_attribute_value(
+        text: *const u8,
+        text_length: usize,
+        version: u8,
+        depth: u64,
+        limit: u64,
+        list: *const u8,
+        list_length: usize,
+        pool: *const u8,
+        pool_length: usize,
+        out: *mut u8,
+        out_length: usize,
+        answer: *mut u64,
+    ) -> u32;
+}
+
+unsafe fn run(lent: &Lent) -> u32 {
+    govlezna_normalize_attribute_value(
+        lent.text,
+        lent.text_length,
+        lent.choice,
+        lent.depth,
+        lent.limit,
+        lent.list,
+        lent.list_length,
+        lent.pool,
+        lent.pool_length,
+        lent.out,
+        lent.out_length,
+        lent.answer,
+    )
+}
+
+pub const CALL: Call = Call {
+    name: "normalize_attribute_value",
+    parameters: &[Text, Choice, Depth, Limit, Table, Output],
+    run,
+    expected: answer,
+    documented: documented::ROWS,
+    seams: woven::seams::<Attribute>,
+    families: &[
+        sizes::limits,
+        rooms::unknown_choices,
+        attribute::every_setting,
+        tables::limits,
+        entities::text_before_table,
+        entities::lookups,
+        entities::similar_names,
+        entities::first_binds,
+        entities::repeated,
+        memory::kept,
+        attribute::nested,
+        attribute::wide,
+        attribute::most_openings,
+        attribute::every_replacement,
+        entities::damaged_tables,
+        entities::every_number,
+        woven::long::<Attribute>,
+        woven::every_short_text::<Attribute>,
+        woven::every_sequence_in_context::<Attribute>,
+        woven::every_length_and_address::<Attribute>,
+        woven::damaged::<Attribute>,
+        reread,
+    ],
+    random: woven::random::<Attribute>,
+    stored: "normalize_attribute_value TEXT VERSION DEPTH LIMIT LIST POOL ROOM = NUMBER FIRST SECOND OUTPUT",
+    faults: &[LOOKUP, WALK, MEMORY, VALUE],
+    // SAFETY: everything that is lent is of the length stated.
+    timed: || rows::timed(|lent| unsafe { run(lent) }),
+    differences: || vec![],
+    counted: || rows::counted(|lent| unsafe { run(lent) }),
+};
+
+fn answer(arguments: &Arguments) -> Answer {
+    finished(arguments, normalized(arguments))
+}
+
+const VALUE: Faults = &[("a number's LF turned into a space", spaced_number)];
+
+unsafe fn spaced_number(lent: &Lent, real: Run) -> u32 {
+    let number = real(lent);
+    if number == 0 && *lent.answer > 0 {
+        let result = std::slice::from_raw_parts_mut(lent.out, *lent.answer as usize);
+        let line_ends = result.iter_mut().filter(|byte| **byte == b'\n');
+        line_ends.for_each(|byte| *byte = b' ');
+    }
+    number
+}

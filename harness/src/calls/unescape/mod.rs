@@ -1,0 +1,91 @@
+//! `govlezna_unescape`.
+
+mod answer;
+mod inputs;
+mod rows;
+
+use crate::call::Call;
+use crate::call::Parameter::{Output, Table, Text};
+use crate::documented::{row, with, Documented, Outcome, Outcome::Made, Outcome::Refused};
+use crate::faults::table::LOOKUP;
+use crate::inputs::{entities, sizes, tables, woven};
+use crate::lent::Lent;
+use inputs::Unescape;
+
+extern "C" {
+    fn govlezna_unescape(
+        text: *const u8,
+        text_length: usize,
+        list: *const u8,
+        list_length: usize,
+        pool: *const u8,
+        pool_length: usize,
+        out: *mut u8,
+        out_length: usize,
+        answer: *mut u64,
+    ) -> u32;
+}
+
+unsafe fn run(lent: &Lent) -> u32 {
+    govlezna_unescape(
+        lent.text,
+        lent.text_length,
+        lent.list,
+        lent.list_length,
+        lent.pool,
+        lent.pool_length,
+        lent.out,
+        lent.out_length,
+        lent.answer,
+    )
+}
+
+pub const CALL: Call = Call {
+    name: "unescape",
+    parameters: &[Text, Table, Output],
+    run,
+    expected: answer::unescape,
+    documented: DOCUMENTED,
+    seams: woven::seams::<Unescape>,
+    families: &[
+        sizes::limits,
+        tables::limits,
+        entities::text_before_table,
+        entities::lookups,
+        entities::similar_names,
+        entities::first_binds,
+        entities::repeated,
+        inputs::longest_results,
+        inputs::escaped_texts,
+        entities::damaged_tables,
+        entities::every_number,
+        woven::long::<Unescape>,
+        woven::every_short_text::<Unescape>,
+        woven::every_sequence_in_context::<Unescape>,
+        woven::every_length_and_address::<Unescape>,
+        woven::damaged::<Unescape>,
+    ],
+    random: woven::random::<Unescape>,
+    stored: "unescape TEXT LIST POOL ROOM = NUMBER FIRST SECOND OUTPUT",
+    faults: &[LOOKUP],
+    // SAFETY: everything that is lent is of the length stated.
+    timed: || rows::timed(|lent| unsafe { run(lent) }),
+    differences: || vec![rows::lookup(|lent| unsafe { run(lent) })],
+    counted: || vec![],
+};
+
+const DOCUMENTED: &[Documented] = &[
+    said("&a&b;", Refused(10, 0, 5)),
+    said("&;", Refused(11, 1, 1)),
+    said("&#x41;&#65;", Made("AA", 0)),
+    said("&#+1;", Refused(12, 0, 0)),
+    said("&#X41;", Refused(13, 0, 0)),
+    said("&#xD800;", Refused(14, 55_296, 0)),
+    said("&#0;", Refused(15, 0, 0)),
+    said("&#;", Refused(13, 0, 0)),
+    with(&[("amp", "X")], said("&amp;", Made("X", 0))),
+];
+
+const fn said(text: &'static str, outcome: Outcome) -> Documented {
+    row(text, 0, outcome)
+}

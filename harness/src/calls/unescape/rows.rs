@@ -1,0 +1,69 @@
+//! The Rust's walk beside ours, and what a lookup takes.
+
+use crate::draft::Draft;
+use crate::inputs::entities::{long_names, long_reference};
+use crate::inputs::sizes::MEBIBYTE;
+use crate::rows::table::{table_row, Ours, References, Tables, NAMES};
+use crate::rust::escape::{self, EscapeError};
+use crate::table::{look_up, Definition, Meaning};
+use crate::timing::{letters_with, Difference, Made, Row};
+
+/// A text that names nothing of a table has none.
+pub fn timed(run: impl Ours) -> Vec<Row> {
+    let none = Tables::new(Draft::of(&[]));
+    let some = Tables::new(Draft::of(&[("a", "first"), ("office", "Split")]));
+    let inputs: [(References, Tables); 5] = [
+        (("no references", &[], 0), none),
+        (("few references", &["&lt;", "&#65;", "&a;"], 100), some),
+        (("dense, predefined", &["&lt;", "&amp;"], 8), none),
+        (("dense, numbers", &["&#65;", "&#x20AC;"], 12), none),
+        (("dense, of the table", &["&a;", "&office;"], 12), some),
+    ];
+    let mut rows = vec![];
+    for size in [64, MEBIBYTE] {
+        for ((input, pieces, distance), tables) in inputs {
+            let text = letters_with(pieces, distance, size);
+            rows.push(table_row(
+                "unescape",
+                input,
+                &text,
+                0,
+                tables,
+                (run, rust_unescape),
+            ));
+        }
+    }
+    rows
+}
+
+fn rust_unescape(
+    text: &'static str,
+    _: u8,
+    definitions: &[Definition<'static>],
+) -> Result<Made, EscapeError> {
+    let resolve = |name: &str| match look_up(definitions, name) {
+        Meaning::Defined(text) => Some(text),
+        Meaning::Predefined(text) => Some(text),
+        Meaning::Nothing => None,
+    };
+    Ok((escape::unescape_with(text, resolve)?, 0))
+}
+
+const REFERENCES: usize = 100;
+
+/// A hundred references to the first and to the last of many names of 255 bytes that differ in their last four. Both texts are as
+/// long, so their difference is what it takes to pass the names between, a hundred times; the check of the table, of a megabyte, is
+/// not in it.
+pub fn lookup(run: impl Ours) -> Difference {
+    let tables = Tables::new(long_names(NAMES));
+    let references = |input, index| {
+        let text = long_reference(index).repeat(REFERENCES);
+        table_row("unescape", input, &text, 0, tables, (run, rust_unescape))
+    };
+    Difference {
+        what: "One lookup that passes 3,999 names of 255 bytes",
+        times: REFERENCES,
+        without: references("the first name", 0),
+        with: references("the last name", NAMES - 1),
+    }
+}

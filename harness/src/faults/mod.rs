@@ -1,0 +1,23 @@
+//! Wrong libraries, as far as several calls share them: the self-test puts each in the place of the real one.
+
+pub mod answer;
+pub mod memory;
+pub mod output;
+pub mod parts;
+pub mod table;
+pub mod text;
+pub mod walk;
+
+use crate::call::{Faults, Parameter};
+
+/// Those of every call that has the parameter.
+pub fn of(parameter: Parameter) -> Faults {
+    match parameter {
+        Parameter::Text => text::TEXT,
+        Parameter::Choice => output::CHOICE,
+        Parameter::Table => table::TABLE,
+        Parameter::Output => output::OUTPUT,
+        // What goes wrong with these is the call's own.
+        Parameter::Depth | Parameter::Limit | Parameter::Scratch | Parameter::Cursor => &[],
+    }
+}

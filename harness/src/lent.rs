@@ -1,0 +1,55 @@
+//! What calls are lent, as C sees it, and the one form of all calls.
+
+use std::ptr::{null, null_mut};
+
+/// Where the next CDATA piece starts, and whether there is none: any flag but 0.
+#[repr(C)]
+#[derive(Clone, Copy, Debug, Default, PartialEq, Eq)]
+pub struct Cursor {
+    pub offset: u64,
+    pub finished: u64,
+}
+
+/// What a call is lent, as C sees it. A call takes the parts that it has.
+pub struct Lent {
+    pub text: *const u8,
+    pub text_length: usize,
+    pub choice: u8,
+    pub depth: u64,
+    pub limit: u64,
+    pub list: *const u8,
+    pub list_length: usize,
+    pub pool: *const u8,
+    pub pool_length: usize,
+    pub scratch: *mut u8,
+    pub scratch_length: usize,
+    pub out: *mut u8,
+    pub out_length: usize,
+    pub cursor: *mut Cursor,
+    pub answer: *mut u64,
+}
+
+impl Lent {
+    /// Nothing at all: a caller names what its call has.
+    pub const NOTHING: Lent = Lent {
+        text: null(),
+        text_length: 0,
+        choice: 0,
+        depth: 0,
+        limit: 0,
+        list: null(),
+        list_length: 0,
+        pool: null(),
+        pool_length: 0,
+        scratch: null_mut(),
+        scratch_length: 0,
+        out: null_mut(),
+        out_length: 0,
+        cursor: null_mut(),
+        answer: null_mut(),
+    };
+}
+
+/// A call in the form that all of them share, so that a wrong one can be put in its place.
+/// Its caller owes what a C caller owes: memory of the lengths stated, free of other users.
+pub type Run = unsafe fn(&Lent) -> u32;

@@ -1,0 +1,61 @@
+//! A line of the stored results: what a call is handed, and what it answers.
+
+use crate::answer::Answer;
+use crate::arguments::Arguments;
+use crate::call::{Call, Parameter};
+use crate::hex::hex;
+use crate::lent::Cursor;
+
+/// Inputs with more bytes to read or to write are left out, so that every line is short.
+const LONGEST: usize = 300;
+const LONGEST_OUTPUT: usize = 700;
+
+pub fn is_short(arguments: &Arguments, answer: &Answer) -> bool {
+    let table = arguments.table;
+    let read = [arguments.text, table.list, table.pool];
+    let written = [answer.room, answer.scratch_room];
+    read.iter().all(|bytes| bytes.len() <= LONGEST)
+        && written.iter().all(|&room| room <= LONGEST_OUTPUT)
+}
+
+pub fn line(call: &Call, arguments: &Arguments, answer: &Answer) -> String {
+    let words = [answer.number.into(), answer.first, answer.second];
+    let mut fields = vec![call.name.to_string()];
+    for &parameter in call.parameters {
+        fields.extend(given(parameter, arguments, answer));
+    }
+    fields.push("=".to_string());
+    fields.extend(words.map(|word| word.to_string()));
+    for &parameter in call.parameters {
+        fields.extend(left(parameter, answer));
+    }
+    fields.join(" ")
+}
+
+/// A buffer that is written by its length.
+fn given(parameter: Parameter, arguments: &Arguments, answer: &Answer) -> Vec<String> {
+    match parameter {
+        Parameter::Text => vec![hex(arguments.text)],
+        Parameter::Choice => vec![arguments.choice.to_string()],
+        Parameter::Depth => vec![arguments.depth.to_string()],
+        Parameter::Limit => vec![arguments.limit.to_string()],
+        Parameter::Table => vec![hex(arguments.table.list), hex(arguments.table.pool)],
+        Parameter::Scratch => vec![answer.scratch_room.to_string()],
+        Parameter::Output => vec![answer.room.to_string()],
+        Parameter::Cursor => cursor_fields(arguments.cursor),
+    }
+}
+
+/// What the call leaves there.
+fn left(parameter: Parameter, answer: &Answer) -> Vec<String> {
+    match parameter {
+        Parameter::Scratch => vec![hex(&answer.scratch)],
+        Parameter::Output => vec![hex(&answer.written)],
+        Parameter::Cursor => cursor_fields(answer.cursor),
+        _ => vec![],
+    }
+}
+
+fn cursor_fields(cursor: Cursor) -> Vec<String> {
+    vec![cursor.offset.to_string(), cursor.finished.to_string()]
+}
