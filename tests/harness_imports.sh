@@ -15,7 +15,7 @@ awk '
     # The next token after a path, which is printed; of a group each path.
     function follow(path, at) {
         if (tokens[at] == "{") {
-            while (tokens[at] != "}") at = follow(path, at + 1)
+            for (at++; tokens[at] != "}" && at <= count; at += tokens[at] == ",") at = follow(path, at)
             return at + 1
         }
         if (tokens[at] == "super") sub(/\/?[^\/]*$/, "", path)

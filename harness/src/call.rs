@@ -17,7 +17,8 @@ pub struct Call {
     pub documented: &'static [Documented],
     /// The inputs that a reader would ask about first; the stored results are made of them too.
     pub seams: Family,
-    pub families: &'static [Family],
+    /// Those that it shares with others, and its own.
+    pub families: &'static [&'static [Family]],
     /// A few thousand random inputs, different each time: what longer runs repeat.
     pub random: Family,
     /// What a line of the stored results has, for those who read them; nothing where another call's says it.

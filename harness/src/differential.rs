@@ -32,7 +32,7 @@ fn compare_call(call: &Call, seed: u64, end: Instant) -> bool {
     let mut random = Random::new(seed);
     comparison.try_all(call.seams, &mut random);
     corpus::each(call, &mut |arguments| comparison.compare(&arguments));
-    for &family in call.families {
+    for &family in call.families.iter().copied().flatten() {
         comparison.try_all(family, &mut random);
     }
     let mut rounds = 0;

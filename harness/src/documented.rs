@@ -18,7 +18,7 @@ pub enum Outcome {
     /// The result, and the second answer word.
     Made(&'static str, u64),
     /// The number and both answer words.
-    Refused(u32, u64, u64),
+    Answered(u32, u64, u64),
 }
 
 pub const fn row(text: &'static str, choice: u8, outcome: Outcome) -> Documented {
@@ -63,7 +63,7 @@ impl Documented {
             Outcome::Made(result, second) => {
                 found == (0, result.len() as u64, second) && answer.written == result.as_bytes()
             }
-            Outcome::Refused(number, first, second) => found == (number, first, second),
+            Outcome::Answered(number, first, second) => found == (number, first, second),
         };
         (!agrees).then_some(answer)
     }

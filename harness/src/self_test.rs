@@ -53,11 +53,12 @@ fn faults_of(call: &Call) -> Vec<Faults> {
 }
 
 /// Whether some answer of the seams or of the families differs.
-fn is_caught(call: &Call, fault: Fault, families: &[Family]) -> bool {
+fn is_caught(call: &Call, fault: Fault, families: &[&[Family]]) -> bool {
     // SAFETY: the comparison lends memory of the lengths stated; the faults stay inside its guards.
     let library = |lent: &Lent| unsafe { fault(lent, call.run) };
     let mut comparison = Comparison::new(call, &library);
     let mut random = Random::new(DEFAULT_SEED);
+    let families = families.iter().copied().flatten();
     std::iter::once(&call.seams).chain(families).any(|family| {
         comparison.try_all(*family, &mut random);
         comparison.differences > 0

@@ -1,13 +1,14 @@
 //! Texts, tables and settings for attribute values: section 3.3.3 of XML 1.0 and of XML 1.1.
 
 use super::entities::{referring, with_some_table, NUMBERS, REFUSED_TABLES, SOUND};
-use super::rooms::random_room;
+use super::rooms::{random_room, unknown_choices};
 use super::sequences::every_sequence;
 use super::sizes::BLOCK_ENDS;
 use super::tables::few;
 use super::text::{woven, Mix};
 use super::woven::Subject;
-use crate::arguments::{Arguments, Room, Sink};
+use super::{entities, memory, sizes, tables};
+use crate::arguments::{Arguments, Family, Room, Sink};
 use crate::arguments::{DEEPEST, LONGEST_TEXT, MOST_OPENINGS, MOST_SPARE, ROOMS};
 use crate::draft::Draft;
 use crate::random::Random;
@@ -16,6 +17,23 @@ use crate::table::EMPTY;
 pub struct Attribute;
 
 const VERSIONS: [u8; 3] = [0, 1, 2];
+
+/// What every call that walks over attribute values is tried on.
+pub const FAMILIES: &[Family] = &[
+    sizes::limits,
+    unknown_choices,
+    every_setting,
+    tables::limits,
+    entities::text_before_table,
+    entities::lookups,
+    entities::similar_names,
+    entities::first_binds,
+    entities::repeated,
+    memory::kept,
+    nested,
+    wide,
+    most_openings,
+];
 
 /// Depths and limits that the few tables meet and do not meet.
 const SETTINGS: [(u64, u64); 6] = [

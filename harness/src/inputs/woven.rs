@@ -4,11 +4,11 @@ use super::sequences::every_sequence;
 use super::sizes::{random_length, MEBIBYTE, PAGE, SHORT_LENGTHS};
 use super::spoiled::{every_spoiled, spoil_at_random};
 use super::text::{woven, Mix, MIXES};
-use crate::arguments::{Arguments, Place, Sink, ALIGNMENTS};
+use crate::arguments::{Arguments, Family, Place, Sink, ALIGNMENTS};
 use crate::random::Random;
 
 /// What a call is about.
-pub trait Subject {
+pub trait Subject: Sized {
     /// Well-formed pieces that the call treats in their own ways, or could be taken for such.
     const PIECES: &'static [&'static [u8]];
     /// Pieces that make a text ill-formed, unless they meet by chance.
@@ -17,6 +17,16 @@ pub trait Subject {
     const MOST_PIECES: usize;
     /// The bytes that are put into damaged copies.
     const BYTES: &'static [u8];
+
+    /// All of this file, but the random ones.
+    const WOVEN: &'static [Family] = &[
+        long::<Self>,
+        every_short_text::<Self>,
+        every_character::<Self>,
+        every_sequence_in_context::<Self>,
+        every_length_and_address::<Self>,
+        damaged::<Self>,
+    ];
 
     fn seams(random: &mut Random, sink: &mut Sink);
     /// The text with everything else that matters: each level and room, or each cursor.

@@ -10,7 +10,7 @@ use crate::call::Parameter::{Choice, Depth, Limit, Output, Scratch, Table, Text}
 use crate::documented::{row, Outcome::Made};
 use crate::faults::{memory::MEMORY, table::LOOKUP, walk::WALK};
 use crate::inputs::attribute::{self, Attribute};
-use crate::inputs::{entities, memory, rooms, sizes, tables, woven};
+use crate::inputs::{entities, woven};
 use crate::lent::Lent;
 
 extern "C" {
@@ -62,28 +62,18 @@ pub const CALL: Call = Call {
     ],
     seams: inputs::seams,
     families: &[
-        sizes::limits,
-        rooms::unknown_choices,
-        attribute::every_setting,
-        tables::limits,
-        entities::text_before_table,
-        entities::lookups,
-        entities::similar_names,
-        entities::first_binds,
-        entities::repeated,
-        memory::kept,
-        attribute::nested,
-        attribute::wide,
-        attribute::most_openings,
-        inputs::long_values,
-        entities::damaged_tables,
-        inputs::reread,
-        inputs::spellings,
-        woven::long::<Attribute>,
-        woven::every_character::<Attribute>,
-        woven::every_short_text::<Attribute>,
-        woven::every_length_and_address::<Attribute>,
-        woven::damaged::<Attribute>,
+        attribute::FAMILIES,
+        &[
+            inputs::long_values,
+            entities::damaged_tables,
+            inputs::reread,
+            inputs::spellings,
+            woven::long::<Attribute>,
+            woven::every_character::<Attribute>,
+            woven::every_short_text::<Attribute>,
+            woven::every_length_and_address::<Attribute>,
+            woven::damaged::<Attribute>,
+        ],
     ],
     random: woven::random::<Attribute>,
     stored: "\

@@ -30,7 +30,7 @@ pub const CALL: Call = Call {
     expected: answer::cdata_next,
     documented: &[],
     seams: woven::seams::<Cdata>,
-    families: &[
+    families: &[&[
         sizes::limits,
         inputs::too_long,
         woven::long::<Cdata>,
@@ -39,7 +39,7 @@ pub const CALL: Call = Call {
         woven::every_sequence_in_context::<Cdata>,
         woven::every_length_and_address::<Cdata>,
         woven::damaged::<Cdata>,
-    ],
+    ]],
     random: woven::random::<Cdata>,
     stored: "cdata_next TEXT OFFSET FINISHED = NUMBER FIRST SECOND OFFSET FINISHED",
     faults: &[faults::CURSOR],

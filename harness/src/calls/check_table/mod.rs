@@ -38,14 +38,14 @@ pub const CALL: Call = Call {
     expected: answer,
     documented: &[],
     seams: inputs::seams,
-    families: &[
+    families: &[&[
         tables::limits,
         inputs::long,
         inputs::every_small_list,
         inputs::every_part,
         inputs::every_edge,
         inputs::damaged,
-    ],
+    ]],
     random: inputs::random,
     stored: "check_table LIST POOL = NUMBER FIRST SECOND",
     faults: &[],

@@ -26,7 +26,7 @@ pub const CALL: Call = Call {
     expected: answer,
     documented: &[],
     seams: inputs::seams,
-    families: &[
+    families: &[&[
         limits,
         inputs::long,
         inputs::every_short_text,
@@ -34,7 +34,7 @@ pub const CALL: Call = Call {
         inputs::every_sequence_in_context,
         inputs::every_length_and_address,
         inputs::damaged,
-    ],
+    ]],
     random: inputs::random,
     stored: "check_utf8 TEXT = NUMBER FIRST SECOND, and so for parse_number and the three trims",
     faults: &[],

@@ -7,7 +7,8 @@ mod rows;
 use crate::call::Call;
 use crate::call::Parameter::{Choice, Output, Text};
 use crate::documented::{row, Outcome::Made};
-use crate::inputs::{rooms, sizes, woven};
+use crate::inputs::woven::{self, Subject};
+use crate::inputs::{rooms, sizes};
 use crate::lent::Lent;
 use inputs::Escape;
 
@@ -44,15 +45,12 @@ pub const CALL: Call = Call {
     ],
     seams: woven::seams::<Escape>,
     families: &[
-        sizes::limits,
-        inputs::longest_result,
-        rooms::unknown_choices,
-        woven::long::<Escape>,
-        woven::every_short_text::<Escape>,
-        woven::every_character::<Escape>,
-        woven::every_sequence_in_context::<Escape>,
-        woven::every_length_and_address::<Escape>,
-        woven::damaged::<Escape>,
+        &[
+            sizes::limits,
+            inputs::longest_result,
+            rooms::unknown_choices,
+        ],
+        Escape::WOVEN,
     ],
     random: woven::random::<Escape>,
     stored: "escape TEXT LEVEL ROOM = NUMBER FIRST SECOND OUTPUT",

@@ -10,7 +10,7 @@ use crate::call::{Call, Faults};
 use crate::calls::canonical_form::inputs::reread;
 use crate::faults::{memory::MEMORY, table::LOOKUP, walk::WALK};
 use crate::inputs::attribute::{self, Attribute};
-use crate::inputs::{entities, memory, rooms, sizes, tables, woven};
+use crate::inputs::{entities, woven};
 use crate::lent::{Lent, Run};
 use crate::oracle::entities::normalized;
 use crate::oracle::result::finished;
@@ -56,20 +56,7 @@ pub const CALL: Call = Call {
     expected: answer,
     documented: documented::ROWS,
     seams: woven::seams::<Attribute>,
-    families: &[
-        sizes::limits,
-        rooms::unknown_choices,
-        attribute::every_setting,
-        tables::limits,
-        entities::text_before_table,
-        entities::lookups,
-        entities::similar_names,
-        entities::first_binds,
-        entities::repeated,
-        memory::kept,
-        attribute::nested,
-        attribute::wide,
-        attribute::most_openings,
+    families: &[attribute::FAMILIES, &[
         attribute::every_replacement,
         entities::damaged_tables,
         entities::every_number,
@@ -79,7 +66,7 @@ pub const CALL: Call = Call {
         woven::every_length_and_address::<Attribute>,
         woven::damaged::<Attribute>,
         reread,
-    ],
+    ]],
     random: woven::random::<Attribute>,
     stored: "normalize_attribute_value TEXT VERSION DEPTH LIMIT LIST POOL ROOM = NUMBER FIRST SECOND OUTPUT",
     faults: &[LOOKUP, WALK, MEMORY, VALUE],

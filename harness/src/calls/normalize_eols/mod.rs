@@ -8,7 +8,8 @@ use crate::arguments::Arguments;
 use crate::call::Call;
 use crate::call::Parameter::{Choice, Output, Text};
 use crate::documented::{row, Outcome::Made};
-use crate::inputs::{rooms, sizes, woven};
+use crate::inputs::woven::{self, Subject};
+use crate::inputs::{rooms, sizes};
 use crate::lent::Lent;
 use crate::oracle::result::{written, Rule};
 use crate::rust::escape;
@@ -46,16 +47,7 @@ pub const CALL: Call = Call {
         row("\r\u{85}", 2, Made("\n", 0)),
     ],
     seams: woven::seams::<Eols>,
-    families: &[
-        sizes::limits,
-        rooms::unknown_choices,
-        woven::long::<Eols>,
-        woven::every_short_text::<Eols>,
-        woven::every_character::<Eols>,
-        woven::every_sequence_in_context::<Eols>,
-        woven::every_length_and_address::<Eols>,
-        woven::damaged::<Eols>,
-    ],
+    families: &[&[sizes::limits, rooms::unknown_choices], Eols::WOVEN],
     random: woven::random::<Eols>,
     stored: "normalize_eols TEXT VERSION ROOM = NUMBER FIRST SECOND OUTPUT",
     faults: &[],

@@ -28,7 +28,7 @@ pub const CALL: Call = Call {
     expected: answer,
     documented: &[],
     seams: inputs::seams,
-    families: &[
+    families: &[&[
         limits,
         inputs::long,
         inputs::every_short_text,
@@ -36,7 +36,7 @@ pub const CALL: Call = Call {
         inputs::every_edge,
         inputs::every_length_and_address,
         inputs::damaged,
-    ],
+    ]],
     random: inputs::random,
     stored: "",
     faults: &[],

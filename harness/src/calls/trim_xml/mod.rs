@@ -7,7 +7,8 @@ mod rows;
 use crate::answer::{success, Answer};
 use crate::call::Call;
 use crate::call::Parameter::Text;
-use crate::inputs::{sizes, woven};
+use crate::inputs::sizes;
+use crate::inputs::woven::{self, Subject};
 use crate::lent::Lent;
 use crate::oracle::text::checked;
 use crate::rust::utils;
@@ -55,15 +56,8 @@ pub const SPACES: Call = Call {
     documented: &[],
     seams: woven::seams::<Trim>,
     families: &[
-        sizes::limits,
-        inputs::long_blanks,
-        inputs::blanks_around,
-        woven::long::<Trim>,
-        woven::every_short_text::<Trim>,
-        woven::every_character::<Trim>,
-        woven::every_sequence_in_context::<Trim>,
-        woven::every_length_and_address::<Trim>,
-        woven::damaged::<Trim>,
+        &[sizes::limits, inputs::long_blanks, inputs::blanks_around],
+        Trim::WOVEN,
     ],
     random: woven::random::<Trim>,
     stored: "",

@@ -6,7 +6,7 @@ mod rows;
 
 use crate::call::Call;
 use crate::call::Parameter::{Output, Table, Text};
-use crate::documented::{row, with, Documented, Outcome, Outcome::Made, Outcome::Refused};
+use crate::documented::{row, with, Documented, Outcome, Outcome::Answered, Outcome::Made};
 use crate::faults::table::LOOKUP;
 use crate::inputs::{entities, sizes, tables, woven};
 use crate::lent::Lent;
@@ -47,7 +47,7 @@ pub const CALL: Call = Call {
     expected: answer::unescape,
     documented: DOCUMENTED,
     seams: woven::seams::<Unescape>,
-    families: &[
+    families: &[&[
         sizes::limits,
         tables::limits,
         entities::text_before_table,
@@ -64,7 +64,7 @@ pub const CALL: Call = Call {
         woven::every_sequence_in_context::<Unescape>,
         woven::every_length_and_address::<Unescape>,
         woven::damaged::<Unescape>,
-    ],
+    ]],
     random: woven::random::<Unescape>,
     stored: "unescape TEXT LIST POOL ROOM = NUMBER FIRST SECOND OUTPUT",
     faults: &[LOOKUP],
@@ -75,14 +75,14 @@ pub const CALL: Call = Call {
 };
 
 const DOCUMENTED: &[Documented] = &[
-    said("&a&b;", Refused(10, 0, 5)),
-    said("&;", Refused(11, 1, 1)),
+    said("&a&b;", Answered(10, 0, 5)),
+    said("&;", Answered(11, 1, 1)),
     said("&#x41;&#65;", Made("AA", 0)),
-    said("&#+1;", Refused(12, 0, 0)),
-    said("&#X41;", Refused(13, 0, 0)),
-    said("&#xD800;", Refused(14, 55_296, 0)),
-    said("&#0;", Refused(15, 0, 0)),
-    said("&#;", Refused(13, 0, 0)),
+    said("&#+1;", Answered(12, 0, 0)),
+    said("&#X41;", Answered(13, 0, 0)),
+    said("&#xD800;", Answered(14, 55_296, 0)),
+    said("&#0;", Answered(15, 0, 0)),
+    said("&#;", Answered(13, 0, 0)),
     with(&[("amp", "X")], said("&amp;", Made("X", 0))),
 ];
 
