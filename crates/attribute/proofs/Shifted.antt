@@ -10,10 +10,8 @@ use Rattle.text.specs.Bytes.{pick, sameBytes}
 use Rattle.entity.specs.Binding.{Bound, text, predefined, unknown}
 use Rattle.tokens.specs.Tokens.{Stop, kept, space, number, named, unterminated, Heads, tokens}
 use Rattle.tokens.specs.Outcome.{Outcome, done, refused}
-use Rattle.tokens.specs.Seen.{Shifts}
-use Rattle.tokens.proofs.Moved.{Moved, moved-still, moved-opening, moved-over, run-moved, number-moved, moved-shifts, refused-done}
+use Rattle.tokens.proofs.Moved.{Moved, moved-still, moved-opening, moved-over, run-moved, number-moved}
 use Rattle.attribute.specs.Walk.{Settings, opened, answer, exhausted, walk}
-use Rattle.attribute.specs.Steps.{stopAnswer}
 
 module _ (st : Settings) where
   pick-moved : (t : Bool) (m n : ℕ) (o p : Outcome) (value : List ℕ) → Moved (st .limit) m n o p
@@ -64,14 +62,3 @@ module _ (st : Settings) where
   walk-moved at (suc depth) t m n =
       run-moved (st .limit) (answer st (λ u a. walk st (st .inner) depth u a))
       (answer-moved (λ u a. walk st (st .inner) depth u a) (λ u a b. walk-moved (st .inner) depth u a b)) (tokens at 0 0 t) m n
-
-pub stop-shifts : (s : Settings) (depth : ℕ) → Shifts (s .limit) (stopAnswer s depth)
-unfolding stopAnswer answer exhausted
-stop-shifts s zero =
-    moved-shifts (s .limit) exhausted (λ digits m n. exhausted-moved s (number digits) m n) (λ i j name m n. tt)
-    (λ i e m n value. refused-done [] value m 16 0 0 n)
-stop-shifts s (suc depth) =
-    let walked : List ℕ → ℕ → Outcome = λ u a. walk s (s .inner) depth u a in
-    let h : (t : List ℕ) (m n : ℕ) → Moved (s .limit) m n (walked t m) (walked t n) = λ t m n. walk-moved s (s .inner) depth t m n in
-    moved-shifts (s .limit) (answer s walked) (λ digits m n. answer-moved s walked h (number digits) m n) (λ i j name m n. named-moved s walked h i j name m n)
-    (λ i e m n value. refused-done [] value m 10 i e n)
