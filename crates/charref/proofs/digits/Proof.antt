@@ -42,13 +42,13 @@ add-value c = omega (arith, product (c .before .before .before .before .before .
 returns-2 : tie.Need-returns-2 Inv-loop μ-loop
 returns-2 c =
     let given = c .before .before .before .before .before .before .before .before .args in
-    let at-digit-2 = c .before .before .digit in
+    let read = c .before .before .digit in
     let l = c .before .before .before .before .before .loop in
     let base = given .base in
     let text = given .text .now in
-    let d = at-digit-2 .result in
+    let d = read .result in
     sym (too-large base (base * l .value + d) (drop (l .i + 1) text) (omega arith) (c .if2 .taken))
-    ∙ ap small (sym (at-digit base (l .value) (l .i) text (omega arith) d (at-digit-2 .ensures) (omega arith))) ∙ l .inv .2
+    ∙ ap small (sym (at-digit base (l .value) (l .i) text (omega arith) d (read .ensures) (omega arith))) ∙ l .inv .2
 
 add-i : tie.Need-add-i Inv-loop μ-loop
 add-i c = search needs
@@ -59,11 +59,11 @@ loop-less c = search needs
 loop-again : tie.Need-loop-again Inv-loop μ-loop
 loop-again c =
     let given = c .before .before .before .before .before .before .before .before .args in
-    let at-digit-2 = c .before .before .digit in
+    let read = c .before .before .digit in
     let l = c .before .before .before .before .before .loop in (
       omega arith,
       omega arith,
-      ap small (sym (at-digit (given .base) (l .value) (l .i) (given .text .now) (omega arith) (at-digit-2 .result) (at-digit-2 .ensures) (omega arith)))
+      ap small (sym (at-digit (given .base) (l .value) (l .i) (given .text .now) (omega arith) (read .result) (read .ensures) (omega arith)))
           ∙ l .inv .2,
     )
 

@@ -17,9 +17,9 @@ same-length c = search needs
 
 returns : tie.Need-returns
 returns c =
-    let at-encode-utf8 = c .before .before .encode-utf8 in
+    let made = c .before .before .encode-utf8 in
     let given = c .before .before .before .before .before .before .before .args in
-    (at-encode-utf8 .ensures .0, at-encode-utf8 .ensures .1 ∙ sym (over-fits (encode (given .c)) (given .out .now) (omega (arith, c .before .before .before .before .before .utf8-length .ensures))))
+    (made .ensures .0, made .ensures .1 ∙ sym (over-fits (encode (given .c)) (given .out .now) (omega (arith, c .before .before .before .before .before .utf8-length .ensures))))
 
 returns-2 : tie.Need-returns-2
 returns-2 c =

@@ -84,9 +84,9 @@ same-length c = ⊎-elim (λ w. ap length (w .7) ∙ w .4 .ensures .0) (λ w. ap
 
 returns-2 : tie.Need-returns-2
 returns-2 c =
-    let at-seen-at = c .before .before .before .before .before .before .seen-at in
+    let found = c .before .before .before .before .before .before .seen-at in
     let a = c .before .before .before .before .before .before .before .before .before .before .args in
-    let k = at-seen-at .result in
+    let k = found .result in
     let known = c .before .before .before .before .before .if1 .taken in
     let out = c .before .if3 .out in
     let start = getD (a .seen .now) (k + 8) 0 in
@@ -94,7 +94,7 @@ returns-2 c =
     record {
       slot = k;
       known = known;
-      met = at-seen-at .ensures .1 known;
+      met = found .ensures .1 known;
       to = refl;
       size = refl;
       opens = refl;

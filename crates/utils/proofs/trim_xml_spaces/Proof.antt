@@ -21,8 +21,8 @@ trim-xml-end-requires c κs = search needs
 
 returns : tie.Need-returns
 returns c =
-    let at-trim-xml-start = c .before .before .trim-xml-start in
-    spaces-at (c .before .before .before .before .args .text .now) (at-trim-xml-start .result) (c .trim-xml-end .result) (at-trim-xml-start .ensures) (c .trim-xml-end .ensures)
+    let start = c .before .before .trim-xml-start in
+    spaces-at (c .before .before .before .before .args .text .now) (start .result) (c .trim-xml-end .result) (start .ensures) (c .trim-xml-end .ensures)
 
 pub trim-xml-spaces-spec : {M : Type 1} → statement M
 trim-xml-spaces-spec =

@@ -12,8 +12,8 @@ word-requires c κs = search needs
 
 returns : tie.Need-returns
 returns c =
-    let given-2 = c .before .before .args in
-    λ e. low-word (given-2 .text .now) (given-2 .i) (λ k. omega (arith, c .before .shared-slice-known .given k)) (ap (λ (n : ℕ). bitAnd n 0x8080808080808080) (sym (c .word .ensures)) ∙ e)
+    let given = c .before .before .args in
+    λ e. low-word (given .text .now) (given .i) (λ k. omega (arith, c .before .shared-slice-known .given k)) (ap (λ (n : ℕ). bitAnd n 0x8080808080808080) (sym (c .word .ensures)) ∙ e)
 
 pub high-bits-spec : {M : Type 1} → statement M
 high-bits-spec = tie.close (tie.spec word-requires returns)
