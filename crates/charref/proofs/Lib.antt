@@ -3,3 +3,4 @@ pub mod Numbers
 mod Examples
 pub mod Ascii
 pub mod Reading
+pub mod Apart

@@ -21,7 +21,8 @@ use Rattle.attribute.specs.Heads.{spaceOr, otherHead, attributeHead}
 use Rattle.demands.specs.Characters.{encodeAll}
 use Rattle.demands.specs.Standard.{pairEnds, alone, lineEndsOf, isWhite, both, valueOf, limited}
 use Rattle.demands.proofs.Lines.{AllPlain, Ending, is-cr, is-end, is-kept, ending, cr-width, ends-alone, cr-last, cr-pair, cr-single}
-use Rattle.demands.proofs.Words.{encode-append, AllApart, encode-apart, all-apart, name-ends, name-endless, stopOf, refer-head}
+use Rattle.charref.proofs.Apart.{AllApart, encode-apart}
+use Rattle.demands.proofs.Words.{encode-append, all-apart, name-ends, name-endless, stopOf, refer-head}
 
 -- ---- agreement of an outcome and a value
 

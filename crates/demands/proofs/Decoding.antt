@@ -2,23 +2,17 @@
 use mathlib.Core.Path.{_≡_, refl, ap, ap₂, sym, _∙_}
 use Prim.Native.Nat.{ℕ, _+_, _-_, _*_, _/_, _%_, _≤_, _<_}
 use native.Mathlib.Omega.{arith}
-use mathlib.Core.Bool.{true, false}
+use mathlib.Core.Bool.{false}
 use mathlib.Core.List.{List, [], _∷_, _++_, append-assoc}
 use lib.Dec.{eqb, leb}
 use borrow.Author.Tests.{eqb-true, leb-true, le-leb, lt-leb}
 use Rattle.text.specs.Bytes.{pick, within}
 use Rattle.text.specs.Utf8.{State, between, one, two, three, after-e0, after-ed, after-f0, after-f4, broken, first, next, after, isBetween, WellFormed}
-use Rattle.text.proofs.Bytes.{pick-by, and-left, and-right, contrary}
+use Rattle.text.proofs.Bytes.{pick-by, within-low, within-top, contrary}
 use Rattle.text.proofs.Utf8.{never-between}
 use Rattle.charref.specs.CharRef.{encode}
 use Rattle.charref.proofs.Encoding.{encode-1, encode-2, encode-3, encode-4}
 use Rattle.demands.specs.Characters.{encodeAll, lead, gather, decodeFrom, decode}
-
-low : (lo hi b : ℕ) → within lo hi b ≡ true → lo ≤ b
-low lo hi b e = leb-true lo b (and-left (leb lo b) (leb b hi) e)
-
-top : (lo hi b : ℕ) → within lo hi b ≡ true → b ≤ hi
-top lo hi b e = leb-true b hi (and-right (leb lo b) (leb b hi) e)
 
 enc2 : (n b c : ℕ) → 0x80 ≤ n → n < 0x800 → 0xC0 + n / 64 ≡ b → 0x80 + n % 64 ≡ c → encode n ≡ b ∷ c ∷ []
 enc2 n b c h k p q = encode-2 n h k ∙ rw (p, q)
@@ -107,12 +101,12 @@ starts : (b : ℕ) → After (first b) (lead b) (b ∷ [])
 unfolding first
 starts b =
     pick-by (λ (s : State). After s (lead b) (b ∷ [])) (leb b 0x7F) {a = between} (λ e. rw (lead-1 b (leb-true b 0x7F e)) (start-1 b (leb-true b 0x7F e))) λ n1.
-    pick-by (λ (s : State). After s (lead b) (b ∷ [])) (within 0xC2 0xDF b) {a = one} (λ e. rw (lead-2 b (low 0xC2 0xDF b e) (top 0xC2 0xDF b e)) (start-2 b (low 0xC2 0xDF b e) (top 0xC2 0xDF b e))) λ n2.
+    pick-by (λ (s : State). After s (lead b) (b ∷ [])) (within 0xC2 0xDF b) {a = one} (λ e. rw (lead-2 b (within-low 0xC2 0xDF b e) (within-top 0xC2 0xDF b e)) (start-2 b (within-low 0xC2 0xDF b e) (within-top 0xC2 0xDF b e))) λ n2.
     pick-by (λ (s : State). After s (lead b) (b ∷ [])) (eqb b 0xE0) {a = after-e0} (λ e. at-e0 b (eqb-true b 0xE0 e)) λ n3.
     pick-by (λ (s : State). After s (lead b) (b ∷ [])) (eqb b 0xED) {a = after-ed} (λ e. at-ed b (eqb-true b 0xED e)) λ n4.
-    pick-by (λ (s : State). After s (lead b) (b ∷ [])) (within 0xE1 0xEF b) {a = two} (λ e. at-two b (low 0xE1 0xEF b e) (top 0xE1 0xEF b e)) λ n5.
+    pick-by (λ (s : State). After s (lead b) (b ∷ [])) (within 0xE1 0xEF b) {a = two} (λ e. at-two b (within-low 0xE1 0xEF b e) (within-top 0xE1 0xEF b e)) λ n5.
     pick-by (λ (s : State). After s (lead b) (b ∷ [])) (eqb b 0xF0) {a = after-f0} (λ e. at-f0 b (eqb-true b 0xF0 e)) λ n6.
-    pick-by (λ (s : State). After s (lead b) (b ∷ [])) (within 0xF1 0xF3 b) {a = three} (λ e. at-three b (low 0xF1 0xF3 b e) (top 0xF1 0xF3 b e)) λ n7.
+    pick-by (λ (s : State). After s (lead b) (b ∷ [])) (within 0xF1 0xF3 b) {a = three} (λ e. at-three b (within-low 0xF1 0xF3 b e) (within-top 0xF1 0xF3 b e)) λ n7.
     pick-by (λ (s : State). After s (lead b) (b ∷ [])) (eqb b 0xF4) {a = after-f4} {b = broken} (λ e. at-f4 b (eqb-true b 0xF4 e)) (λ e. tt)
   where
     at-e0 : (b : ℕ) → b ≡ 0xE0 → Two 0xA0 0xBF (lead b) (b ∷ [])
@@ -134,17 +128,17 @@ starts b =
     at-f4 b e = rw (lead-4 b (omega arith)) (start-4 0x80 0x8F b (omega arith) (omega arith) (omega arith) (omega arith) (λ c h. omega arith))
 
 one-on : (sum : ℕ) (w : List ℕ) (b : ℕ) → One sum w → After (pick (within 0x80 0xBF b) between broken) (64 * sum + (b - 0x80)) (w ++ b ∷ [])
-one-on sum w b h = pick-by (λ (s : State). After s (64 * sum + (b - 0x80)) (w ++ b ∷ [])) (within 0x80 0xBF b) {a = between} {b = broken} (λ e. h b (low 0x80 0xBF b e) (top 0x80 0xBF b e)) (λ e. tt)
+one-on sum w b h = pick-by (λ (s : State). After s (64 * sum + (b - 0x80)) (w ++ b ∷ [])) (within 0x80 0xBF b) {a = between} {b = broken} (λ e. h b (within-low 0x80 0xBF b e) (within-top 0x80 0xBF b e)) (λ e. tt)
 
 two-on : (lo hi sum : ℕ) (w : List ℕ) (b : ℕ) → Two lo hi sum w → After (pick (within lo hi b) one broken) (64 * sum + (b - 0x80)) (w ++ b ∷ [])
 two-on lo hi sum w b h =
     pick-by (λ (s : State). After s (64 * sum + (b - 0x80)) (w ++ b ∷ [])) (within lo hi b) {a = one} {b = broken}
-    (λ e d p q. h b d (low lo hi b e) (top lo hi b e) p q ∙ sym (append-assoc w (b ∷ []) (d ∷ []))) (λ e. tt)
+    (λ e d p q. h b d (within-low lo hi b e) (within-top lo hi b e) p q ∙ sym (append-assoc w (b ∷ []) (d ∷ []))) (λ e. tt)
 
 three-on : (lo hi sum : ℕ) (w : List ℕ) (b : ℕ) → Three lo hi sum w → After (pick (within lo hi b) two broken) (64 * sum + (b - 0x80)) (w ++ b ∷ [])
 three-on lo hi sum w b h =
     pick-by (λ (s : State). After s (64 * sum + (b - 0x80)) (w ++ b ∷ [])) (within lo hi b) {a = two} {b = broken}
-    (λ e d x p q u v. h b d x (low lo hi b e) (top lo hi b e) p q u v ∙ sym (append-assoc w (b ∷ []) (d ∷ x ∷ []))) (λ e. tt)
+    (λ e d x p q u v. h b d x (within-low lo hi b e) (within-top lo hi b e) p q u v ∙ sym (append-assoc w (b ∷ []) (d ∷ x ∷ []))) (λ e. tt)
 
 onward : (s : State) (sum : ℕ) (w : List ℕ) (b : ℕ) → Before s sum w → After (next s b) (gather s sum b) (w ++ b ∷ [])
 unfolding next gather isBetween

@@ -25,7 +25,8 @@ use Rattle.demands.specs.Demands.{Asked, ruleFor, Accepted}
 use Rattle.demands.specs.Characters.{encodeAll, decode}
 use Rattle.demands.specs.Standard.{alone, lineEndsOf, characterValue, replacedBy, entityValue, referenceValue, standard, charactersOf, lookupOf, steady, steadyRefs, SteadyText, SteadyBound, FromStandard, limited, Meets}
 use Rattle.demands.proofs.Decoding.{decode-encode}
-use Rattle.demands.proofs.Words.{AllApart, stopOf, same-ascii, number-same}
+use Rattle.charref.proofs.Apart.{AllApart}
+use Rattle.demands.proofs.Words.{stopOf, same-ascii, number-same}
 use Rattle.demands.proofs.Agreement.{Agree, Fits, Steady, AllSteady, Clean, no-more, char, refer, unended, clean-reads}
 
 -- ---- the answers

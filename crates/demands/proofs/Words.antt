@@ -1,18 +1,17 @@
 -- What is ASCII in a text reads alike on bytes and on characters: the ends of names, the name `amp`, character numbers. Assumes nothing.
 use mathlib.Core.Path.{_≡_, refl, ap, sym, _∙_}
-use Prim.Native.Nat.{ℕ, suc, _+_, _*_, _/_, _%_, _≤_, _<_}
+use Prim.Native.Nat.{ℕ, suc, _+_, _*_, _≤_, _<_}
 use native.Mathlib.Omega.{arith}
 use mathlib.Core.Bool.{Bool, true, false}
-use mathlib.Core.Option.{none}
 use mathlib.Core.List.{List, [], _∷_, _++_, append-assoc}
 use lib.ListN.{length}
 use lib.Dec.{eqb, ltb, lit≤}
-use borrow.Author.Tests.{eqb-true, ne-eqb, ltb-true, ltb-false}
+use borrow.Author.Tests.{eqb-true, ltb-true, ltb-false}
 use Rattle.text.specs.Bytes.{pick, sameBytes}
-use Rattle.text.proofs.Bytes.{above}
-use Rattle.charref.specs.CharRef.{digitValue, numberFrom, small, inBase, judge, charNumber, encode}
+use Rattle.charref.specs.CharRef.{digitValue, numberFrom, inBase, judge, charNumber, encode}
 use Rattle.charref.specs.declared.CharNumber.{CharNumber}
-use Rattle.charref.proofs.Encoding.{by-size, encode-1, encode-at-least}
+use Rattle.charref.proofs.Encoding.{encode-1, encode-at-least}
+use Rattle.charref.proofs.Apart.{AllApart, encode-apart, apart-append, encode-high, from-high, from-high-all, base-high, base-high-all, number-apart}
 use Rattle.charref.proofs.Numbers.{number-step, number-stop}
 use Rattle.tokens.specs.Tokens.{Stop, number, named, stop, head, ended, endless, nameAt, referenceTo}
 use Rattle.demands.specs.Characters.{encodeAll}
@@ -23,25 +22,6 @@ encode-append [] ys = refl
 encode-append (c ∷ cs) ys = ap (λ (l : List ℕ). encode c ++ l) (encode-append cs ys) ∙ sym (append-assoc (encode c) (encodeAll cs) (encodeAll ys))
 
 -- ---- an ASCII character is in the bytes only where it is in the characters
-
-abbrev pub AllApart : ℕ → List ℕ → Type 0
-AllApart x [] = Unit {0}
-AllApart x (b ∷ bs) = (eqb b x ≡ false) × AllApart x bs
-
-high : (x b : ℕ) → x < 0x80 → 0x80 ≤ b → eqb b x ≡ false
-high x b h k = ne-eqb b x (λ q. omega arith)
-
-pub encode-apart : (x n : ℕ) → x < 0x80 → eqb n x ≡ false → AllApart x (encode n)
-encode-apart x n h e =
-    by-size (AllApart x) n
-    (λ a. (e, tt))
-    (λ a b. (high x (0xC0 + n / 64) h (omega arith), (high x (0x80 + n % 64) h (omega arith), tt)))
-    (λ a b. (high x (0xE0 + n / 4096) h (omega arith), (high x (0x80 + n / 64 % 64) h (omega arith), (high x (0x80 + n % 64) h (omega arith), tt))))
-    (λ a. (high x (0xF0 + n / 262144) h (omega arith), (high x (0x80 + n / 4096 % 64) h (omega arith), (high x (0x80 + n / 64 % 64) h (omega arith), (high x (0x80 + n % 64) h (omega arith), tt)))))
-
-apart-append : (x : ℕ) (xs ys : List ℕ) → AllApart x xs → AllApart x ys → AllApart x (xs ++ ys)
-apart-append x [] ys h k = k
-apart-append x (b ∷ bs) ys h k = (h .0, apart-append x bs ys (h .1) k)
 
 pub all-apart : (x : ℕ) (cs : List ℕ) → x < 0x80 → AllApart x cs → AllApart x (encodeAll cs)
 unfolding encodeAll
@@ -109,31 +89,7 @@ same-ascii (c ∷ cs) (x ∷ xs) h = go (same-ascii cs xs (h .1)) (eqb c x) refl
 
 -- ---- character numbers
 
--- no digit is past ASCII
-no-digit : (b : ℕ) → 0x80 ≤ b → digitValue b ≡ 16
-unfolding digitValue
-no-digit b h = rw (above 48 57 b (omega arith), above 65 70 b (omega arith), above 97 102 b (omega arith))
-
-abbrev AllHigh : List ℕ → Type 0
-AllHigh [] = Unit {0}
-AllHigh (b ∷ bs) = (0x80 ≤ b) × AllHigh bs
-
-encode-high : (n : ℕ) → 0x80 ≤ n → AllHigh (encode n)
-encode-high n k =
-    by-size AllHigh n
-    (λ a. (k, tt))
-    (λ a b. (omega arith, (omega arith, tt)))
-    (λ a b. (omega arith, (omega arith, (omega arith, tt))))
-    (λ a. (omega arith, (omega arith, (omega arith, (omega arith, tt)))))
-
 module _ (base : ℕ) (small-base : base ≤ 16) where
-  from-high : (n b : ℕ) (bs : List ℕ) → 0x80 ≤ b → numberFrom base n (b ∷ bs) ≡ none
-  from-high n b bs h = number-stop base n b bs (rw (no-digit b h) small-base)
-
-  from-high-all : (n : ℕ) (w rest : List ℕ) → AllHigh w → 1 ≤ length w → numberFrom base n (w ++ rest) ≡ none
-  from-high-all n [] rest a h = absurd (omega arith)
-  from-high-all n (b ∷ bs) rest a h = from-high n b (bs ++ rest) (a .0)
-
   from-low : (n c : ℕ) (xs ys : List ℕ) → ((k : ℕ) → numberFrom base k xs ≡ numberFrom base k ys) → (t : Bool) → ltb (digitValue c) base ≡ t
       → numberFrom base n (c ∷ xs) ≡ numberFrom base n (c ∷ ys)
   from-low n c xs ys h true e =
@@ -151,16 +107,8 @@ module _ (base : ℕ) (small-base : base ≤ 16) where
       go : ((k : ℕ) → numberFrom base k (encodeAll cs) ≡ numberFrom base k cs) → (t : Bool) → ltb c 0x80 ≡ t → numberFrom base n (encode c ++ encodeAll cs) ≡ numberFrom base n (c ∷ cs)
       go ih true e = rw (encode-1 c (ltb-true c 0x80 e)) (from-low n c (encodeAll cs) cs ih (ltb (digitValue c) base) refl)
       go ih false e =
-          from-high-all n (encode c) (encodeAll cs) (encode-high c (ltb-false c 0x80 e)) (encode-at-least c)
-          ∙ sym (from-high n c cs (ltb-false c 0x80 e))
-
-  base-high : (b : ℕ) (bs : List ℕ) → 0x80 ≤ b → inBase base (b ∷ bs) ≡ small none
-  unfolding inBase
-  base-high b bs h = rw (ne-eqb b 43 (λ q. omega arith), ne-eqb b 45 (λ q. omega arith), from-high 0 b bs h)
-
-  base-high-all : (w rest : List ℕ) → AllHigh w → 1 ≤ length w → inBase base (w ++ rest) ≡ small none
-  base-high-all [] rest a h = absurd (omega arith)
-  base-high-all (b ∷ bs) rest a h = base-high b (bs ++ rest) (a .0)
+          from-high-all base small-base n (encode c) (encodeAll cs) (encode-high c (ltb-false c 0x80 e)) (encode-at-least c)
+          ∙ sym (from-high base small-base n c cs (ltb-false c 0x80 e))
 
   base-low : (c : ℕ) (xs ys : List ℕ) → numberFrom base 0 (c ∷ xs) ≡ numberFrom base 0 (c ∷ ys) → inBase base (c ∷ xs) ≡ inBase base (c ∷ ys)
   unfolding inBase
@@ -176,19 +124,14 @@ module _ (base : ℕ) (small-base : base ≤ 16) where
           let q = encode-1 c (ltb-true c 0x80 e) in
           rw q (base-low c (encodeAll cs) cs (rw q at (from-same (c ∷ cs) 0)))
       go false e =
-          base-high-all (encode c) (encodeAll cs) (encode-high c (ltb-false c 0x80 e)) (encode-at-least c)
-          ∙ sym (base-high c cs (ltb-false c 0x80 e))
+          base-high-all base small-base (encode c) (encodeAll cs) (encode-high c (ltb-false c 0x80 e)) (encode-at-least c)
+          ∙ sym (base-high base small-base c cs (ltb-false c 0x80 e))
 
 module _ (legal : ℕ → CharNumber) where
-  number-apart : (w rest : List ℕ) → AllApart 120 w → 1 ≤ length w → charNumber legal (w ++ rest) ≡ judge legal (inBase 10 (w ++ rest))
-  unfolding charNumber
-  number-apart [] rest a h = absurd (omega arith)
-  number-apart (b ∷ bs) rest a h = rw (a .0)
-
   number-first : (c : ℕ) (cs : List ℕ) (t : Bool) → eqb c 120 ≡ t → charNumber legal (encode c ++ encodeAll cs) ≡ judge legal (pick t (inBase 16 cs) (inBase 10 (c ∷ cs)))
   number-first c cs true e = rw (eqb-true c 120 e) (unfold encode in unfold charNumber in ap (judge legal) (base-same 16 (lit≤ tt) cs))
   number-first c cs false e =
-      number-apart (encode c) (encodeAll cs) (encode-apart 120 c (lit≤ tt) e) (encode-at-least c)
+      number-apart legal (encode c) (encodeAll cs) (encode-apart 120 c (lit≤ tt) e) (encode-at-least c)
       ∙ ap (judge legal) (unfold encodeAll in base-same 10 (lit≤ tt) (c ∷ cs))
 
   pub number-same : (ds : List ℕ) → charNumber legal (encodeAll ds) ≡ charNumber legal ds

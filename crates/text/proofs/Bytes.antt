@@ -5,7 +5,7 @@ use mathlib.Core.Bool.{Bool, true, false, _&&_, _||_, true≢false}
 use mathlib.Core.List.{List, [], _∷_, _++_}
 use lib.Dec.{eqb, leb}
 use lib.ListN.{length, drop}
-use borrow.Author.Tests.{eqb-true, eq-eqb, leb-false, le-leb, lt-leb}
+use borrow.Author.Tests.{eqb-true, eq-eqb, leb-true, leb-false, le-leb, lt-leb}
 use Rattle.text.specs.Bytes.{pick, within, sameBytes, begins}
 
 -- what holds of both holds of the one that is picked
@@ -45,6 +45,12 @@ or-right false b e = e
 -- lo ≤ b ≤ hi
 pub inside : (lo hi b : ℕ) → lo ≤ b → b ≤ hi → within lo hi b ≡ true
 inside lo hi b g h = rw (le-leb lo b g, le-leb b hi h)
+
+pub within-low : (lo hi b : ℕ) → within lo hi b ≡ true → lo ≤ b
+within-low lo hi b e = leb-true lo b (and-left (leb lo b) (leb b hi) e)
+
+pub within-top : (lo hi b : ℕ) → within lo hi b ≡ true → b ≤ hi
+within-top lo hi b e = leb-true b hi (and-right (leb lo b) (leb b hi) e)
 
 pub above : (lo hi b : ℕ) → hi < b → within lo hi b ≡ false
 above lo hi b h = go (leb lo b) (lt-leb b hi h)
