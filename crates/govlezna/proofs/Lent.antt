@@ -1,26 +1,25 @@
--- A call that is lent a cursor: what it leaves where the checks of the text refuse, and where they let it pass. Assumes nothing.
-use mathlib.Core.Path.{_≡_, sym, _∙_, ap}
+-- A call that is lent a cursor leaves the answer and the cursor of the piece that was checked. Assumes nothing.
+use mathlib.Core.Path.{_≡_, refl, _∙_, ap}
 use mathlib.Core.List.{List}
 use Prim.Native.Nat.{ℕ}
 use Rattle.text.specs.Call.{textCheck}
 use Rattle.text.specs.declared.Answer.{Answer}
 use Rattle.text.specs.declared.Answer.the-variants.{Done, Refused}
-use Rattle.utils.specs.CData.{cdataStep, pieceAnswer}
+use Rattle.utils.specs.CData.{cdataStep}
 use Rattle.utils.specs.declared.Cursor.{Cursor}
 use Rattle.utils.specs.declared.Stepped.{Stepped}
+use Rattle.checks.specs.declared.Answered.{Answered}
+use Rattle.checks.specs.Checked.{afterCheck, cdataAnswer}
+use Rattle.govlezna.specs.declared.CDataNext.{CDataNext}
 use Rattle.govlezna.specs.Calls.{cursorLeft, cursorGuarded, cdataNextCall}
 
-module _ (text : List ℕ) (cursor : Cursor) where
-  pub cursor-halts : {r : Answer} {number first second : ℕ} → r ≡ textCheck text → r ≡ Refused number first second
-      → cursorLeft r cursor ≡ cdataNextCall text cursor
-  unfolding cdataNextCall
-  cursor-halts e q =
-      ap (λ (a : Answer). cursorLeft a cursor) q ∙ sym (ap (λ (a : Answer). cursorGuarded a cursor (cdataStep text cursor)) (sym e ∙ q))
+abbrev leftOf : Answered → CDataNext
+leftOf x = cursorLeft (x .answer) (x .next)
 
-  pub cursor-passes : {r : Answer} {first second : ℕ} {step : Stepped} {answer : Answer} → r ≡ textCheck text → r ≡ Done first second
-      → step ≡ cdataStep text cursor → answer ≡ pieceAnswer (step .piece) → cursorLeft answer (step .next) ≡ cdataNextCall text cursor
-  unfolding cdataNextCall
-  cursor-passes {step = step} e q s a =
-      ap (λ (x : Answer). cursorLeft x (step .next)) a
-      ∙ ap (λ (x : Stepped). cursorLeft (pieceAnswer (x .piece)) (x .next)) s
-      ∙ sym (ap (λ (x : Answer). cursorGuarded x cursor (cdataStep text cursor)) (sym e ∙ q))
+left-guarded : (checked : Answer) (cursor : Cursor) (step : Stepped) → leftOf (afterCheck checked cursor step) ≡ cursorGuarded checked cursor step
+left-guarded (Done first second) cursor step = refl
+left-guarded (Refused number first second) cursor step = refl
+
+pub cursor-left : (text : List ℕ) (cursor : Cursor) {x : Answered} → x ≡ cdataAnswer text cursor → cursorLeft (x .answer) (x .next) ≡ cdataNextCall text cursor
+unfolding cdataNextCall
+cursor-left text cursor e = ap leftOf e ∙ left-guarded (textCheck text) cursor (cdataStep text cursor)

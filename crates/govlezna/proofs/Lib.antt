@@ -1,4 +1,3 @@
 mod Lent
 pub mod Passing
-mod Checks
 mod Examples

@@ -1,10 +1,10 @@
--- What the checks of a call let pass. Assumes nothing.
-use mathlib.Core.Path.{_≡_, refl}
-use mathlib.Core.List.{List}
+-- What the checks of a call answer, and what they let pass. Assumes nothing.
+use mathlib.Core.Path.{_≡_, refl, _∙_, ap}
+use mathlib.Core.List.{List, []}
 use Prim.Native.Nat.{ℕ, _≤_}
 use native.Mathlib.Omega.{arith}
 use lib.ListN.{length}
-use Rattle.text.specs.Call.{andThen, longestText, lengthCheck, utf8Check}
+use Rattle.text.specs.Call.{andThen, callOf, guarded, longestText, lengthCheck, utf8Check, textCheck}
 use Rattle.text.specs.declared.Answer.{Answer}
 use Rattle.text.specs.declared.Answer.the-variants.{Done, Refused}
 use Rattle.text.proofs.Call.{checked-length}
@@ -12,7 +12,22 @@ use Rattle.entity.specs.Table.{tableCheck, ValidTable}
 use Rattle.entity.proofs.Tables.{checked-table}
 use Rattle.attribute.specs.Checks.{settingsCheck}
 use Rattle.attribute.proofs.Checked.{checked-settings}
-use Rattle.govlezna.specs.Calls.{walkCheck}
+use Rattle.utils.specs.declared.Part.{Part}
+use Rattle.govlezna.specs.Calls.{partCall, trimCall, walkCheck}
+
+-- a call that answers with the first that refuses
+pub guards : (checked later : Answer) (buffers : List (List ℕ)) → callOf (andThen checked later) buffers ≡ guarded checked buffers (callOf later buffers)
+guards (Done first second) later buffers = refl
+guards (Refused number first second) later buffers = refl
+
+-- the part that a trim finds, once the text is checked
+pub trims : (trim : List ℕ → Part) (text : List ℕ) {answer : Answer} {part : Part} → answer ≡ andThen (textCheck text) (Done (part .start) (part .length))
+    → part ≡ trim text → callOf answer [] ≡ trimCall trim text
+unfolding trimCall partCall
+trims trim text {part = part} e p =
+    ap (λ (a : Answer). callOf a []) e
+    ∙ guards (textCheck text) (Done (part .start) (part .length)) []
+    ∙ ap (λ (x : Part). partCall text x) p
 
 record Passes (a : Answer) : Type 0 where
   first : ℕ

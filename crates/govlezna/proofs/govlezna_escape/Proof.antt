@@ -1,26 +1,18 @@
 -- `govlezna_escape` answers as its checks refuse, or else as `escape` does, whose text is then no longer than 16,777,216 bytes.
-use mathlib.Core.Path.{_≡_, sym, ap, _∙_}
+use mathlib.Core.Path.{sym, _∙_}
 use mathlib.Core.List.{[], _∷_}
-use Rattle.text.specs.Call.{argumentCheck}
 use Rattle.text.proofs.Call.{halts, passes, checked-length}
-use Rattle.escape.specs.Escape.{levelCheck}
 use Rattle.govlezna.specs.Calls.{escapeCall}
 use borrow.Author.Needs.{needs}
 use Rattle.govlezna.proofs.govlezna_escape.Statement.{statement}
 use Rattle.govlezna.proofs.govlezna_escape.Tie as tie
 
--- the entry, seen from the place after the checks, and what these gave
-abbrev entry : tie.After-check-arguments → tie.Start
-entry c = c .before .before .before .before
+-- the entry, seen from the place after the checks
+abbrev entry : tie.After-check-escape → tie.Start
+entry c = c .before .before .before
 
-checked : (c : tie.After-check-arguments) → c .check-arguments .result ≡ argumentCheck (entry c .args .text .now) (levelCheck (entry c .args .level))
-checked c = c .check-arguments .ensures ∙ ap (argumentCheck (entry c .args .text .now)) (c .before .check-level .ensures)
-
-check-level-requires : tie.Need-check-level-requires
-check-level-requires c κs = search needs
-
-check-arguments-requires : tie.Need-check-arguments-requires
-check-arguments-requires c κs = search needs
+check-escape-requires : tie.Need-check-escape-requires
+check-escape-requires c κs = search needs
 
 enum-told : tie.Need-enum-told
 enum-told c = search needs
@@ -36,12 +28,12 @@ unfolding escapeCall
 returns c =
     let asked = c .before .before .before .before in
     let lent = entry asked .args .out .now ∷ [] in
-    c .put .ensures lent ∙ halts lent _ (checked asked) (c .before .before .enum-told2 .given .1)
+    c .put .ensures lent ∙ halts lent _ (asked .check-escape .ensures) (c .before .before .enum-told2 .given .1)
 
 escape-requires : tie.Need-escape-requires
 escape-requires c κs =
     let asked = c .before .before .before in
-    checked-length (entry asked .args .text .now) _ (sym (asked .check-arguments .ensures) ∙ c .before .enum-told .given .1)
+    checked-length (entry asked .args .text .now) _ (sym (asked .check-escape .ensures) ∙ c .before .enum-told .given .1)
 
 put-requires-2 : tie.Need-put-requires-2
 put-requires-2 c κs = search needs
@@ -55,14 +47,13 @@ returns-2 c =
     let wrote = c .before .before .before .before in
     let told = wrote .before .before in
     let asked = told .before .before in
-    c .put2 .ensures _ ∙ wrote .escape .ensures ∙ passes (entry asked .args .out .now ∷ []) _ (checked asked) (told .enum-told .given .1)
+    c .put2 .ensures _ ∙ wrote .escape .ensures ∙ passes (entry asked .args .out .now ∷ []) _ (asked .check-escape .ensures) (told .enum-told .given .1)
 
 pub govlezna-escape-spec : {M : Type 1} → statement M
 govlezna-escape-spec =
     tie.close
     (tie.spec
-    check-level-requires
-    check-arguments-requires
+    check-escape-requires
     enum-told
     enum-told-2
     put-requires

@@ -1,26 +1,18 @@
 -- `govlezna_normalize_eols` answers as its checks refuse, or else as `normalize_eols` does.
-use mathlib.Core.Path.{_≡_, ap, _∙_}
+use mathlib.Core.Path.{_∙_}
 use mathlib.Core.List.{[], _∷_}
-use Rattle.text.specs.Call.{argumentCheck, versionCheck}
 use Rattle.text.proofs.Call.{halts, passes}
 use Rattle.govlezna.specs.Calls.{normalizeEolsCall}
 use borrow.Author.Needs.{needs}
 use Rattle.govlezna.proofs.govlezna_normalize_eols.Statement.{statement}
 use Rattle.govlezna.proofs.govlezna_normalize_eols.Tie as tie
 
--- the entry, seen from the place after the checks, and what these gave
-abbrev entry : tie.After-check-arguments → tie.Start
-entry c = c .before .before .before .before
+-- the entry, seen from the place after the checks
+abbrev entry : tie.After-check-eols → tie.Start
+entry c = c .before .before .before
 
-checked : (c : tie.After-check-arguments)
-    → c .check-arguments .result ≡ argumentCheck (entry c .args .text .now) (versionCheck (entry c .args .version))
-checked c = c .check-arguments .ensures ∙ ap (argumentCheck (entry c .args .text .now)) (c .before .check-version .ensures)
-
-check-version-requires : tie.Need-check-version-requires
-check-version-requires c κs = search needs
-
-check-arguments-requires : tie.Need-check-arguments-requires
-check-arguments-requires c κs = search needs
+check-eols-requires : tie.Need-check-eols-requires
+check-eols-requires c κs = search needs
 
 enum-told : tie.Need-enum-told
 enum-told c = search needs
@@ -36,7 +28,7 @@ unfolding normalizeEolsCall
 returns c =
     let asked = c .before .before .before .before in
     let lent = entry asked .args .out .now ∷ [] in
-    c .put .ensures lent ∙ halts lent _ (checked asked) (c .before .before .enum-told2 .given .1)
+    c .put .ensures lent ∙ halts lent _ (asked .check-eols .ensures) (c .before .before .enum-told2 .given .1)
 
 normalize-eols-requires : tie.Need-normalize-eols-requires
 normalize-eols-requires c κs = search needs
@@ -53,14 +45,13 @@ returns-2 c =
     let wrote = c .before .before .before .before in
     let told = wrote .before .before in
     let asked = told .before .before in
-    c .put2 .ensures _ ∙ wrote .normalize-eols .ensures ∙ passes (entry asked .args .out .now ∷ []) _ (checked asked) (told .enum-told .given .1)
+    c .put2 .ensures _ ∙ wrote .normalize-eols .ensures ∙ passes (entry asked .args .out .now ∷ []) _ (asked .check-eols .ensures) (told .enum-told .given .1)
 
 pub govlezna-normalize-eols-spec : {M : Type 1} → statement M
 govlezna-normalize-eols-spec =
     tie.close
     (tie.spec
-    check-version-requires
-    check-arguments-requires
+    check-eols-requires
     enum-told
     enum-told-2
     put-requires

@@ -5,7 +5,7 @@ use mathlib.Core.List.{[]}
 use Rattle.text.specs.Call.{callOf, textCheck}
 use Rattle.text.specs.declared.Answer.{Answer}
 use Rattle.govlezna.specs.Calls.{parseNumberCall}
-use Rattle.govlezna.proofs.Checks.{guards}
+use Rattle.govlezna.proofs.Passing.{guards}
 use borrow.Author.Needs.{needs}
 use Rattle.govlezna.proofs.govlezna_parse_number.Statement.{statement}
 use Rattle.govlezna.proofs.govlezna_parse_number.Tie as tie

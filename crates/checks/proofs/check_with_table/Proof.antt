@@ -1,8 +1,8 @@
 use mathlib.Core.Path.{refl, _∙_}
 use Rattle.text.proofs.Call.{goes-on}
 use borrow.Author.Needs.{needs}
-use Rattle.govlezna.proofs.check_with_table.Statement.{statement}
-use Rattle.govlezna.proofs.check_with_table.Tie as tie
+use Rattle.checks.proofs.check_with_table.Statement.{statement}
+use Rattle.checks.proofs.check_with_table.Tie as tie
 
 enum-told : tie.Need-enum-told
 enum-told c = search needs

@@ -4,10 +4,10 @@ use mathlib.Core.List.{List}
 use Prim.Native.Nat.{ℕ}
 use Rattle.charref.specs.CharRef.{numberAnswer, charNumber, anyCharacter}
 use Rattle.charref.proofs.Ascii.{number-utf8}
-use Rattle.govlezna.proofs.Checks.{first-answers, second-answers, later-answers, known-answers}
+use Rattle.checks.proofs.Checks.{first-answers, second-answers, later-answers, known-answers}
 use borrow.Author.Needs.{needs}
-use Rattle.govlezna.proofs.checked_number.Statement.{statement}
-use Rattle.govlezna.proofs.checked_number.Tie as tie
+use Rattle.checks.proofs.checked_number.Statement.{statement}
+use Rattle.checks.proofs.checked_number.Tie as tie
 
 -- the text, seen from the check of its length, and that check, seen from the number
 abbrev text : tie.After-check-length → List ℕ

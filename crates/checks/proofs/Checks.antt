@@ -5,14 +5,9 @@ use Prim.Native.Nat.{ℕ}
 use lib.ListN.{length}
 use borrow.Author.Tests.{eq-eqb}
 use Rattle.text.specs.Utf8.{utf8End}
-use Rattle.text.specs.Call.{andThen, callOf, guarded, lengthCheck, utf8Check, textCheck, passed}
+use Rattle.text.specs.Call.{andThen, lengthCheck, utf8Check, textCheck, passed}
 use Rattle.text.specs.declared.Answer.{Answer}
 use Rattle.text.specs.declared.Answer.the-variants.{Done, Refused}
-
--- a call that answers with the first that refuses
-pub guards : (checked later : Answer) (buffers : List (List ℕ)) → callOf (andThen checked later) buffers ≡ guarded checked buffers (callOf later buffers)
-guards (Done first second) later buffers = refl
-guards (Refused number first second) later buffers = refl
 
 module _ (text : List ℕ) (later : Answer) where
   pub first-answers : {r : Answer} {number first second : ℕ} → r ≡ lengthCheck text → r ≡ Refused number first second → r ≡ andThen (textCheck text) later

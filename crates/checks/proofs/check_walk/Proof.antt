@@ -6,8 +6,8 @@ use Rattle.text.specs.declared.Answer.{Answer}
 use Rattle.text.specs.Call.{andThen, argumentCheck}
 use Rattle.entity.specs.Table.{tableCheck}
 use borrow.Author.Needs.{needs}
-use Rattle.govlezna.proofs.check_walk.Statement.{statement}
-use Rattle.govlezna.proofs.check_walk.Tie as tie
+use Rattle.checks.proofs.check_walk.Statement.{statement}
+use Rattle.checks.proofs.check_walk.Tie as tie
 
 -- the check of the table after that of the arguments, whatever the settings gave
 with-table : (text list pool : List ℕ) {checked settings asked : Answer} → checked ≡ argumentCheck text settings → settings ≡ asked

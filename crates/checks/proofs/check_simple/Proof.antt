@@ -7,8 +7,8 @@ use Rattle.text.specs.Call.{utf8Check, passed}
 use Rattle.text.proofs.Call.{stops, goes-on}
 use Rattle.text.proofs.Printable.{simple-end}
 use borrow.Author.Needs.{needs}
-use Rattle.govlezna.proofs.check_simple.Statement.{statement}
-use Rattle.govlezna.proofs.check_simple.Tie as tie
+use Rattle.checks.proofs.check_simple.Statement.{statement}
+use Rattle.checks.proofs.check_simple.Tie as tie
 
 check-length-requires : tie.Need-check-length-requires
 check-length-requires c κs = search needs
