@@ -132,8 +132,9 @@ pub fn check_eols(text: &[u8], version: u8) -> Answer
     text::check_arguments(text, text::check_version(version))
 }
 
-// Of a table, 6 to 9, after checks that were made before.
-fn check_with_table(checked: Answer, list: &[u8], pool: &[u8]) -> Answer
+// Of a table, 6 to 9, after checks that were made before. Unescaping calls it itself: one function more between them, with three slices,
+// took 12 instructions more.
+pub fn check_with_table(checked: Answer, list: &[u8], pool: &[u8]) -> Answer
     ensures { λ r. ⌜ r ≡ andThen checked (tableCheck (now (list .entry)) (now (pool .entry))) ⌝ }
 {
     let Answer::Done {
@@ -144,13 +145,6 @@ fn check_with_table(checked: Answer, list: &[u8], pool: &[u8]) -> Answer
         return checked;
     };
     entity::check_lent(list, pool)
-}
-
-// Of a text and a table: 1, 5, 6 to 9.
-pub fn check_unescape(text: &[u8], list: &[u8], pool: &[u8]) -> Answer
-    ensures { λ r. ⌜ r ≡ andThen (textCheck (now (text .entry))) (tableCheck (now (list .entry)) (now (pool .entry))) ⌝ }
-{
-    check_with_table(text::check_text(text), list, pool)
 }
 
 // text::check_arguments for a text that is known to be simple, and so UTF-8.

@@ -94,7 +94,7 @@ pub extern "C" fn govlezna_unescape(
 ) -> u32
     ensures { λ r. ⌜ called r (now (answer .exit)) (now (out .exit) ∷ []) ≡ unescapeCall (now (text .entry)) (now (list .entry)) (now (pool .entry)) (now (out .entry)) ⌝ }
 {
-    let table_checked = checks::check_unescape(text, list, pool);
+    let table_checked = checks::check_with_table(text::check_text(text), list, pool);
     let Answer::Done {
         first: _,
         second: _,
