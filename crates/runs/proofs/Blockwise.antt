@@ -23,22 +23,6 @@ pub record Blocks (stops : ℕ → Bool) (text : List ℕ) (i : ℕ) (old out : 
   pub room : k ≤ length out
   pub holds : Put text i e old out
 
--- a part of a run
-pub plain-part : {stops : ℕ → Bool} {text : List ℕ} {i f m n : ℕ} → Plain stops text i f → i ≤ m → m ≤ n → n ≤ f → Plain stops text m n
-plain-part p h g l = record { from = g; to = omega (arith, p .to); none = λ k a b. p .none k (omega arith) (omega arith) }
-
--- a piece of `n` bytes without a stop, byte by byte or at once
-pub within-all : {stops : ℕ → Bool} {text : List ℕ} {e n f : ℕ} → Within stops text e n f → e + n ≤ f → Plain stops text e (e + n)
-within-all {e = e} {n} {f} w h =
-    let q : f ≡ e + n = omega (arith, w .to) in
-    rw q at (w .run)
-
-pub piece-near : {stops : ℕ → Bool} {text : List ℕ} {e n : ℕ} (old : List ℕ) {out : List ℕ} {f : ℕ} → Within stops text e n f × Put text e f old out → e + n ≤ f
-    → Plain stops text e (e + n) × Put text e (e + n) old out
-piece-near {e = e} {n} old {f = f} w h =
-    let q : f ≡ e + n = omega (arith, w .0 .to) in
-    (within-all (w .0) h, rw q at (w .1))
-
 module _ {stops : ℕ → Bool} {text : List ℕ} {i : ℕ} {old : List ℕ} where
   -- nothing yet, or the near bytes
   pub blocks-none : i ≤ length text → {out : List ℕ} {k : ℕ} → out ≡ old → k ≡ 0 → Blocks stops text i old out (i + k) k

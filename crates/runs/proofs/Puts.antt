@@ -12,7 +12,7 @@ use Rattle.output.specs.Runs.{Plain}
 use Rattle.output.proofs.Clip.{over-byte, over-more, length-over}
 use Rattle.output.proofs.Runs.{plain-none}
 use Rattle.runs.specs.RunEnds.{Within, Put}
-use Rattle.runs.proofs.Search.{plain-next, within-here, within-none}
+use Rattle.runs.proofs.Search.{plain-next, within-all, within-here, within-none}
 
 -- how long a piece is, and how it grows
 pub piece-length : (text : List ℕ) (i e : ℕ) → e ≤ length text → length (take (e - i) (drop i text)) ≡ e - i
@@ -97,3 +97,10 @@ module _ (stops : ℕ → Bool) (text : List ℕ) (i n : ℕ) (fits : i + n ≤ 
     nearby-all h =
         let q : k ≡ n = omega (arith, b .count) in
         (within-none stops text i n (rw q at (b .run)), rw q at (b .holds))
+
+-- a search that found none, with what was copied
+pub piece-near : {stops : ℕ → Bool} {text : List ℕ} {e n : ℕ} (old : List ℕ) {out : List ℕ} {f : ℕ} → Within stops text e n f × Put text e f old out → e + n ≤ f
+    → Plain stops text e (e + n) × Put text e (e + n) old out
+piece-near {e = e} {n} old {f = f} w h =
+    let q : f ≡ e + n = omega (arith, w .0 .to) in
+    (within-all (w .0) h, rw q at (w .1))

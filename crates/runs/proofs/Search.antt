@@ -2,12 +2,22 @@
 use mathlib.Core.Path.{_≡_}
 use mathlib.Core.Bool.{Bool, true, false}
 use mathlib.Core.List.{List}
-use Prim.Native.Nat.{ℕ, _+_, _<_}
+use Prim.Native.Nat.{ℕ, _+_, _≤_, _<_}
 use native.Mathlib.Omega.{arith}
 use lib.ListN.{length, getD}
 use Rattle.output.specs.Runs.{Plain}
 use Rattle.output.proofs.Runs.{plain-byte, plain-join}
 use Rattle.runs.specs.RunEnds.{RunEnd, Within}
+
+-- a part of a run
+pub plain-part : {stops : ℕ → Bool} {text : List ℕ} {i f m n : ℕ} → Plain stops text i f → i ≤ m → m ≤ n → n ≤ f → Plain stops text m n
+plain-part p h g l = record { from = g; to = omega (arith, p .to); none = λ k a b. p .none k (omega arith) (omega arith) }
+
+-- a search that found none
+pub within-all : {stops : ℕ → Bool} {text : List ℕ} {e n f : ℕ} → Within stops text e n f → e + n ≤ f → Plain stops text e (e + n)
+within-all {e = e} {n} {f} w h =
+    let q : f ≡ e + n = omega (arith, w .to) in
+    rw q at (w .run)
 
 module _ (stops : ℕ → Bool) (text : List ℕ) (i : ℕ) where
   -- one byte more

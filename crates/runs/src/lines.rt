@@ -12,7 +12,7 @@ ghost use Rattle.runs.specs.RunEnds.{lineStop};
 fn is_stop(b: u8, newer: bool) -> bool
     ensures { λ r. ⌜ r ≡ lineStop newer b ⌝ }
 {
-    (b == 13) | (newer & ((b == 0xc2) | (b == 0xe2)))
+    (b == b'\r') | (newer & ((b == 0xc2) | (b == 0xe2)))
 }
 
 // Letters and most other bytes are stops of neither version: one comparison tells.
@@ -37,7 +37,7 @@ fn any_stop(text: &[u8], i: usize, newer: bool, size: usize) -> bool
     requires { ⌜ i + size ≤ length (now text) ⌝ }
     ensures { λ r. ⌜ (r ≡ false → Plain (lineStop newer) (now (text .entry)) i (i + size)) ⌝ }
 {
-    if output::any_of(text, i, size, 13, 13) {
+    if output::any_of(text, i, size, b'\r', b'\r') {
         return true;
     }
     if newer {

@@ -8,8 +8,7 @@ use lib.ListN.{length}
 use Rattle.output.specs.Runs.{Plain}
 use Rattle.output.proofs.Runs.{plain-none, plain-join}
 use Rattle.runs.specs.RunEnds.{isAmp}
-use Rattle.runs.proofs.Blockwise.{within-all}
-use Rattle.runs.proofs.Search.{end-near, end-after}
+use Rattle.runs.proofs.Search.{within-all, end-near, end-after}
 use borrow.Author.Needs.{needs}
 use Rattle.runs.proofs.amp.amp_end.Statement.{statement}
 use Rattle.runs.proofs.amp.amp_end.Tie as tie

@@ -8,8 +8,8 @@ use borrow.Author.Tests.{eqb-true}
 use Rattle.output.specs.Runs.{Plain}
 use Rattle.output.proofs.Runs.{plain-join}
 use Rattle.runs.specs.RunEnds.{isAmp}
-use Rattle.runs.proofs.Blockwise.{plain-part}
 use borrow.Author.Needs.{needs}
+use Rattle.runs.proofs.Search.{plain-part}
 use Rattle.runs.proofs.amp.is_whole.Statement.{statement}
 use Rattle.runs.proofs.amp.is_whole.Tie as tie
 

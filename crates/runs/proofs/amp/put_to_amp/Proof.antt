@@ -8,8 +8,8 @@ use borrow.Author.Needs.{needs}
 use borrow.Rule.Slice.PartMut.{midOf}
 use Rattle.runs.specs.RunEnds.{isAmp}
 use Rattle.runs.proofs.Search.{end-near}
-use Rattle.runs.proofs.Puts.{put-length}
-use Rattle.runs.proofs.Blockwise.{Blocks, Blockwise, blocks-none, blocks-near, blocks-of, blocks-rest, rest-length, blockwise-start, blockwise-put, blockwise-laid, block-inside, block-fits, piece-near}
+use Rattle.runs.proofs.Puts.{put-length, piece-near}
+use Rattle.runs.proofs.Blockwise.{Blocks, Blockwise, blocks-none, blocks-near, blocks-of, blocks-rest, rest-length, blockwise-start, blockwise-put, blockwise-laid, block-inside, block-fits}
 use Rattle.runs.proofs.amp.put_to_amp.Statement.{statement}
 use Rattle.runs.proofs.amp.put_to_amp.Tie as tie
 
