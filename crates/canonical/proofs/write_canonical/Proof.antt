@@ -20,12 +20,15 @@ Inv-loop value newer out₀ chars at₀ i₀ out at i =
 abbrev μ-loop : tie.MeasureT-loop
 μ-loop value newer out₀ chars at₀ i₀ out at i = length value - i
 
--- places: the entry, seen from a turn; the turn, seen from the end of a run; that, seen from where it is not the last
+-- places: the entry, seen from a turn; the turn and its search, seen from the end of a run; that, seen from where it is not the last
 abbrev entry : tie.At-loop Inv-loop μ-loop → tie.Start Inv-loop μ-loop
 entry c = c .before .before .before .before
 
 abbrev turn : tie.After-write-escaped Inv-loop μ-loop → tie.At-loop Inv-loop μ-loop
 turn c = c .before .before .before .before
+
+abbrev found : tie.After-write-escaped Inv-loop μ-loop → tie.After-next-special Inv-loop μ-loop
+found c = c .before .before .before
 
 abbrev run : tie.Else1 Inv-loop μ-loop → tie.After-write-escaped Inv-loop μ-loop
 run c = c .before .before .before
@@ -33,30 +36,45 @@ run c = c .before .before .before
 abbrev start : tie.Else1 Inv-loop μ-loop → tie.Start Inv-loop μ-loop
 start c = entry (turn (run c))
 
--- where the run ends
-abbrev end : tie.After-write-escaped Inv-loop μ-loop → ℕ
-end c = c .before .before .before .next-special .result
+-- from the end of the reference after it: where its width is told, and where the run is not the last
+abbrev measured : tie.After-special-length Inv-loop μ-loop → tie.After-special-width Inv-loop μ-loop
+measured c = c .before .before .before .before .before
 
--- what lies in the output after it
+abbrev ended : tie.After-special-length Inv-loop μ-loop → tie.Else1 Inv-loop μ-loop
+ended c = measured c .before
+
+-- what is to be written, whole and from an index on
+abbrev whole : tie.Start Inv-loop μ-loop → List ℕ
+whole s = canonical (ruleFor (s .args .newer)) (s .args .value .now)
+
+abbrev rest : tie.Start Inv-loop μ-loop → ℕ → List ℕ
+rest s i = canonicalFrom (ruleFor (s .args .newer)) 0 (drop i (s .args .value .now))
+
+-- where the run ends, in the value and in the output
+abbrev end : tie.After-write-escaped Inv-loop μ-loop → ℕ
+end c = found c .next-special .result
+
+abbrev reached : tie.After-write-escaped Inv-loop μ-loop → ℕ
+reached c = turn c .loop .at + c .write-escaped .result
+
+-- what lies in the output then
 abbrev held : tie.After-write-escaped Inv-loop μ-loop → List ℕ
 held c =
     let l = turn c .loop in
     putMid (l .at) (length (l .out) - l .at) (l .out) (c .write-escaped .last .1 .1 .0)
 
 run-put : (c : tie.After-write-escaped Inv-loop μ-loop)
-    → Written (canonical (ruleFor (entry (turn c) .args .newer)) (entry (turn c) .args .value .now))
-    (canonicalFrom (ruleFor (entry (turn c) .args .newer)) 0 (drop (end c) (entry (turn c) .args .value .now)))
-    (entry (turn c) .args .out .now) (held c) (turn c .loop .at + c .write-escaped .result)
+    → Written (whole (entry (turn c))) (rest (entry (turn c)) (end c)) (entry (turn c) .args .out .now) (held c) (reached c)
 run-put c =
     let a = entry (turn c) .args in
     let l = turn c .loop in
     let put = c .write-escaped .ensures in
-    run-written (ruleFor (a .newer)) (a .value .now) (l .i) (end c) (c .before .before .before .next-special .ensures .0)
+    run-written (ruleFor (a .newer)) (a .value .now) (l .i) (end c) (found c .next-special .ensures .0)
     (c .before .before .before .before .before .escape-chars .ensures) (l .inv .1) (put .0) (put .1)
 
 -- a run that is not the last ends inside
 inside : (c : tie.Else1 Inv-loop μ-loop) → end (run c) < length (start c .args .value .now)
-inside c = omega (arith, c .if1 .left, run c .before .before .before .next-special .ensures .0 .to)
+inside c = omega (arith, c .if1 .left, found (run c) .next-special .ensures .0 .to)
 
 escape-chars-requires : tie.Need-escape-chars-requires Inv-loop μ-loop
 escape-chars-requires c κs = search needs
@@ -129,7 +147,7 @@ put-special-requires : tie.Need-put-special-requires Inv-loop μ-loop
 put-special-requires c κs =
     let e = c .before .before in
     let a = start e .args in
-    own-room (a .newer) (a .value .now) (end (run e)) (inside e) (run e .before .before .before .next-special .ensures .1 (inside e))
+    own-room (a .newer) (a .value .now) (end (run e)) (inside e) (found (run e) .next-special .ensures .1 (inside e))
     (c .before .special-width .ensures) (run-put (run e)) (start e .pre)
 
 special-length-requires : tie.Need-special-length-requires Inv-loop μ-loop
@@ -140,45 +158,35 @@ next-inside : (c : tie.After-special-width Inv-loop μ-loop) → end (run (c .be
 next-inside c =
     let e = c .before in
     let a = start e .args in
-    own-inside (a .newer) (a .value .now) (end (run e)) (inside e) (run e .before .before .before .next-special .ensures .1 (inside e)) (c .special-width .ensures)
+    own-inside (a .newer) (a .value .now) (end (run e)) (inside e) (found (run e) .next-special .ensures .1 (inside e)) (c .special-width .ensures)
 
 own-put : (c : tie.After-special-length Inv-loop μ-loop)
-    → Written (canonical (ruleFor (start (c .before .before .before .before .before .before) .args .newer))
-    (start (c .before .before .before .before .before .before) .args .value .now))
-    (canonicalFrom (ruleFor (start (c .before .before .before .before .before .before) .args .newer)) 0
-    (drop (end (run (c .before .before .before .before .before .before)) + c .before .before .before .before .before .special-width .result)
-    (start (c .before .before .before .before .before .before) .args .value .now)))
-    (start (c .before .before .before .before .before .before) .args .out .now)
-    (putMid (turn (run (c .before .before .before .before .before .before)) .loop .at + run (c .before .before .before .before .before .before) .write-escaped .result)
-    (length (held (run (c .before .before .before .before .before .before))) -
-    (turn (run (c .before .before .before .before .before .before)) .loop .at + run
-    (c .before .before .before .before .before .before) .write-escaped .result)) (held (run (c .before .before .before .before .before .before)))
-    (c .before .before .before .put-special .last .1 .0))
-    (turn (run (c .before .before .before .before .before .before)) .loop .at + run
-    (c .before .before .before .before .before .before) .write-escaped .result + c .special-length .result)
+    → Written (whole (start (ended c))) (rest (start (ended c)) (end (run (ended c)) + measured c .special-width .result)) (start (ended c) .args .out .now)
+    (putMid (reached (run (ended c))) (length (held (run (ended c))) - reached (run (ended c))) (held (run (ended c))) (c .before .before .before .put-special .last .1 .0))
+    (reached (run (ended c)) + c .special-length .result)
 own-put c =
-    let e = c .before .before .before .before .before .before in
+    let e = ended c in
     let a = start e .args in
-    own-written (a .newer) (a .value .now) (end (run e)) (inside e) (run e .before .before .before .next-special .ensures .1 (inside e))
-    (c .before .before .before .before .before .special-width .ensures)
+    own-written (a .newer) (a .value .now) (end (run e)) (inside e) (found (run e) .next-special .ensures .1 (inside e))
+    (measured c .special-width .ensures)
     (run-put (run e)) (c .special-length .ensures .0) (c .before .before .before .put-special .ensures)
 
 add-at-2 : tie.Need-add-at-2 Inv-loop μ-loop
-add-at-2 c = omega (arith, to-come (own-put c), start (c .before .before .before .before .before .before) .pre)
+add-at-2 c = omega (arith, to-come (own-put c), start (ended c) .pre)
 
 add-i : tie.Need-add-i Inv-loop μ-loop
-add-i c = omega (arith, next-inside (c .before .before .before .before .before))
+add-i c = omega (arith, next-inside (measured c))
 
 loop-less : tie.Need-loop-less Inv-loop μ-loop
 loop-less c =
-    let w = c .before .before .before .before .before in
+    let w = measured c in
     let e = w .before in
     let a = start e .args in
-    let least = own-least (a .newer) (a .value .now) (end (run e)) (inside e) (run e .before .before .before .next-special .ensures .1 (inside e)) (w .special-width .ensures) in
-    omega (arith, run e .before .before .before .next-special .ensures .0 .from, least, next-inside w)
+    let least = own-least (a .newer) (a .value .now) (end (run e)) (inside e) (found (run e) .next-special .ensures .1 (inside e)) (w .special-width .ensures) in
+    omega (arith, found (run e) .next-special .ensures .0 .from, least, next-inside w)
 
 loop-again : tie.Need-loop-again Inv-loop μ-loop
-loop-again c = (next-inside (c .before .before .before .before .before), own-put c)
+loop-again c = (next-inside (measured c), own-put c)
 
 pub write-canonical-spec : {M : Type 1} → statement M
 write-canonical-spec =
