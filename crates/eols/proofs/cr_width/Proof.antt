@@ -1,5 +1,7 @@
 -- `cr_width`: a law for each return (`cr-lf`, `cr-nel`, `cr-alone11`, `cr-alone10`), at an index by `width-at`.
 use mathlib.Core.Path.{sym, _∙_}
+use Prim.Native.Nat.{_+_}
+use lib.ListN.{getD, drop}
 use borrow.Author.Needs.{needs}
 use Rattle.eols.proofs.LineEnds.{width-at, cr-lf, cr-nel, cr-alone10, cr-alone11}
 use Rattle.eols.proofs.cr_width.Statement.{statement}
@@ -14,7 +16,9 @@ byte-at-requires c κs = search needs
 returns : tie.Need-returns
 returns c =
     let s = c .before .before .before in
-    width-at _ (s .args .text .now) (s .args .i) (s .pre .0) (cr-lf _ _ (s .args .newer) (s .pre .1) (sym (c .before .byte-at .ensures) ∙ c .if1 .taken))
+    let t = s .args .text .now in
+    let i = s .args .i in
+    width-at _ t i (s .pre .0) (cr-lf (getD t i 0) (drop (i + 1) t) (s .args .newer) (s .pre .1) (sym (c .before .byte-at .ensures) ∙ c .if1 .taken))
 
 add-two-at : tie.Need-add-two-at
 add-two-at c = search needs
