@@ -16,3 +16,4 @@ pub mod Repeats
 pub mod Alike
 pub mod Memory
 pub mod Going
+pub mod Entries
