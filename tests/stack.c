@@ -11,7 +11,7 @@
 #include <stdlib.h>
 #include <string.h>
 
-#define PROMISED ((size_t)81920) /* as include/govlezna.h says */
+#define PROMISED ((size_t)73728) /* as include/govlezna.h says */
 #define DEPTH 128
 #define ROOM ((size_t)1 << 20)
 #define PAINT 0xA5

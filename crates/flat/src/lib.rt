@@ -340,6 +340,17 @@ fn halt_step(
     }
 }
 
+// The next halt, after so many. Where these were less than 24 bytes apart, it is looked for byte by byte first.
+fn halt_after(text: &[u8], at: usize, met: u64, newer: bool) -> usize
+    requires { ⌜ (at ≤ length (now text)) × (length (now text) ≤ 16777216) × (met ≤ 16777217) ⌝ }
+    ensures { λ r. ⌜ HaltAt newer (now (text .entry)) at r ⌝ }
+{
+    if at as u64 + 24 < met * 24 {
+        return halts::near_halt(text, at, newer);
+    }
+    halts::next_halt(text, at, newer)
+}
+
 // From a place on, whose next halt is at `first`, up to a text that has to be opened. The depth is not used up.
 pub fn normalize_flat(
     text: &[u8],
@@ -420,6 +431,6 @@ pub fn normalize_flat(
             }
         }
         met += 1;
-        end = halts::next_halt(text, at, reading.how == 1);
+        end = halt_after(text, at, met, reading.how == 1);
     }
 }

@@ -182,6 +182,16 @@ common-unsuspected b e =
     let g : b ≤ 0xC1 = leb-true b 0xC1 (and-right (leb 39 b) (leb b 0xC1) e) in
     rw (ne-eqb b 38 (λ q. omega arith), ne-eqb b 13 (λ q. omega arith), ne-eqb b 0xC2 (λ q. omega arith), ne-eqb b 0xE2 (λ q. omega arith))
 
+-- ASCII bytes start none but `&` and CR; those from 39 on are neither
+pub ascii-unsuspected : (b : ℕ) → eqb b 38 || eqb b 13 ≡ false → b ≤ 0x7F → suspectByte true b ≡ false
+ascii-unsuspected b e h = rw (e, ne-eqb b 0xC2 (λ q. omega (arith, q, h)), ne-eqb b 0xE2 (λ q. omega (arith, q, h)))
+
+pub middle-unsuspected : (b : ℕ) → ltb b 39 || ltb 0x7F b ≡ false → suspectByte true b ≡ false
+middle-unsuspected b e =
+    let low : 39 ≤ b = ltb-false b 39 (or-left (ltb b 39) (ltb 0x7F b) e) in
+    let high : b ≤ 0x7F = ltb-false 0x7F b (or-right (ltb b 39) (ltb 0x7F b) e) in
+    ascii-unsuspected b (rw (ne-eqb b 38 (λ q. omega (arith, q, low)), ne-eqb b 13 (λ q. omega (arith, q, low)))) high
+
 pub suspect-halts : (newer : Bool) (b : ℕ) (bs : List ℕ) → suspectByte newer b ≡ false → halts newer (b ∷ bs) ≡ false
 suspect-halts false b bs e = rw e
 suspect-halts true b bs e =

@@ -20,8 +20,7 @@ fn is_stop(b: u8, newer: bool) -> bool
     (b == b'\t') | (b == b'\n') | (b == b'\r') | (b == b'&') | (newer & ((b == 0xc2) | (b == 0xe2)))
 }
 
-// Is there a stop in the text? What refuses at depth 0.
-pub fn has_stop(text: &[u8], newer: bool) -> bool
+fn stop_in(text: &[u8], newer: bool) -> bool
     ensures { λ r. ⌜ r ≡ anyStop (stopByte newer) (now (text .entry)) ⌝ }
 {
     let mut hit = false;
@@ -31,6 +30,17 @@ pub fn has_stop(text: &[u8], newer: bool) -> bool
         i += 1;
     }
     hit
+}
+
+// Is there a stop in the text? What refuses at depth 0. Each version has a loop of its own: a vector of `newer` would be kept in the
+// frame of every level of a walk.
+pub fn has_stop(text: &[u8], newer: bool) -> bool
+    ensures { λ r. ⌜ r ≡ anyStop (stopByte newer) (now (text .entry)) ⌝ }
+{
+    if newer {
+        return stop_in(text, true);
+    }
+    stop_in(text, false)
 }
 
 // ---- halts of XML 1.0
@@ -268,6 +278,52 @@ pub fn next_halt(text: &[u8], from: usize, newer: bool) -> usize
         return newer_halt(text, from);
     }
     older_halt(text, from)
+}
+
+// The first 16 bytes one by one: a comparison and a jump for each, without a block's test and the second look at its bytes.
+fn near_older(text: &[u8], from: usize) -> usize
+    requires { ⌜ from + 16 ≤ length (now text) ⌝ }
+    ensures { λ r. ⌜ HaltAt false (now (text .entry)) from r ⌝ }
+{
+    for k in 0..16usize {
+        if is_older(text[from + k]) {
+            return from + k;
+        }
+    }
+    older_halt(text, from + 16)
+}
+
+// The same, up to a byte above ASCII. Both ranges of bytes that may be halts are one comparison, with a sign.
+fn near_newer(text: &[u8], from: usize) -> usize
+    requires { ⌜ from + 16 ≤ length (now text) ⌝ }
+    ensures { λ r. ⌜ HaltAt true (now (text .entry)) from r ⌝ }
+{
+    for k in 0..16usize {
+        let b = text[from + k];
+        if (b < 39) | (0x7f < b) {
+            if (b == b'&') | (b == b'\r') {
+                return from + k;
+            }
+            if 0x7f < b {
+                return newer_halt(text, from + k);
+            }
+        }
+    }
+    newer_halt(text, from + 16)
+}
+
+// The same as next_halt where halts are dense.
+pub fn near_halt(text: &[u8], from: usize, newer: bool) -> usize
+    requires { ⌜ from ≤ length (now text) ⌝ }
+    ensures { λ r. ⌜ HaltAt newer (now (text .entry)) from r ⌝ }
+{
+    if text.len() - from < 16 {
+        return next_halt(text, from, newer);
+    }
+    if newer {
+        return near_newer(text, from);
+    }
+    near_older(text, from)
 }
 
 // Passes blocks of 32 bytes that have no halt.

@@ -238,8 +238,16 @@ add-met c =
     let inv = turn .loop .inv in
     omega (arith, inv .few, inv .halt .smooth .from, inv .halt .smooth .to, entry-of turn .pre .1 .0)
 
-next-halt-requires : tie.Need-next-halt-requires Inv-loop μ-loop
-next-halt-requires c κs = halt-kept (halt-of (c .before)) (c .before .before .next .given .1) .past .1
+halt-after-requires : tie.Need-halt-after-requires Inv-loop μ-loop
+halt-after-requires c κs =
+    let passed = c .before in
+    let turn = turn-halted (halt-of passed) in
+    let inv = turn .loop .inv in
+    let most = entry-of turn .pre .1 .0 .2 in (
+      halt-kept (halt-of passed) (passed .before .next .given .1) .past .1,
+      most,
+      omega (arith, inv .few, inv .halt .smooth .from, inv .halt .smooth .to, most),
+    )
 
 loop-less : tie.Need-loop-less Inv-loop μ-loop
 loop-less c =
@@ -255,7 +263,7 @@ loop-again c =
     let start = entry-of turn in
     let a = start .args in
     going-next (a .reading) (a .text .now) (a .list .now) (a .pool .now) (a .place) (a .out .now) (a .seen .now) (turn .loop .inv) (start .pre .1 .0 .0)
-    (start .pre .1 .1 .1) (ran .write-run .ensures) (halt-kept (halt-of passed) (passed .before .next .given .1)) (c .next-halt .ensures)
+    (start .pre .1 .1 .1) (ran .write-run .ensures) (halt-kept (halt-of passed) (passed .before .next .given .1)) (c .halt-after .ensures)
 
 pub normalize-flat-spec : {M : Type 1} → statement M
 normalize-flat-spec =
@@ -286,6 +294,6 @@ normalize-flat-spec =
     same-length-8
     returns-4
     add-met
-    next-halt-requires
+    halt-after-requires
     loop-less
     loop-again)
