@@ -113,7 +113,8 @@ pub fn keep_plain(b: u8, seen: &mut [u64])
     seen[plain_word(b)] = 1;
 }
 
-// What a name other than `amp` refers to, by the memory or by the table.
+// What a name other than `amp` refers to, by the memory or by the table. The table is lent as parts, which are made where it is asked:
+// few names come that far.
 pub fn refers_to(name: &[u8], slot: usize, seen: &[u64], list: &[u8], pool: &[u8]) -> Referent
     requires { ⌜ ValidTable (now list) (now pool) ⌝ }
     requires { ⌜ (slot < 16) × (sameBytes (now name) (97 ∷ 109 ∷ 112 ∷ []) ≡ false) ⌝ }
@@ -139,7 +140,11 @@ pub fn refers_to(name: &[u8], slot: usize, seen: &[u64], list: &[u8], pool: &[u8
             }
         }
     }
-    entity::find_entity(list, pool, name)
+    entity::find_entity(
+        &list[..list.len()],
+        &pool[..pool.len()],
+        &name[..name.len()],
+    )
 }
 
 // Keeps what the text of the command gave.

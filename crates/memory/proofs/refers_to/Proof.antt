@@ -4,7 +4,9 @@ use mathlib.Core.Logic.{_≢_}
 use mathlib.Core.List.{List}
 use Prim.Native.Nat.{ℕ, _+_, _-_, _<_}
 use native.Mathlib.Omega.{arith}
-use lib.ListN.{getD}
+use native.Mathlib.Nat.{le-refl}
+use lib.ListN.{length, getD, take}
+use lib.Seq.{take-all}
 use Rattle.entity.specs.Commands.{Defines}
 use Rattle.memory.specs.Slots.{Trusts}
 use borrow.Author.Needs.{needs}
@@ -19,6 +21,10 @@ less-one {n} h = omega (arith, h)
 
 slot-defines : {list pool words : List ℕ} {k : ℕ} → Trusts list pool words → k < 16 → getD words k 0 ≢ 0 → Defines list pool (getD words k 0 - 1)
 slot-defines {list} {pool} {words} {k} t h e = t .defines k (getD words k 0 - 1) h (less-one e)
+
+-- a part that is all of a list
+whole : (l : List ℕ) → take (length l) l ≡ l
+whole l = take-all (length l) l (le-refl _)
 
 mul-known : tie.Need-mul-known
 mul-known c = search needs
@@ -91,11 +97,24 @@ returns-2 c =
     refers-trusted (start .args .name .now) (start .pre .1 .1) (start .pre .1 .0 .1) (found .result) (found .ensures .0) (found .ensures .1)
     (at-b .b .given .1) (λ z. c .if4 .taken (ap (λ (n : ℕ). getD (start .args .seen .now) n 0) (word .ensures) ∙ z))
 
+slice-aggregate-find-entity : tie.Need-slice-aggregate-find-entity
+slice-aggregate-find-entity c = ap length (sym (whole (c .before .before .before .before .before .before .args .list .now)))
+
+slice-aggregate-find-entity-2 : tie.Need-slice-aggregate-find-entity-2
+slice-aggregate-find-entity-2 c = ap length (sym (whole (c .before .before .before .before .before .before .before .args .pool .now)))
+
+slice-aggregate-find-entity-3 : tie.Need-slice-aggregate-find-entity-3
+slice-aggregate-find-entity-3 c = ap length (sym (whole (c .before .before .before .before .before .before .before .before .args .name .now)))
+
 find-entity-requires : tie.Need-find-entity-requires
-find-entity-requires c κs = search needs
+find-entity-requires c κs =
+    let start = c .before .before .before .before .before .before .before .before in
+    rw (whole (start .args .list .now), whole (start .args .pool .now)) (start .pre .0)
 
 returns-3 : tie.Need-returns-3
-returns-3 c = search needs
+returns-3 c =
+    let a = c .before .before .before .before .before .before .before .before .before .args in
+    rw (whole (a .list .now), whole (a .pool .now), whole (a .name .now)) at (c .find-entity .ensures)
 
 pub refers-to-spec : {M : Type 1} → statement M
 refers-to-spec =
@@ -115,5 +134,8 @@ refers-to-spec =
     mul-if4
     shared-slice-read-if4
     returns-2
+    slice-aggregate-find-entity
+    slice-aggregate-find-entity-2
+    slice-aggregate-find-entity-3
     find-entity-requires
     returns-3)
