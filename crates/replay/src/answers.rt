@@ -46,10 +46,14 @@ pub fn compare(line: &[u8], at: usize, number: u32, answer: [u64; 2]) -> Outcome
     if !decimals(line, at + 1, 3, &mut stored) {
         return Outcome::Malformed;
     }
-    if (stored[0] == number as u64) & (stored[1] == answer[0]) & (stored[2] == answer[1]) {
+    if same_answer(stored, number, answer) {
         return Outcome::Same;
     }
     differs(number, answer)
+}
+
+fn same_answer(stored: [u64; 3], number: u32, answer: [u64; 2]) -> bool {
+    (stored[0] == number as u64) & (stored[1] == answer[0]) & (stored[2] == answer[1])
 }
 
 // Compares with `= NUMBER FIRST SECOND OUTPUT` from field `at` on.

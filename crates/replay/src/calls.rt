@@ -1,4 +1,5 @@
 // The calls that are replayed: from a stored line to what came of it.
+ghost use Prim.Native.Nat.{_≤_};
 use crate::answers::Outcome;
 use crate::answers::UNTOUCHED;
 use crate::answers::UNWRITTEN;
@@ -93,10 +94,16 @@ fn replay_output(line: &[u8], call: usize) -> Outcome {
     if 2048 < room {
         return Outcome::Malformed;
     }
+    lend_output(line, call, &text[..n], choice as u8, room as usize)
+}
+
+// Makes the call with an output of `room` bytes.
+fn lend_output(line: &[u8], call: usize, text: &[u8], choice: u8, room: usize) -> Outcome
+    requires { ⌜ room ≤ 2048 ⌝ }
+{
     let mut out = [UNTOUCHED; 2048];
     let mut answer = [UNWRITTEN; 2];
-    let r = room as usize;
-    let number = call_output(call, &text[..n], choice as u8, &mut out[0..r], &mut answer);
+    let number = call_output(call, text, choice, &mut out[0..room], &mut answer);
     compare_output(line, 4, number, answer, &out)
 }
 

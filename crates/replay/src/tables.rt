@@ -1,5 +1,5 @@
 // The calls with an entity table. Text, list and pool are read first, then what each call has beside them.
-ghost use Prim.Native.Nat.{_<_};
+ghost use Prim.Native.Nat.{_<_, _≤_};
 use crate::answers::Outcome;
 use crate::answers::UNTOUCHED;
 use crate::answers::UNWRITTEN;
@@ -182,18 +182,39 @@ fn replay_canonical(line: &[u8], text: &[u8], list: &[u8], pool: &[u8]) -> Outco
     if 2048 < room {
         return Outcome::Malformed;
     }
+    lend_canonical(
+        line,
+        settings,
+        text,
+        list,
+        pool,
+        scratch_room as usize,
+        room as usize,
+    )
+}
+
+// Makes the call with a scratch and an output of so many bytes.
+fn lend_canonical(
+    line: &[u8],
+    settings: Settings,
+    text: &[u8],
+    list: &[u8],
+    pool: &[u8],
+    scratch_room: usize,
+    room: usize,
+) -> Outcome
+    requires { ⌜ («scratch_room» ≤ 2048) × (room ≤ 2048) ⌝ }
+{
     let mut scratch = [UNTOUCHED; 2048];
     let mut out = [UNTOUCHED; 2048];
     let mut answer = [UNWRITTEN; 2];
-    let k = scratch_room as usize;
-    let r = room as usize;
     let number = call_canonical(
         settings,
         text,
         list,
         pool,
-        &mut scratch[0..k],
-        &mut out[0..r],
+        &mut scratch[0..scratch_room],
+        &mut out[0..room],
         &mut answer,
     );
     compare_form(line, number, answer, &scratch, &out)
