@@ -27,7 +27,8 @@ pub struct Call {
     pub faults: &'static [Faults],
     pub timed: fn() -> Vec<timing::Row>,
     pub differences: fn() -> Vec<timing::Difference>,
-    pub counted: fn() -> Vec<counting::Row>,
+    /// Puts its rows at the end: what is allocated before a row is a part of what the Rust's allocator takes.
+    pub counted: fn(&mut Vec<counting::Row>),
 }
 
 #[derive(Clone, Copy, PartialEq, Eq)]

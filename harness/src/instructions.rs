@@ -41,7 +41,8 @@ pub fn run(calls: &[&Call], part: &str, before: Option<&str>) -> io::Result<()> 
 
 /// The dearest come last: a run without them has the same counts.
 fn rows_of(calls: &[&Call]) -> Vec<Row> {
-    let mut rows: Vec<Row> = calls.iter().flat_map(|call| (call.counted)()).collect();
+    let mut rows = vec![];
+    calls.iter().for_each(|call| (call.counted)(&mut rows));
     rows.sort_by_key(|row| row.runs_before == 0);
     rows
 }

@@ -83,5 +83,5 @@ canonical_form TEXT VERSION DEPTH LIMIT LIST POOL SCRATCH ROOM = NUMBER FIRST SE
     // SAFETY: everything that is lent is of the length stated.
     timed: || rows::timed(|lent| unsafe { run(lent) }),
     differences: || vec![],
-    counted: || rows::counted(|lent| unsafe { run(lent) }),
+    counted: |all| rows::counted(all, |lent| unsafe { run(lent) }),
 };

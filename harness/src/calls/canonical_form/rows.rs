@@ -13,14 +13,12 @@ pub fn timed(run: impl Ours) -> Vec<timing::Row> {
     attribute::timed(CALLS, (run, rust_canonical))
 }
 
-pub fn counted(run: impl Ours) -> Vec<counting::Row> {
+pub fn counted(rows: &mut Vec<counting::Row>, run: impl Ours) {
     let sides: (_, TableRule) = (run, rust_canonical);
-    let mut rows = vec![];
     for (call, version) in CALLS.into_iter().zip([0, 2]) {
-        short_values(&mut rows, call, version, 64, sides);
-        long_values(&mut rows, call, version, sides);
+        short_values(rows, call, version, 64, sides);
+        long_values(rows, call, version, sides);
     }
-    rows
 }
 
 /// No value here holds what only our writer escapes under 1.1.

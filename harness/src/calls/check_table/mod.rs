@@ -52,7 +52,7 @@ pub const CALL: Call = Call {
     // SAFETY: everything that is lent is of the length stated.
     timed: || rows::timed(|lent| unsafe { run(lent) }),
     differences: || vec![],
-    counted: || vec![],
+    counted: |_| {},
 };
 
 fn answer(arguments: &Arguments) -> Answer {

@@ -57,5 +57,5 @@ pub const CALL: Call = Call {
     faults: &[],
     timed: || rows::timed(govlezna_escape),
     differences: || vec![],
-    counted: || vec![],
+    counted: |_| {},
 };

@@ -73,7 +73,7 @@ pub const CALL: Call = Call {
     // SAFETY: everything that is lent is of the length stated.
     timed: || rows::timed(|lent| unsafe { run(lent) }),
     differences: || vec![],
-    counted: || rows::counted(|lent| unsafe { run(lent) }),
+    counted: |all| rows::counted(all, |lent| unsafe { run(lent) }),
 };
 
 fn answer(arguments: &Arguments) -> Answer {

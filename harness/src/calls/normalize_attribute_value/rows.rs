@@ -17,20 +17,18 @@ pub fn timed(run: impl Ours) -> Vec<timing::Row> {
     attribute::timed(CALLS, (run, rust_normalize))
 }
 
-pub fn counted(run: impl Ours) -> Vec<counting::Row> {
+pub fn counted(rows: &mut Vec<counting::Row>, run: impl Ours) {
     let sides: (_, TableRule) = (run, rust_normalize);
-    let mut rows = vec![];
     for (call, version) in CALLS.into_iter().zip([0, 2]) {
         for size in [8, 16, 32, 64, 128] {
-            short_values(&mut rows, call, version, size, sides);
+            short_values(rows, call, version, size, sides);
         }
-        long_values(&mut rows, call, version, sides);
+        long_values(rows, call, version, sides);
         if version == 0 {
-            names(&mut rows, call, sides);
-            worst(&mut rows, call, sides);
+            names(rows, call, sides);
+            worst(rows, call, sides);
         }
     }
-    rows
 }
 
 /// One reference to a name of a long table. Here the Rust's side reads the table in the call, as ours checks it: what a lookup takes is

@@ -53,7 +53,7 @@ pub const CALL: Call = Call {
     faults: &[],
     timed: || rows::timed(govlezna_normalize_eols),
     differences: || vec![],
-    counted: || vec![],
+    counted: |_| {},
 };
 
 fn answer(arguments: &Arguments) -> Answer {

@@ -42,7 +42,7 @@ pub const CALL: Call = Call {
     faults: &[],
     timed: || rows::timed(govlezna_parse_number),
     differences: || vec![],
-    counted: || vec![],
+    counted: |_| {},
 };
 
 fn answer(arguments: &Arguments) -> Answer {

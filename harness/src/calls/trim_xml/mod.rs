@@ -64,7 +64,7 @@ pub const SPACES: Call = Call {
     faults: &[faults::PART],
     timed: || rows::spaces(govlezna_trim_xml_spaces),
     differences: || vec![],
-    counted: || vec![],
+    counted: |_| {},
 };
 
 /// Where a part without bytes starts says document 01: nobody owes a meaning to its address.
