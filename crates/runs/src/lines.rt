@@ -102,7 +102,9 @@ pub fn put_wide(text: &[u8], newer: bool, out: &mut [u8]) -> usize
         if any_stop(text, i, newer, 32) {
             return i;
         }
-        crate::put_two_blocks(&text[i..i + 32], &mut out[i..]);
+        let half = i + 16;
+        output::put_block(&text[i..half], &mut out[i..]);
+        output::put_block(&text[half..half + 16], &mut out[half..]);
         i += 32;
     }
     i
