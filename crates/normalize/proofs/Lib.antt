@@ -1,4 +1,2 @@
-pub mod Exhausted
-pub mod Cycle
 pub mod Held
 pub mod Texts

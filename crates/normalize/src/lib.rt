@@ -1,6 +1,5 @@
-// The calls over attribute values, and the cycle below them: a walker over a text, and the single step that opens a text of the
-// table and has it walked. All else that stops a walk is answered between two openings (crate flat), by functions that call
-// neither. Normalization and the canonical form have one code path for both versions.
+// The calls over attribute values, above the cycle of walker and step (crate cycle). Normalization and the canonical form have one code
+// path for both versions.
 ghost use mathlib.Core.Path.{_≡_};
 ghost use mathlib.Core.Bool.{true};
 ghost use mathlib.Core.List.{[], _∷_};
@@ -14,209 +13,19 @@ ghost use Rattle.eols.specs.Stops.{ruleFor};
 ghost use Rattle.canonical.specs.Canonical.{canonical};
 ghost use Rattle.halts.specs.Halts.{HaltAt, blanksSpaced};
 ghost use Rattle.entity.specs.Table.{ValidTable};
-ghost use Rattle.entity.specs.Commands.{Defines};
 ghost use Rattle.tokens.specs.Outcome.{done, finished};
 ghost use Rattle.tokens.specs.Walking.{Ended};
 ghost use Rattle.attribute.specs.Heads.{attributeHead};
 ghost use Rattle.attribute.specs.Walk.{Settings, walk, normalize, readingOf};
 ghost use Rattle.attribute.specs.Form.{formed};
-ghost use Rattle.memory.specs.Levels.{settingsOf, levelOf, Lent, StepKeeps, StepsKeep};
-ghost use Rattle.normalize.specs.Calls.{Bottom, Openable, LentInner, Walkable, walkOf, Walks, WalksOn};
+ghost use Rattle.memory.specs.Levels.{levelOf, Lent};
+ghost use Rattle.cycle.specs.Cycle.{Walkable};
+ghost use Rattle.normalize.specs.Calls.{walkOf, Walks, WalksOn};
 use memory::Place;
 use memory::Reached;
 use memory::Reading;
 use text::Answer;
 use text::refusals;
-use tokens::Step;
-
-// ---- the cycle
-
-// A text at depth 0: refused where there is any stop, else its own value.
-fn bottom_step(text: &[u8], newer: bool, next: usize, openings: u64, out: &mut [u8]) -> Step
-    ensures { λ r. ⌜ ((s : Settings) → Bottom (walk s (attributeHead (ruleFor newer)) 0 (now (text .entry)) openings) next (now (out .entry)) (now (out .exit)) r) ⌝ }
-{
-    if halts::has_stop(text, newer) {
-        return Step::Stopped {
-            number: refusals::TOO_DEEP,
-            first: 0,
-            second: 0,
-        };
-    }
-    let n = text.len();
-    if n <= out.len() {
-        output::put_run(text, out);
-    }
-    Step::Next {
-        at: next,
-        len: n,
-        openings,
-    }
-}
-
-// The step that opens the text of a command, at the end of whose reference the place is: the text is walked with the depth one less.
-fn normalize_attr_step(
-    command: usize,
-    place: Place,
-    reading: Reading,
-    list: &[u8],
-    pool: &[u8],
-    seen: &mut [u64],
-    out: &mut [u8],
-) -> Step
-    requires { ⌜ ValidTable (now list) (now pool) ⌝ }
-    requires { ⌜ Openable reading place (now seen) ⌝ }
-    requires { ⌜ Defines (now list) (now pool) command ⌝ }
-    requires { ⌜ LentInner reading place command (now list) (now pool) (now out) (now seen) ⌝ }
-    ensures { λ r. ⌜ StepKeeps (settingsOf reading (now (list .entry)) (now (pool .entry))) (now (list .entry)) (now (pool .entry)) (reading .depth) command (reading .base) place (now (out .entry)) (now (seen .entry)) (now (out .exit)) (now (seen .exit)) r ⌝ }
-{
-    let start = entity::text_start(list, command);
-    let end = start + entity::text_length(list, command);
-    let depth = reading.depth;
-    let next = place.at;
-    let openings = place.openings + 1;
-    if depth == 1 {
-        return bottom_step(&pool[start..end], reading.inner == 1, next, openings, out);
-    }
-    let begun = Place {
-        at: 0,
-        len: 0,
-        openings,
-    };
-    let below = Reading {
-        how: reading.inner,
-        inner: reading.inner,
-        depth: depth - 1,
-        limit: reading.limit,
-        base: reading.base + place.len,
-    };
-    match normalize_attr_steps(&pool[start..end], begun, below, list, pool, seen, out) {
-        Answer::Done { first: len, second } => Step::Next {
-            at: next,
-            len: len as usize,
-            openings: second,
-        },
-        Answer::Refused {
-            number,
-            first: a,
-            second,
-        } => Step::Stopped {
-            number,
-            first: a,
-            second,
-        },
-    }
-}
-
-// The walker: a text, outer or of the table, from a place on. It is lent a memory, so that nothing pauses for want of one.
-fn normalize_attr_steps(
-    text: &[u8],
-    begun: Place,
-    reading: Reading,
-    list: &[u8],
-    pool: &[u8],
-    seen: &mut [u64],
-    out: &mut [u8],
-) -> Answer
-    requires { ⌜ ValidTable (now list) (now pool) ⌝ }
-    requires { ⌜ Walkable reading (now text) ⌝ }
-    requires { ⌜ length (now seen) ≡ 84 ⌝ }
-    requires { ⌜ Lent (levelOf reading (now list) (now pool) (now text)) (reading .base) (now out) (now seen) begun ⌝ }
-    ensures { λ r. ⌜ StepsKeep (levelOf reading (now (list .entry)) (now (pool .entry)) (now (text .entry))) (reading .base) begun (now (out .entry)) (now (seen .entry)) (now (out .exit)) (now (seen .exit)) r ⌝ }
-{
-    let mut at = begun.at;
-    let mut len = begun.len;
-    let mut made = begun.openings;
-    loop {
-        let place = Place {
-            at,
-            len,
-            openings: made,
-        };
-        let first = halts::next_halt(text, at, reading.how == 1);
-        match flat::normalize_flat(text, place, first, reading, list, pool, seen, out) {
-            Reached::End { len: all, openings } => {
-                return Answer::Done {
-                    first: all as u64,
-                    second: openings,
-                };
-            }
-            Reached::Stopped {
-                number,
-                first: a,
-                second,
-            } => {
-                return Answer::Refused {
-                    number,
-                    first: a,
-                    second,
-                };
-            }
-            Reached::Paused {
-                at: from,
-                len: before,
-                openings,
-            } => {
-                at = from;
-                len = before;
-                made = openings;
-            }
-            Reached::Opening {
-                at: _,
-                next,
-                command,
-                slot,
-                len: before,
-                openings,
-            } => {
-                let rest = output::least(before, out.len());
-                let opened = Place {
-                    at: next,
-                    len: before,
-                    openings,
-                };
-                match normalize_attr_step(
-                    command,
-                    opened,
-                    reading,
-                    list,
-                    pool,
-                    seen,
-                    &mut out[rest..],
-                ) {
-                    Step::Next {
-                        at: after,
-                        len: more,
-                        openings: now_made,
-                    } => {
-                        memory::keep(
-                            command,
-                            slot,
-                            reading.depth,
-                            reading.base + before,
-                            more,
-                            now_made - openings,
-                            seen,
-                        );
-                        at = after;
-                        len = before + more;
-                        made = now_made;
-                    }
-                    Step::Stopped {
-                        number,
-                        first: a,
-                        second,
-                    } => {
-                        return Answer::Refused {
-                            number,
-                            first: a,
-                            second,
-                        };
-                    }
-                }
-            }
-        }
-    }
-}
 
 // ---- the walk over the text of a call
 
@@ -235,7 +44,7 @@ fn normalize_opened(
     ensures { λ r. ⌜ WalksOn (levelOf reading (now (list .entry)) (now (pool .entry)) (now (text .entry))) begun [] (now (out .entry)) (now (out .exit)) r ⌝ }
 {
     let mut seen = [0u64; 84];
-    normalize_attr_steps(text, begun, reading, list, pool, &mut seen, out)
+    cycle::normalize_attr_steps(text, begun, reading, list, pool, &mut seen, out)
 }
 
 // The walk over the text of a call, whose first halt is at `first`. Most texts open nothing, so that the memory is made late.

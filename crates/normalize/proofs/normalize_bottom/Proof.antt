@@ -1,6 +1,6 @@
 -- `normalize_bottom` is refused where `has_stop` finds one; else the text is its own value, whose copy ends as `copied_whole` says.
 use mathlib.Core.Path.{sym, _∙_}
-use Rattle.normalize.proofs.Exhausted.{ended-exhausted, ended-plain}
+use Rattle.cycle.proofs.Exhausted.{ended-exhausted, ended-plain}
 use borrow.Author.Needs.{needs}
 use Rattle.normalize.proofs.normalize_bottom.Statement.{statement}
 use Rattle.normalize.proofs.normalize_bottom.Tie as tie

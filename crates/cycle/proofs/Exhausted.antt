@@ -22,7 +22,7 @@ use Rattle.attribute.proofs.Stops.{copies, IsStop, stop-head}
 use Rattle.output.proofs.Laid.{laid-length}
 use Rattle.memory.specs.Levels.{Fitted}
 use Rattle.memory.proofs.Fitted.{fitted-long}
-use Rattle.normalize.specs.Calls.{Bottom}
+use Rattle.cycle.specs.Cycle.{Bottom}
 
 -- refused by 16 after some bytes
 record Exhausts (o : Outcome) (openings : ℕ) : Type 0 where

@@ -30,7 +30,7 @@ use Rattle.memory.proofs.Keeping.{kept-length}
 use Rattle.memory.proofs.Levels.{Brief, placeOf, opened-plain, came-room, opens-lent, lent-on}
 use Rattle.memory.proofs.Readings.{call-brief, call-inner, call-limit, inner-level}
 use Rattle.memory.proofs.Turns.{step-walked, turn-came, turn-next, turn-refused, turn-end, turn-stopped}
-use Rattle.normalize.specs.Calls.{Bottom, innerStart, LentInner}
+use Rattle.cycle.specs.Cycle.{Bottom, innerStart, LentInner}
 
 -- ---- the step
 

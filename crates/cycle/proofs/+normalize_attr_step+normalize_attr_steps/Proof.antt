@@ -8,26 +8,26 @@ use Rattle.entity.specs.Commands.{commandText}
 use Rattle.memory.specs.Levels.{levelOf, Lent}
 use Rattle.memory.proofs.Levels.{placeOf}
 use Rattle.flat.proofs.Halting.{valid-short}
-use Rattle.normalize.proofs.Cycle.{text-is, step-lent, step-of, step-bottom, Goes, goes-start, goes-lent, keeps-end, keeps-stopped}
-use Rattle.normalize.proofs.Cycle.{never-paused, at-opening, open-counts, goes-open, keeps-refused}
+use Rattle.cycle.proofs.Cycle.{text-is, step-lent, step-of, step-bottom, Goes, goes-start, goes-lent, keeps-end, keeps-stopped}
+use Rattle.cycle.proofs.Cycle.{never-paused, at-opening, open-counts, goes-open, keeps-refused}
 use Prim.Native.Nat.{ℕ, _<_, _+_, _-_, _≤_}
 use borrow.Fn.Kinds.{In}
 use borrow.Fn.PlainCycle.{Measures, is, falls, and}
-use Rattle.normalize.proofs.normalize_attr_step.Reads as normalize-attr-step
-use Rattle.normalize.proofs.normalize_attr_step.Kinds as normalize-attr-step-kinds
-use Rattle.normalize.proofs.+normalize_attr_step+normalize_attr_steps.Lts-normalize_attr_step as normalize-attr-step-lts
-use Rattle.normalize.proofs.normalize_attr_steps.Reads as normalize-attr-steps
-use Rattle.normalize.proofs.normalize_attr_steps.Kinds as normalize-attr-steps-kinds
-use Rattle.normalize.proofs.+normalize_attr_step+normalize_attr_steps.Lts-normalize_attr_steps as normalize-attr-steps-lts
+use Rattle.cycle.proofs.normalize_attr_step.Reads as normalize-attr-step
+use Rattle.cycle.proofs.normalize_attr_step.Kinds as normalize-attr-step-kinds
+use Rattle.cycle.proofs.+normalize_attr_step+normalize_attr_steps.Lts-normalize_attr_step as normalize-attr-step-lts
+use Rattle.cycle.proofs.normalize_attr_steps.Reads as normalize-attr-steps
+use Rattle.cycle.proofs.normalize_attr_steps.Kinds as normalize-attr-steps-kinds
+use Rattle.cycle.proofs.+normalize_attr_step+normalize_attr_steps.Lts-normalize_attr_steps as normalize-attr-steps-lts
 use Rattle.entity.proofs.text_length.Reads as text-length-reads
 use Rattle.entity.proofs.text_start.Reads as text-start-reads
-use Rattle.normalize.proofs.bottom_step.Reads as bottom-step-reads
+use Rattle.cycle.proofs.bottom_step.Reads as bottom-step-reads
 use Rattle.memory.proofs.keep.Reads as keep-reads
 use Rattle.halts.proofs.next_halt.Reads as next-halt-reads
 use Rattle.flat.proofs.normalize_flat.Reads as normalize-flat-reads
 use Rattle.output.proofs.least.Reads as least-reads
-use Rattle.normalize.proofs.+normalize_attr_step+normalize_attr_steps.{statement}
-use Rattle.normalize.proofs.+normalize_attr_step+normalize_attr_steps.Tie.{close}
+use Rattle.cycle.proofs.+normalize_attr_step+normalize_attr_steps.{statement}
+use Rattle.cycle.proofs.+normalize_attr_step+normalize_attr_steps.Tie.{close}
 
 abbrev μ-normalize-attr-step : Measures 4 normalize-attr-step-kinds.ps ℕ
 μ-normalize-attr-step κs a = a .1 .1 .0 .depth + a .1 .1 .0 .depth

@@ -1,10 +1,10 @@
 -- `bottom_step` is refused where `has_stop` finds one; else it writes the text where all of it fits (`bottom-written`, `bottom-long`).
 use mathlib.Core.Path.{sym, _∙_}
 use native.Mathlib.Omega.{arith}
-use Rattle.normalize.proofs.Exhausted.{bottom-refused, bottom-written, bottom-long}
+use Rattle.cycle.proofs.Exhausted.{bottom-refused, bottom-written, bottom-long}
 use borrow.Author.Needs.{needs}
-use Rattle.normalize.proofs.bottom_step.Statement.{statement}
-use Rattle.normalize.proofs.bottom_step.Tie as tie
+use Rattle.cycle.proofs.bottom_step.Statement.{statement}
+use Rattle.cycle.proofs.bottom_step.Tie as tie
 
 has-stop-requires : tie.Need-has-stop-requires
 has-stop-requires c κs = tt

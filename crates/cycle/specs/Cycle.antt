@@ -1,0 +1,43 @@
+-- The cycle: what the step and the walker are asked, and what a text at depth 0 gives. Terms in which code is proved; no promise of a call
+-- rests on them. Assumes nothing.
+use Prim.Native.Nat.{ℕ, _+_, _≤_, _<_}
+use mathlib.Core.Path.{_≡_}
+use mathlib.Core.Logic.{_≢_}
+use mathlib.Core.List.{List}
+use lib.ListN.{length}
+use Rattle.tokens.specs.Outcome.{Outcome, done}
+use Rattle.tokens.specs.Walking.{stepOf}
+use Rattle.tokens.specs.declared.Step.{Step}
+use Rattle.memory.specs.Levels.{settingsOf, innerLevel, Fitted, Lent}
+use Rattle.memory.specs.declared.Reading.{Reading}
+use Rattle.memory.specs.declared.Place.{Place}
+
+-- ---- a text at depth 0
+
+pub record Bottom (o : Outcome) (next : ℕ) (old new : List ℕ) (r : Step) : Type 0 where
+  pub answers : r ≡ stepOf next o
+  pub buffer : length new ≡ length old
+  pub fitted : (value : List ℕ) (made : ℕ) → o ≡ done value made → Fitted value old new
+
+-- ---- what the two functions are asked
+
+-- the step: a depth and an opening are left, and the memory is there
+pub record Openable (r : Reading) (p : Place) (words : List ℕ) : Type 0 where
+  pub deep : r .depth ≢ 0
+  pub few : p .openings < r .limit
+  pub most : r .limit ≤ 1000000
+  pub full : length words ≡ 84
+
+-- where the walk of the text begins that the step opens, and what it is lent
+abbrev pub innerStart : Place → Place
+innerStart p = record { at = 0; len = 0; openings = p .openings + 1 }
+
+abbrev pub LentInner : Reading → Place → ℕ → List ℕ → List ℕ → List ℕ → List ℕ → Type 0
+LentInner r p command list pool out words =
+    Lent (innerLevel (settingsOf r list pool) list pool (r .depth) command) (r .base + p .len) out words (innerStart p)
+
+-- the walker
+pub record Walkable (r : Reading) (text : List ℕ) : Type 0 where
+  pub deep : r .depth ≢ 0
+  pub most : r .limit ≤ 1000000
+  pub short : length text ≤ 16777216
