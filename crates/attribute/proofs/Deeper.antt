@@ -8,7 +8,7 @@ use mathlib.Core.List.{List, [], _∷_}
 use lib.ListN.{length}
 use lib.Dec.{eqb}
 use Rattle.text.specs.Bytes.{pick, sameBytes}
-use Rattle.entity.specs.Binding.{Bound, text, predefined, unknown}
+use Rattle.entity.specs.Binding.{Bound, text, external, predefined, unknown}
 use Rattle.tokens.specs.Tokens.{Stop, kept, space, number, named, unterminated, Heads, tokens}
 use Rattle.tokens.specs.Outcome.{Outcome, done, refused, numberOutcome}
 use Rattle.tokens.proofs.Related.{Related, run-related, Keeps, keeps-related}
@@ -25,6 +25,7 @@ module _ (R : Outcome → Outcome → Type 0) (related : Related R) (st : Settin
     opened-related : (offset : ℕ) (name : List ℕ) (b : Bound) (n : ℕ) → R (opened (st .limit) f offset name b n) (opened (st .limit) g offset name b n)
     unfolding opened
     opened-related offset name (text t) n = pick-related (eqb n (st .limit)) (refused [] n 17 offset 0) (f t (suc n)) (g t (suc n)) (h t (suc n))
+    opened-related offset name external n = related .same (refused [] n 27 offset 0)
     opened-related offset name (predefined t) n = h t n
     opened-related offset name unknown n = related .same (refused [] n 11 (suc offset) (suc offset + length name))
 

@@ -39,6 +39,25 @@ unfolding Values value normalize readingOf
 values xml10 = (refl, refl, refl, refl, refl, refl, refl, refl)
 values xml11 = (refl, refl, refl, refl, refl, refl, refl, refl)
 
+-- document 02, K9: e and amp external; f = `&e;`
+abbrev outsiders : List ℕ
+outsiders = 2 ∷ 0 ∷ 0 ∷ 0 ∷ 0 ∷ 1 ∷ 1 ∷ 1 ∷ 0 ∷ 0 ∷ 0 ∷ 1 ∷ 2 ∷ 0 ∷ 0 ∷ 0 ∷ 3 ∷ 0 ∷ 2 ∷ 5 ∷ 0 ∷ 0 ∷ 0 ∷ 3 ∷ 0 ∷ []
+
+external-value : Rule → ℕ → ℕ → List ℕ → Outcome
+external-value r depth limit t = normalize (readingOf r outsiders (101 ∷ 102 ∷ 38 ∷ 101 ∷ 59 ∷ 97 ∷ 109 ∷ 112 ∷ []) limit) depth t
+
+Externals : Rule → Type 0
+Externals r =
+    (external-value r 1 0 (38 ∷ 101 ∷ 59 ∷ []) ≡ refused [] 0 27 0 0)  -- &e;, limit 0
+    × (external-value r 0 1 (38 ∷ 101 ∷ 59 ∷ []) ≡ refused [] 0 16 0 0)  -- &e;, depth 0
+    × (external-value r 2 1 (97 ∷ 38 ∷ 102 ∷ 59 ∷ []) ≡ refused (97 ∷ []) 1 27 0 0)  -- a&f;
+    × (external-value r 1 0 (38 ∷ 97 ∷ 109 ∷ 112 ∷ 59 ∷ []) ≡ done (38 ∷ []) 0)  -- &amp;
+
+externals : (r : Rule) → Externals r
+unfolding Externals external-value normalize readingOf
+externals xml10 = (refl, refl, refl, refl)
+externals xml11 = (refl, refl, refl, refl)
+
 -- the value `<`, whose form is `&lt;`: with room, with a short output, with a short scratch, and a refusal of the walk
 Forms : Rule → Type 0
 Forms r =

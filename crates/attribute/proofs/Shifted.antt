@@ -7,7 +7,7 @@ use mathlib.Core.List.{List, [], _∷_}
 use lib.Dec.{eqb}
 use borrow.Author.Tests.{eqb-true}
 use Rattle.text.specs.Bytes.{pick, sameBytes}
-use Rattle.entity.specs.Binding.{Bound, text, predefined, unknown}
+use Rattle.entity.specs.Binding.{Bound, text, external, predefined, unknown}
 use Rattle.tokens.specs.Tokens.{Stop, kept, space, number, named, unterminated, Heads, tokens}
 use Rattle.tokens.specs.Outcome.{Outcome, done, refused}
 use Rattle.tokens.proofs.Moved.{Moved, moved-still, moved-opening, moved-over, run-moved, number-moved}
@@ -33,6 +33,7 @@ module _ (st : Settings) where
         → Moved (st .limit) m n (opened (st .limit) walked i name b m) (opened (st .limit) walked j name b n)
     unfolding opened
     opened-moved i j name (text t) m n = text-moved i j t m n (eqb m (st .limit)) (eqb n (st .limit)) refl
+    opened-moved i j name external m n = tt
     opened-moved i j name (predefined t) m n = h t m n
     opened-moved i j name unknown m n = tt
 

@@ -13,9 +13,10 @@ use Rattle.text.specs.Bytes.{pick, sameBytes}
 use Rattle.text.specs.Version.{Rule}
 use Rattle.charref.specs.CharRef.{anyCharacter}
 use Rattle.eols.specs.Stops.{ruleFor}
-use Rattle.entity.specs.Table.{Body, inside, Declaration, nameOf, part, declarations}
-use Rattle.entity.specs.Binding.{Bound, text, predefined, unknown, predefinedOf, bodyBound, bindingIn, binding, boundTo}
-use Rattle.entity.specs.declared.Binding.the-variants.{Text, Predefined, Unknown}
+use Rattle.entity.specs.Table.{part}
+use Rattle.entity.specs.Binding.{Bound, text, external, predefined, unknown, predefinedOf, binding, boundTo}
+use Rattle.entity.specs.declared.Binding.the-variants.{Text, External, Predefined, Unknown}
+use Rattle.entity.proofs.Referents.{predefined-binding}
 use Rattle.output.specs.Runs.{Plain}
 use Rattle.output.proofs.Runs.{plain-byte}
 use Rattle.tokens.specs.Tokens.{Token, copy, stop, Head, tokenOf, skipOf, nameAt, referenceAt, tokens}
@@ -63,18 +64,12 @@ module _ (name : List ℕ) (bound : Bound) where
   abbrev isAmp : Bool
   isAmp = sameBytes name (97 ∷ 109 ∷ 112 ∷ [])
 
-  amp-text : (t : List ℕ) → ampOr name bound ≡ text t → (isAmp ≡ false) × (bound ≡ text t)
-  amp-text t e = go isAmp refl e
+  -- bound to anything but the predefined `&`: then the name is not `amp`
+  amp-other : (b : Bound) → predefined (38 ∷ []) ≢ b → ampOr name bound ≡ b → (isAmp ≡ false) × (bound ≡ b)
+  amp-other b differs e = go isAmp refl e
     where
-      go : (x : Bool) → isAmp ≡ x → pick x (predefined (38 ∷ [])) bound ≡ text t → (isAmp ≡ false) × (bound ≡ text t)
-      go true q k = let z : _≡_ {A = ℕ} 0 1 = cc in absurd (omega arith)
-      go false q k = (q, k)
-
-  amp-unknown : ampOr name bound ≡ unknown → (isAmp ≡ false) × (bound ≡ unknown)
-  amp-unknown e = go isAmp refl e
-    where
-      go : (x : Bool) → isAmp ≡ x → pick x (predefined (38 ∷ [])) bound ≡ unknown → (isAmp ≡ false) × (bound ≡ unknown)
-      go true q k = let z : _≡_ {A = ℕ} 0 1 = cc in absurd (omega arith)
+      go : (x : Bool) → isAmp ≡ x → pick x (predefined (38 ∷ [])) bound ≡ b → (isAmp ≡ false) × (bound ≡ b)
+      go true q k = absurd (differs k)
       go false q k = (q, k)
 
   amp-predefined : {X : Type 0} (c : ℕ) → ampOr name bound ≡ predefined (c ∷ []) → (isAmp ≡ true → c ≡ 38 → X) → (isAmp ≡ false → bound ≡ predefined (c ∷ []) → X) → X
@@ -133,7 +128,7 @@ module _ (newer : Bool) (s : Settings) (legal : s .legal ≡ anyCharacter) (dept
       module _ (a z : ℕ) (same : boundTo pool (Text a z) ≡ ampOr name bound) where
         as-text : (sameBytes name (97 ∷ 109 ∷ 112 ∷ []) ≡ false) × (bound ≡ text (part pool a (z - a)))
         unfolding boundTo
-        as-text = amp-text name bound (part pool a (z - a)) (sym same)
+        as-text = amp-other name bound (text (part pool a (z - a))) (λ q. let z : _≡_ {A = ℕ} 0 1 = cc in omega (arith, z)) (sym same)
 
         -- refusal 17
         pub at-limit : n ≡ s .limit → outcomeAt s (ruleFor newer) depth t at n ≡ refused [] n 17 at 0
@@ -144,11 +139,18 @@ module _ (newer : Bool) (s : Settings) (legal : s .legal ≡ anyCharacter) (dept
         unfolding opened part
         at-text q = at-name false (as-text .0) ∙ rw (as-text .1, ne-eqb n (s .limit) q, add-one n)
 
+      -- refusal 27
+      pub at-external : boundTo pool External ≡ ampOr name bound → outcomeAt s (ruleFor newer) depth t at n ≡ refused [] n 27 at 0
+      unfolding boundTo opened
+      at-external same =
+          let k = amp-other name bound external (λ q. let z : _≡_ {A = ℕ} 0 1 = cc in omega (arith, z)) (sym same) in
+          at-name false (k .0) ∙ rw (k .1)
+
       -- refusal 11
       pub at-unknown : boundTo pool Unknown ≡ ampOr name bound → outcomeAt s (ruleFor newer) depth t at n ≡ refused [] n 11 (at + 1) end
       unfolding boundTo opened
       at-unknown same =
-          let k = amp-unknown name bound (sym same) in
+          let k = amp-other name bound unknown (λ q. let z : _≡_ {A = ℕ} 0 1 = cc in omega (arith, z)) (sym same) in
           let z : suc at + length name ≡ end = rw (name-size false t at end e h) (omega (arith, e .from)) in
           at-name false (k .0) ∙ rw (k .1, z, add-one at)
 
@@ -160,19 +162,6 @@ module _ (newer : Bool) (s : Settings) (legal : s .legal ≡ anyCharacter) (dept
           amp-predefined name bound c (sym same) (λ x y. at-name true x ∙ rw y) (λ x y. at-name false x ∙ rw y (itself x y))
 
 -- ---- predefined texts hold no stop
-
-no-body : (pool t : List ℕ) (x : Body) → bodyBound pool x ≡ predefined t → ⊥
-unfolding bodyBound
-no-body pool t (inside start size) q = let z : _≡_ {A = ℕ} 0 1 = cc in omega arith
-
-bound-predefined : (ds : List Declaration) (pool name t : List ℕ) → bindingIn ds pool name ≡ predefined t → predefinedOf name ≡ predefined t
-unfolding bindingIn
-bound-predefined [] pool name t e = e
-bound-predefined (d ∷ ds) pool name t e = go (sameBytes (nameOf pool d) name) e (bound-predefined ds pool name t)
-  where
-    go : (x : Bool) → pick x (bodyBound pool (d .body)) (bindingIn ds pool name) ≡ predefined t → (bindingIn ds pool name ≡ predefined t → predefinedOf name ≡ predefined t) → predefinedOf name ≡ predefined t
-    go true q ih = absurd (no-body pool t (d .body) q)
-    go false q ih = ih q
 
 -- `<`, `>`, `'` and `"`
 plain-four : (newer : Bool) → (stopByte newer 60 ≡ false) × (stopByte newer 62 ≡ false) × (stopByte newer 39 ≡ false) × (stopByte newer 34 ≡ false)
@@ -201,4 +190,4 @@ pub walk-predefined : (s : Settings) (newer : Bool) (list pool name : List ℕ) 
 unfolding binding
 walk-predefined s newer list pool name depth c n no-amp e =
     walk-plain s newer depth (c ∷ []) n
-    (plain-byte (stopByte newer) (c ∷ []) 0 (omega arith) (plain-predefined newer name c no-amp (bound-predefined (declarations list) pool name (c ∷ []) e)))
+    (plain-byte (stopByte newer) (c ∷ []) 0 (omega arith) (plain-predefined newer name c no-amp (predefined-binding list pool name (c ∷ []) e)))

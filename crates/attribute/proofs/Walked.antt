@@ -7,7 +7,7 @@ use lib.ListN.{length}
 use lib.Dec.{eqb}
 use Rattle.text.specs.Bytes.{sameBytes}
 use Rattle.text.proofs.Bytes.{pick-by, pick-both}
-use Rattle.entity.specs.Binding.{Bound, text, predefined, unknown}
+use Rattle.entity.specs.Binding.{Bound, text, external, predefined, unknown}
 use Rattle.tokens.specs.Tokens.{kept, space, number, named, unterminated, stop, Heads}
 use Rattle.tokens.specs.Outcome.{Outcome, done, refused}
 use Rattle.tokens.proofs.Carried.{Carried, Moving, Answering, Walked, run-carried, number-carried}
@@ -29,6 +29,7 @@ module _ (st : Settings) (C : Carried (st .legal)) where
     opened-carried walked w x y offset name l (text t) e n =
         pick-by (C .Holds x y n) (eqb n (st .limit)) {a = refused [] n 17 offset 0} {b = walked t (suc n)}
         (λ q. C .refusal x y n 17 offset 0) (λ q. P .opens walked w x y offset name t l e n q)
+    opened-carried walked w x y offset name l external e n = C .refusal x y n 27 offset 0
     opened-carried walked w x y offset name l (predefined t) e n = P .stands-for walked w x y offset name t l e n
     opened-carried walked w x y offset name l unknown e n = C .refusal x y n 11 (suc offset) (suc offset + length name)
 

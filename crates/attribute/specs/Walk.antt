@@ -7,7 +7,7 @@ use Rattle.text.specs.Bytes.{pick, sameBytes}
 use Rattle.text.specs.Version.{Rule}
 use Rattle.charref.specs.CharRef.{anyCharacter}
 use Rattle.charref.specs.declared.CharNumber.{CharNumber}
-use Rattle.entity.specs.Binding.{Bound, text, predefined, unknown, binding}
+use Rattle.entity.specs.Binding.{Bound, text, external, predefined, unknown, binding}
 use Rattle.tokens.specs.Tokens.{Stop, kept, space, number, named, unterminated, Heads, tokens}
 use Rattle.tokens.specs.Outcome.{Outcome, done, refused, run, numberOutcome}
 use Rattle.attribute.specs.Heads.{attributeHead}
@@ -21,11 +21,13 @@ pub record Settings : Type 0 where
   pub limit : ℕ
   pub legal : ℕ → CharNumber
 
--- a table text is an opening: 17 where the openings so far equal the limit; then the text is walked, with the depth one less
+-- a table text is an opening: 17 where the openings so far equal the limit; then the text is walked, with the depth one less;
+-- document 02, K9: an external entity is 27
 unfoldable pub opened : ℕ → (List ℕ → ℕ → Outcome) → ℕ → List ℕ → Bound → ℕ → Outcome
 opened limit walked offset name (text t) openings =
     let inner = walked t (suc openings) in
     pick (eqb openings limit) (refused [] openings 17 offset 0) inner
+opened limit walked offset name external openings = refused [] openings 27 offset 0
 opened limit walked offset name (predefined t) openings = walked t openings
 opened limit walked offset name unknown openings = refused [] openings 11 (suc offset) (suc offset + length name)
 

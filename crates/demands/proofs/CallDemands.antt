@@ -71,7 +71,7 @@ pub length-passes : (t : List ℕ) → length t ≤ 16777216 → lengthCheck t �
 unfolding lengthCheck
 length-passes t l = rw (le-ltb 16777216 (length t) l)
 
-utf8-passes : (t : List ℕ) → WellFormed t → utf8Check t ≡ passed
+pub utf8-passes : (t : List ℕ) → WellFormed t → utf8Check t ≡ passed
 unfolding utf8Check
 utf8-passes t h = rw (whole-end t h, eq-eqb (length t) (length t) refl)
 
@@ -222,6 +222,7 @@ walk-numbers =
       texts = record {
         ten = not0 10 (omega arith);
         eleven = not0 11 (omega arith);
+        twenty-seven = not0 27 (omega arith);
         numbers = record {
           twelve = not0 12 (omega arith);
           thirteen = not0 13 (omega arith);

@@ -16,8 +16,9 @@ use Rattle.charref.specs.CharRef.{charNumber, numberAnswer}
 use Rattle.charref.specs.declared.CharNumber.{CharNumber}
 use Rattle.charref.specs.declared.CharNumber.the-variants.{Char, UnexpectedSign, InvalidNumber, InvalidCodepoint, IllegalCharacter}
 use Rattle.escape.specs.Escape.{knownLevel, levelCheck}
-use Rattle.entity.specs.Table.{Declaration, declaration, declarations, runsPast, illFormed, declarationCheck, endCheck, commandsCheck, sizeCheck, tableCheck, operands}
-use Rattle.entity.specs.Binding.{Bound, text, predefined, unknown}
+use Rattle.entity.specs.Table.{tableCheck}
+use Rattle.entity.specs.Binding.{Bound, text, external, predefined, unknown}
+use Rattle.entity.proofs.Tables.{ByNumber, table-answers}
 use Rattle.tokens.specs.Tokens.{Stop, kept, space, number, named, unterminated, Token, copy, stop, Heads, tokens}
 use Rattle.tokens.specs.Outcome.{Outcome, done, refused, prepend, followed, run, numbered, numberOutcome, finished}
 use Rattle.unescape.specs.Unescape.{textHead, copied, replaced, unescape}
@@ -26,8 +27,7 @@ use Rattle.attribute.specs.Walk.{Settings, opened, answer, exhausted, walk, nor
 
 -- what is said of the number of a refusal
 abbrev pub By : (ℕ → Type 0) → Answer → Type 0
-By P (Done first second) = Unit {0}
-By P (Refused why first second) = P why
+By P a = ByNumber P a
 
 abbrev pub Fails : (ℕ → Type 0) → Outcome → Type 0
 Fails P (done value openings) = Unit {0}
@@ -49,6 +49,7 @@ pub record NumberNumbers (P : ℕ → Type 0) : Type 0 where
 pub record TextNumbers (P : ℕ → Type 0) : Type 0 where
   pub ten : P 10
   pub eleven : P 11
+  pub twenty-seven : P 27
   pub numbers : NumberNumbers P
 
 pub record WalkNumbers (P : ℕ → Type 0) : Type 0 where
@@ -88,39 +89,8 @@ module _ (P : ℕ → Type 0) where
       by-pick (ltb 128 depth) (Refused 2 0 0) (pick (ltb 1000000 limit) (Refused 3 0 0) (versionCheck version)) h
       (by-pick (ltb 1000000 limit) (Refused 3 0 0) (versionCheck version) k (by-version l version))
 
-  by-end : P 7 → (bs : List ℕ) (offset : ℕ) → By P (endCheck bs offset)
-  unfolding endCheck
-  by-end h [] offset = tt
-  by-end h (b ∷ bs) offset = h
-
-  by-declaration : TableNumbers P → (pool : List ℕ) (offset : ℕ) (d : Declaration) (rest : Answer) → By P rest → By P (declarationCheck pool offset d rest)
-  unfolding declarationCheck
-  by-declaration h pool offset d rest k =
-      by-pick (runsPast pool d) (Refused 8 offset 0) (pick (illFormed pool d) (Refused 9 offset 0) rest) (h .eight)
-      (by-pick (illFormed pool d) (Refused 9 offset 0) rest (h .nine) k)
-
-  by-commands : TableNumbers P → (pool : List ℕ) (offset skip : ℕ) (bs : List ℕ) → By P (commandsCheck pool offset skip bs)
-  unfolding commandsCheck
-  by-commands h pool offset skip [] = h .seven
-  by-commands h pool offset (suc skip) (b ∷ bs) = by-commands h pool (suc offset) skip bs
-  by-commands h pool offset zero (b ∷ bs) =
-      let rest = commandsCheck pool (suc offset) operands bs in
-      let declared = declarationCheck pool offset (declaration bs) rest in
-      let cut = pick (ltb (length bs) operands) (Refused 7 offset 0) declared in
-      by-pick (eqb b 0) (endCheck bs (suc offset)) (pick (eqb b 1) cut (Refused 7 offset 0)) (by-end (h .seven) bs (suc offset))
-      (by-pick (eqb b 1) cut (Refused 7 offset 0)
-      (by-pick (ltb (length bs) operands) (Refused 7 offset 0) declared (h .seven)
-      (by-declaration h pool offset (declaration bs) rest (by-commands h pool (suc offset) operands bs))) (h .seven))
-
-  by-size : P 6 → (list pool : List ℕ) → By P (sizeCheck list pool)
-  unfolding sizeCheck
-  by-size h list pool = by-pick (ltb 49153 (length list) || ltb 1048576 (length pool)) (Refused 6 0 0) passed h tt
-
   pub by-table : TableNumbers P → (list pool : List ℕ) → By P (tableCheck list pool)
-  unfolding tableCheck
-  by-table h list pool =
-      by-then (sizeCheck list pool) (andThen (commandsCheck pool 0 0 list) (Done (length (declarations list)) 0)) (by-size (h .six) list pool)
-      (by-then (commandsCheck pool 0 0 list) (Done (length (declarations list)) 0) (by-commands h pool 0 0 list) tt)
+  by-table h list pool = table-answers P (h .six) (h .seven) (h .eight) (h .nine) list pool
 
   -- ---- walks
 
@@ -161,18 +131,19 @@ module _ (P : ℕ → Type 0) where
   unfolding numberOutcome
   fails-number h legal digits n = fails-numbered (numberAnswer (charNumber legal digits)) n (by-number h legal digits)
 
-  fails-copied : P 11 → (offset : ℕ) (name : List ℕ) (b : Bound) (n : ℕ) → Fails P (copied offset name b n)
+  fails-copied : P 11 → P 27 → (offset : ℕ) (name : List ℕ) (b : Bound) (n : ℕ) → Fails P (copied offset name b n)
   unfolding copied
-  fails-copied h offset name (text t) n = tt
-  fails-copied h offset name (predefined t) n = tt
-  fails-copied h offset name unknown n = h
+  fails-copied h e offset name (text t) n = tt
+  fails-copied h e offset name external n = e
+  fails-copied h e offset name (predefined t) n = tt
+  fails-copied h e offset name unknown n = h
 
   fails-replaced : TextNumbers P → (bind : List ℕ → Bound) → Failing (replaced bind)
   unfolding replaced
   fails-replaced h bind (kept b) n = tt
   fails-replaced h bind space n = tt
   fails-replaced h bind (number digits) n = fails-number (h .numbers) _ digits n
-  fails-replaced h bind (named offset name) n = fails-copied (h .eleven) offset name (bind name) n
+  fails-replaced h bind (named offset name) n = fails-copied (h .eleven) (h .twenty-seven) offset name (bind name) n
   fails-replaced h bind (unterminated offset end) n = h .ten
 
   pub fails-unescape : TextNumbers P → (bind : List ℕ → Bound) (t : List ℕ) → Fails P (unescape bind t)
@@ -185,6 +156,7 @@ module _ (P : ℕ → Type 0) where
     unfolding opened
     fails-opened walked k offset name (text t) n =
         pick-both (Fails P) (eqb n (st .limit)) {a = refused [] n 17 offset 0} {b = walked t (suc n)} (h .seventeen) (k t (suc n))
+    fails-opened walked k offset name external n = h .texts .twenty-seven
     fails-opened walked k offset name (predefined t) n = k t n
     fails-opened walked k offset name unknown n = h .texts .eleven
 

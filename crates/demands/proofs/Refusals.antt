@@ -156,7 +156,7 @@ unescape-refuses text list pool out =
     (finished-refuses unescapeNumbers refl (unescape bind text) out (fails-unescape (In unescapeNumbers) of-text bind text))
   where
     of-text : TextNumbers (In unescapeNumbers)
-    of-text = record { ten = refl; eleven = refl; numbers = record { twelve = refl; thirteen = refl; fourteen = refl; fifteen = refl } }
+    of-text = record { ten = refl; eleven = refl; twenty-seven = refl; numbers = record { twelve = refl; thirteen = refl; fourteen = refl; fifteen = refl } }
 
 -- the checks and the walk of an attribute value
 module _ (numbers : List ℕ) (text : List ℕ) (version depth limit : ℕ) (list pool : List ℕ) where
@@ -183,7 +183,7 @@ normalize-attribute-value-refuses text version depth limit list pool out =
     of-walk : WalkNumbers (In valueNumbers)
     of-walk =
         record {
-          texts = record { ten = refl; eleven = refl; numbers = record { twelve = refl; thirteen = refl; fourteen = refl; fifteen = refl } };
+          texts = record { ten = refl; eleven = refl; twenty-seven = refl; numbers = record { twelve = refl; thirteen = refl; fourteen = refl; fifteen = refl } };
           sixteen = refl;
           seventeen = refl;
         }
@@ -219,7 +219,7 @@ canonical-form-refuses text version depth limit list pool scratch out =
     of-walk : WalkNumbers (In formNumbers)
     of-walk =
         record {
-          texts = record { ten = refl; eleven = refl; numbers = record { twelve = refl; thirteen = refl; fourteen = refl; fifteen = refl } };
+          texts = record { ten = refl; eleven = refl; twenty-seven = refl; numbers = record { twelve = refl; thirteen = refl; fourteen = refl; fifteen = refl } };
           sixteen = refl;
           seventeen = refl;
         }

@@ -15,7 +15,7 @@ use Rattle.text.proofs.Bytes.{pick-by, and-left, and-right, or-left, contrary}
 use Rattle.charref.specs.CharRef.{charNumber, anyCharacter, numberAnswer, encode}
 use Rattle.charref.specs.declared.CharNumber.{CharNumber}
 use Rattle.charref.specs.declared.CharNumber.the-variants.{Char, UnexpectedSign, InvalidNumber, InvalidCodepoint, IllegalCharacter}
-use Rattle.entity.specs.Binding.{Bound, text, predefined, unknown, binding, GoodBound}
+use Rattle.entity.specs.Binding.{Bound, text, external, predefined, unknown, binding, GoodBound}
 use Rattle.entity.proofs.Tables.{binding-good}
 use Rattle.tokens.specs.Tokens.{number, named}
 use Rattle.tokens.specs.Outcome.{Outcome, done, refused, numbered, numberOutcome}
@@ -34,6 +34,7 @@ use Rattle.demands.proofs.Agreement.{Agree, Fits, Steady, AllSteady, Cl
 -- what a name is bound to, on bytes and on characters
 pub data Tied (r : Rule) : Bound → Option (List ℕ) → Type 0 where
   tied-text : (t : List ℕ) → Clean r t → Tied r (text (encodeAll t)) (some t)
+  tied-external : Tied r external none
   tied-predefined : (t : List ℕ) → Clean r t → Tied r (predefined (encodeAll t)) (some t)
   tied-unknown : Tied r unknown none
 
@@ -56,6 +57,7 @@ module _ (r : Rule) (bind : List ℕ → Bound) (limit : ℕ) (lookup : List ℕ
     unfolding opened replacedBy
     opened-agrees o n name b x (tied-text t d) =
         pick-by (λ (y : Outcome). Agree [] y (step t)) (eqb n limit) {a = refused [] n 17 o 0} {b = walked (encodeAll t) (suc n)} (λ e l. contrary refl l) (λ e. h t d (suc n))
+    opened-agrees o n name b x tied-external = λ l. refl
     opened-agrees o n name b x (tied-predefined t d) = h t d n
     opened-agrees o n name b x tied-unknown = λ l. refl
 
@@ -158,6 +160,7 @@ steady-clean r cs h = either r cs .0 h
 tied-by : (r : Rule) (b : Bound) → GoodBound b → SteadyBound r b → Tied r b (charactersOf b)
 unfolding charactersOf
 tied-by r (text t) g s = subst (λ (u : List ℕ). Tied r (text u) (some (decode t))) (decode-encode t g) (tied-text (decode t) (steady-clean r (decode t) s))
+tied-by r external g s = tied-external
 tied-by r (predefined t) g s = subst (λ (u : List ℕ). Tied r (predefined u) (some (decode t))) (decode-encode t g) (tied-predefined (decode t) (steady-clean r (decode t) s))
 tied-by r unknown g s = tied-unknown
 

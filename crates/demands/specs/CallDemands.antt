@@ -38,15 +38,15 @@ abbrev pub tableNumbers : List ℕ
 tableNumbers = 6 ∷ 7 ∷ 8 ∷ 9 ∷ []
 
 abbrev pub unescapeNumbers : List ℕ
-unescapeNumbers = 1 ∷ 5 ∷ 6 ∷ 7 ∷ 8 ∷ 9 ∷ 10 ∷ 11 ∷ 12 ∷ 13 ∷ 14 ∷ 15 ∷ 19 ∷ []
+unescapeNumbers = 1 ∷ 5 ∷ 6 ∷ 7 ∷ 8 ∷ 9 ∷ 10 ∷ 11 ∷ 12 ∷ 13 ∷ 14 ∷ 15 ∷ 19 ∷ 27 ∷ []
 
 abbrev pub valueNumbers : List ℕ
-valueNumbers = 1 ∷ 2 ∷ 3 ∷ 4 ∷ 5 ∷ 6 ∷ 7 ∷ 8 ∷ 9 ∷ 10 ∷ 11 ∷ 12 ∷ 13 ∷ 14 ∷ 15 ∷ 16 ∷ 17 ∷ 19 ∷ []
+valueNumbers = 1 ∷ 2 ∷ 3 ∷ 4 ∷ 5 ∷ 6 ∷ 7 ∷ 8 ∷ 9 ∷ 10 ∷ 11 ∷ 12 ∷ 13 ∷ 14 ∷ 15 ∷ 16 ∷ 17 ∷ 19 ∷ 27 ∷ []
 
 abbrev pub formNumbers : List ℕ
-formNumbers = 1 ∷ 2 ∷ 3 ∷ 4 ∷ 5 ∷ 6 ∷ 7 ∷ 8 ∷ 9 ∷ 10 ∷ 11 ∷ 12 ∷ 13 ∷ 14 ∷ 15 ∷ 16 ∷ 17 ∷ 18 ∷ []  -- and 19
+formNumbers = 1 ∷ 2 ∷ 3 ∷ 4 ∷ 5 ∷ 6 ∷ 7 ∷ 8 ∷ 9 ∷ 10 ∷ 11 ∷ 12 ∷ 13 ∷ 14 ∷ 15 ∷ 16 ∷ 17 ∷ 18 ∷ 27 ∷ []  -- and 19
 
--- demand 1: success, or a refusal by one of these numbers of document 01 that leaves the lent buffers as they were at entry
+-- demand 1: success, or a refusal by one of these numbers of documents 01 and 02 that leaves the lent buffers as they were at entry
 pub data Refuses (numbers : List ℕ) (entry : List (List ℕ)) : Called → Type 0 where
   success : (words : List ℕ) (buffers : List (List ℕ)) → Refuses numbers entry (called 0 words buffers)
   refusal : (number : ℕ) (words : List ℕ) → listed number numbers ≡ true → Refuses numbers entry (called number words entry)

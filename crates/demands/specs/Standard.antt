@@ -12,7 +12,7 @@ use Rattle.text.specs.Version.{Rule, xml10, xml11}
 use Rattle.charref.specs.CharRef.{charNumber}
 use Rattle.charref.specs.declared.CharNumber.{CharNumber}
 use Rattle.charref.specs.declared.CharNumber.the-variants.{Char, UnexpectedSign, InvalidNumber, InvalidCodepoint, IllegalCharacter}
-use Rattle.entity.specs.Binding.{Bound, text, predefined, unknown}
+use Rattle.entity.specs.Binding.{Bound, text, external, predefined, unknown}
 use Rattle.tokens.specs.Tokens.{Name, ended, endless, nameAt}
 use Rattle.tokens.specs.Outcome.{Outcome, done, refused}
 use Rattle.demands.specs.Characters.{encodeAll, decode}
@@ -104,10 +104,11 @@ standard legal lookup lines (suc depth) cs =
 
 -- ---- what the walk on bytes is compared by
 
--- 4.4: the replacement text that a name is bound to, on characters
+-- 4.4: the replacement text that a name is bound to, on characters; 3.1, "No External Entity References": an external one has none here
 unfoldable pub charactersOf : Bound → Option (List ℕ)
 unfolding decode
 charactersOf (text t) = some (decode t)
+charactersOf external = none
 charactersOf (predefined t) = some (decode t)
 charactersOf unknown = none
 
@@ -136,6 +137,7 @@ SteadyText r t = steadyRefs r false (decode t) ≡ true
 
 abbrev pub SteadyBound : Rule → Bound → Type 0
 SteadyBound r (text t) = SteadyText r t
+SteadyBound r external = Unit {0}
 SteadyBound r (predefined t) = SteadyText r t
 SteadyBound r unknown = Unit {0}
 

@@ -4,12 +4,12 @@ use mathlib.Core.List.{List, [], _∷_}
 use Prim.Native.Nat.{ℕ}
 use Rattle.text.specs.declared.Answer.the-variants.{Done, Refused}
 use Rattle.entity.specs.Table.{tableCheck}
-use Rattle.entity.specs.Binding.{text, predefined, unknown, binding}
+use Rattle.entity.specs.Binding.{text, predefined, external, unknown, binding}
 
 -- document 01, refusal 7: no end, bytes after the end, an unknown command, cut operands
 ends : (tableCheck [] [] ≡ Refused 7 0 0)
     × (tableCheck (0 ∷ 0 ∷ []) [] ≡ Refused 7 1 0)
-    × (tableCheck (2 ∷ []) [] ≡ Refused 7 0 0)
+    × (tableCheck (3 ∷ []) [] ≡ Refused 7 0 0)
     × (tableCheck (1 ∷ 0 ∷ 0 ∷ 0 ∷ []) [] ≡ Refused 7 0 0)
 unfolding tableCheck
 ends = (refl, refl, refl, refl)
@@ -51,3 +51,41 @@ bound : (binding list pool (101 ∷ []) ≡ text (0xC2 ∷ 0xBD ∷ []))
     × (binding list pool (102 ∷ []) ≡ unknown)
 unfolding binding
 bound = (refl, refl, refl, refl)
+
+-- ---- K9: command 2
+
+-- cut operands, with the command's offset: after 3 bytes, and at the 6th; a list of one command 2 that is whole
+external-cut : (tableCheck (2 ∷ 0 ∷ 0 ∷ []) (101 ∷ []) ≡ Refused 7 0 0)
+    × (tableCheck (2 ∷ 0 ∷ 0 ∷ 0 ∷ 0 ∷ []) (101 ∷ []) ≡ Refused 7 0 0)
+    × (tableCheck (2 ∷ 0 ∷ 0 ∷ 0 ∷ 0 ∷ 1 ∷ 0 ∷ []) (101 ∷ []) ≡ Done 1 0)
+    × (tableCheck (2 ∷ 0 ∷ 0 ∷ 0 ∷ 0 ∷ 1 ∷ 2 ∷ 0 ∷ []) (101 ∷ []) ≡ Refused 7 6 0)
+unfolding tableCheck
+external-cut = (refl, refl, refl, refl)
+
+-- refusals 8 and 9 of its name: past the pool, with an empty name too; empty; not UTF-8
+external-name : (tableCheck (2 ∷ 0 ∷ 0 ∷ 0 ∷ 0 ∷ 2 ∷ 0 ∷ []) (101 ∷ []) ≡ Refused 8 0 0)
+    × (tableCheck (2 ∷ 2 ∷ 0 ∷ 0 ∷ 0 ∷ 0 ∷ 0 ∷ []) (101 ∷ []) ≡ Refused 8 0 0)
+    × (tableCheck (2 ∷ 0 ∷ 0 ∷ 0 ∷ 0 ∷ 0 ∷ 0 ∷ []) (101 ∷ []) ≡ Refused 9 0 0)
+    × (tableCheck (2 ∷ 0 ∷ 0 ∷ 0 ∷ 0 ∷ 1 ∷ 0 ∷ []) (0xC2 ∷ []) ≡ Refused 9 0 0)
+unfolding tableCheck
+external-name = (refl, refl, refl, refl)
+
+-- pool `exlt`: e external, then e = `x`; e = `x`, then e external; lt external
+abbrev drawn : List ℕ
+drawn = 101 ∷ 120 ∷ 108 ∷ 116 ∷ []
+
+abbrev outer-first : List ℕ
+outer-first = 2 ∷ 0 ∷ 0 ∷ 0 ∷ 0 ∷ 1 ∷ 1 ∷ 0 ∷ 0 ∷ 0 ∷ 0 ∷ 1 ∷ 1 ∷ 0 ∷ 0 ∷ 0 ∷ 1 ∷ 0 ∷ 0 ∷ []
+
+abbrev inner-first : List ℕ
+inner-first = 1 ∷ 0 ∷ 0 ∷ 0 ∷ 0 ∷ 1 ∷ 1 ∷ 0 ∷ 0 ∷ 0 ∷ 1 ∷ 0 ∷ 2 ∷ 0 ∷ 0 ∷ 0 ∷ 0 ∷ 1 ∷ 2 ∷ 2 ∷ 0 ∷ 0 ∷ 0 ∷ 2 ∷ 0 ∷ []
+
+-- both count as definitions, and the first binds in both directions
+external-binds : (tableCheck outer-first drawn ≡ Done 2 0)
+    × (tableCheck inner-first drawn ≡ Done 3 0)
+    × (binding outer-first drawn (101 ∷ []) ≡ external)
+    × (binding inner-first drawn (101 ∷ []) ≡ text (120 ∷ []))
+    × (binding outer-first drawn (108 ∷ 116 ∷ []) ≡ predefined (60 ∷ []))
+    × (binding inner-first drawn (108 ∷ 116 ∷ []) ≡ external)
+unfolding tableCheck binding
+external-binds = (refl, refl, refl, refl, refl, refl)

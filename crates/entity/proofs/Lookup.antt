@@ -1,28 +1,31 @@
 -- A lookup in a valid table: what is known at the command that it stands at. Assumes nothing.
-use mathlib.Core.Path.{_≡_, refl, ap, ap₂, sym, _∙_}
-use mathlib.Core.Bool.{Bool, true, false}
-use mathlib.Core.List.{List, []}
-use Prim.Native.Nat.{ℕ, _+_, _-_, _≤_, _<_, zero-le}
+use mathlib.Core.Path.{_≡_, refl, ap, ap₂, sym, subst, _∙_}
+use mathlib.Core.Logic.{_≢_}
+use mathlib.Core.Bool.{Bool, true, false, true≢false}
+use mathlib.Core.List.{List, [], _∷_}
+use Prim.Native.Nat.{ℕ, suc, _+_, _-_, _≤_, _<_, zero-le}
 use native.Mathlib.Omega.{arith}
+use native.Mathlib.Nat.{le-refl}
 use lib.Dec.{ltb}
-use lib.ListN.{length, getD, drop, drop-of-length-le}
-use lib.Seq.{drop-cons, ext-getD}
+use lib.ListN.{length, getD, take, drop, drop-of-length-le}
+use lib.Seq.{drop-cons, ext-getD, take-all}
 use borrow.Author.Count.{below-none, below-more}
 use borrow.Author.Tests.{ne-eqb, ltb-true, ltb-false}
 use Rattle.text.specs.Bytes.{pick, sameBytes}
 use Rattle.text.specs.Blocks.{wordAt}
 use Rattle.text.specs.Call.{andThen}
 use Rattle.text.specs.declared.Answer.the-variants.{Done}
-use Rattle.text.proofs.Bytes.{equal-same}
-use Rattle.entity.specs.Table.{littleEndian, part, nameOf, textOf, declarationsFrom, declarations, runsPast, commandsCheck, sizeCheck, tableCheck, ValidTable}
+use Rattle.text.proofs.Bytes.{equal-same, or-left}
+use Rattle.entity.specs.Table.{littleEndian, part, Declaration, declares, declaration, operands, nameOf, textOf, declarationsFrom, declarations, bodyPast, runsPast, commandsCheck, sizeCheck, tableCheck, ValidTable}
 use Rattle.entity.specs.Binding.{text, bodyBound, bindingIn, binding, predefinedOf, boundTo, Lies}
-use Rattle.entity.specs.Steps.{commandCheck, TextAt, Agree}
+use Rattle.entity.specs.Commands.{commandName, commandText}
+use Rattle.entity.specs.Steps.{commandSize, commandCheck, TextAt, Agree, IsDone, Here}
 use Rattle.entity.specs.declared.Binding.{Binding}
-use Rattle.entity.specs.declared.Binding.the-variants.{Text, Predefined, Unknown}
-use Rattle.entity.proofs.Commands.{IsDone, is-done, both-done, command-done, next-check, next-declaration}
+use Rattle.entity.specs.declared.Binding.the-variants.{Text, Predefined, External, Unknown}
+use Rattle.entity.proofs.Commands.{is-done, both-done, command-done, next-check, next-declaration, size-one, size-some, declares-one}
 use Rattle.entity.proofs.Parts.{part-length, part-at, name-fits, text-fits}
 use Rattle.entity.proofs.Predefined.{not-same}
-use Rattle.entity.proofs.Reading.{declaration-at}
+use Rattle.entity.proofs.Reading.{bodyAt, body-text, declaration-at}
 use Rattle.entity.proofs.Words.{word-bytes, same-u32}
 
 -- ---- names
@@ -78,12 +81,23 @@ module _ (pool : List ℕ) (start : ℕ) (name : List ℕ) where
 pub same-part : (pool name : List ℕ) {start n s m : ℕ} {x : Bool} → start ≡ s → n ≡ m → sameBytes (part pool start n) name ≡ x → sameBytes (part pool s m) name ≡ x
 same-part pool name p q e = sym (ap₂ (λ (a b : ℕ). sameBytes (part pool a b) name) p q) ∙ e
 
--- ---- commands
+-- ---- three slices, handed on as parts of themselves
 
--- the table is valid from here on, and the answer from here on is the answer
-pub record Here (list pool name : List ℕ) (at : ℕ) : Type 0 where
-  pub valid : IsDone (commandsCheck pool at 0 (drop at list))
-  pub is : bindingIn (declarationsFrom 0 (drop at list)) pool name ≡ binding list pool name
+pub whole-part : (l : List ℕ) → take (length l) l ≡ l
+whole-part l = take-all (length l) l (le-refl (length l))
+
+module _ (P : List ℕ → List ℕ → List ℕ → Type 0) (a b c : List ℕ) where
+  pub as-parts : P a b c → P (take (length a) a) (take (length b) b) (take (length c) c)
+  as-parts h =
+      subst (λ (x : List ℕ). P x (take (length b) b) (take (length c) c)) (sym (whole-part a))
+      (subst (λ (x : List ℕ). P a x (take (length c) c)) (sym (whole-part b)) (subst (λ (x : List ℕ). P a b x) (sym (whole-part c)) h))
+
+  pub of-parts : P (take (length a) a) (take (length b) b) (take (length c) c) → P a b c
+  of-parts h =
+      subst (λ (x : List ℕ). P a b x) (whole-part c)
+      (subst (λ (x : List ℕ). P a x (take (length c) c)) (whole-part b) (subst (λ (x : List ℕ). P x (take (length b) b) (take (length c) c)) (whole-part a) h))
+
+-- ---- commands
 
 pub table-done : (list pool : List ℕ) → ValidTable list pool → IsDone (commandsCheck pool 0 0 list)
 unfolding tableCheck
@@ -105,12 +119,77 @@ in-list {list} {pool} {name} {at} h = go (ltb at (length list)) refl
     go true e = ltb-true at (length list) e
     go false e = absurd (unfold commandsCheck in none (ltb-false at (length list) e))
 
--- at another byte than 1 the table has no more names
-pub over : {list pool name : List ℕ} {at : ℕ} → Here list pool name at → (getD list at 0 ≡ 1 → ⊥) → predefinedOf name ≡ binding list pool name
-over {list} {pool} {name} {at} h other = go ∙ h .is
+-- at a byte that declares nothing the table has no more names
+pub over : {list pool name : List ℕ} {at : ℕ} → Here list pool name at → declares (getD list at 0) ≡ false → predefinedOf name ≡ binding list pool name
+unfolding bindingIn predefinedOf
+over {list} {pool} {name} {at} h other = sym (ap (λ (ds : List Declaration). bindingIn ds pool name) none) ∙ h .is
   where
-    go : predefinedOf name ≡ bindingIn (declarationsFrom 0 (drop at list)) pool name
-    go = unfold bindingIn declarationsFrom in rw (drop-cons list at 0 (in-list h), ne-eqb (getD list at 0) 1 other)
+    go : (b : ℕ) (bs : List ℕ) (t : Bool) → t ≡ false → pick t (declaration b bs ∷ declarationsFrom (operands b) bs) [] ≡ []
+    go b bs true e = absurd (true≢false e)
+    go b bs false e = refl
+
+    none : declarationsFrom 0 (drop at list) ≡ []
+    none = ap (declarationsFrom 0) (drop-cons list at 0 (in-list h)) ∙ unfold declarationsFrom in go (getD list at 0) (drop (suc at) list) (declares (getD list at 0)) other
+
+pub end-declares : {b : ℕ} → b ≡ 0 → declares b ≡ false
+unfolding declares
+end-declares {b} e = ap declares e
+
+pub other-declares : {b : ℕ} → b ≢ 1 → b ≢ 2 → declares b ≡ false
+unfolding declares
+other-declares {b} one two = rw (ne-eqb b 1 one, ne-eqb b 2 two)
+
+-- a byte that is not the end is a declaration's
+pub here-declares : {list pool name : List ℕ} {at : ℕ} → Here list pool name at → getD list at 0 ≢ 0 → declares (getD list at 0) ≡ true
+here-declares {list} {pool} {name} {at} h other = go (getD list at 0) (drop (suc at) list) other (declares (getD list at 0)) refl (subst IsDone here (h .valid))
+  where
+    here : commandsCheck pool at 0 (drop at list) ≡ commandsCheck pool at 0 (getD list at 0 ∷ drop (suc at) list)
+    here = ap (commandsCheck pool at 0) (drop-cons list at 0 (in-list h))
+
+    go : (b : ℕ) (bs : List ℕ) → b ≢ 0 → (t : Bool) → declares b ≡ t → IsDone (commandsCheck pool at 0 (b ∷ bs)) → declares b ≡ true
+    go b bs n true e d = e
+    go b bs n false e d = absurd (unfold commandsCheck in rw (ne-eqb b 0 n, e) at d)
+
+-- a declaration: its operands are there, and its name lies in the pool
+pub record Declared (list pool : List ℕ) (at : ℕ) : Type 0 where
+  pub fits : at + commandSize (getD list at 0) ≤ length list
+  pub name : littleEndian list (at + 1) 4 + getD list (at + 5) 0 ≤ length pool
+
+module _ {list pool name : List ℕ} {at : ℕ} (h : Here list pool name at) (is : declares (getD list at 0) ≡ true) where
+  abbrev next : ℕ
+  next = at + commandSize (getD list at 0)
+
+  done : IsDone (commandCheck list pool at) × IsDone (commandsCheck pool next 0 (drop next list))
+  done = both-done (commandCheck list pool at) (commandsCheck pool next 0 (drop next list)) (rw (next-check list pool at (in-list h) is) at (h .valid))
+
+  pub declared : Declared list pool at
+  unfolding runsPast
+  declared =
+      let d = command-done list pool at (done .0) in
+      let r = rw (declaration-at list at) at (d .1) in
+      let end = littleEndian list (at + 1) 4 + getD list (at + 5) 0 in
+      record { fits = d .0; name = ltb-false (length pool) end (or-left (ltb (length pool) end) (bodyPast pool (bodyAt list at)) r) }
+
+  turn : bindingIn (declarationsFrom 0 (drop at list)) pool name
+      ≡ pick (sameBytes (commandName list pool at) name) (bodyBound pool (bodyAt list at)) (bindingIn (declarationsFrom 0 (drop next list)) pool name)
+  unfolding bindingIn nameOf
+  turn = rw (next-declaration list pool at (in-list h) is, declaration-at list at)
+
+  -- another name; how wide the command is is asked by itself
+  pub passed-by : {size : ℕ} → size ≡ commandSize (getD list at 0) → sameBytes (commandName list pool at) name ≡ false → Here list pool name (at + size)
+  passed-by w e = subst (λ (n : ℕ). Here list pool name (at + n)) (sym w) (record { valid = done .1; is = sym (rw e at turn) ∙ h .is })
+
+  -- this name
+  pub found : sameBytes (commandName list pool at) name ≡ true → binding list pool name ≡ bodyBound pool (bodyAt list at)
+  found e = sym (h .is) ∙ rw e at turn
+
+-- the last byte is the end
+pub last-over : {list pool name : List ℕ} {at : ℕ} → Here list pool name at → at + 1 ≡ length list → declares (getD list at 0) ≡ false
+last-over {list} {pool} {name} {at} h last = go (declares (getD list at 0)) refl
+  where
+    go : (t : Bool) → declares (getD list at 0) ≡ t → declares (getD list at 0) ≡ false
+    go true e = absurd (omega (arith, declared h e .fits, size-some (getD list at 0), last))
+    go false e = e
 
 -- a command 1: its operands are there, and name and text lie in the pool
 pub record Command (list pool : List ℕ) (at : ℕ) : Type 0 where
@@ -119,39 +198,29 @@ pub record Command (list pool : List ℕ) (at : ℕ) : Type 0 where
   pub text : littleEndian list (at + 6) 4 + littleEndian list (at + 10) 2 ≤ length pool
 
 module _ {list pool name : List ℕ} {at : ℕ} (h : Here list pool name at) (one : getD list at 0 ≡ 1) where
-  done : IsDone (commandCheck list pool at) × IsDone (commandsCheck pool (at + 12) 0 (drop (at + 12) list))
-  done =
-      both-done (commandCheck list pool at) (commandsCheck pool (at + 12) 0 (drop (at + 12) list))
-      (rw (next-check list pool at (in-list h) one) at (h .valid))
-
   pub command : Command list pool at
   unfolding runsPast
   command =
-      let d = command-done list pool at (done .0) in
-      let r = rw (declaration-at list at) at (d .1) in
-      record { fits = d .0; name = name-fits pool _ _ _ _ r; text = text-fits pool _ _ _ _ r }
+      let d = command-done list pool at (done h (declares-one one) .0) in
+      let r = rw (declaration-at list at, body-text list at one) at (d .1) in
+      record { fits = omega (arith, d .0, size-one one); name = name-fits pool _ _ _ _ r; text = text-fits pool _ _ _ _ r }
 
-  turn : bindingIn (declarationsFrom 0 (drop at list)) pool name
-      ≡ pick (sameBytes (part pool (littleEndian list (at + 1) 4) (getD list (at + 5) 0)) name)
-      (text (part pool (littleEndian list (at + 6) 4) (littleEndian list (at + 10) 2)))
-      (bindingIn (declarationsFrom 0 (drop (at + 12) list)) pool name)
-  unfolding bindingIn nameOf bodyBound textOf
-  turn = rw (next-declaration list pool at (in-list h) one, declaration-at list at)
+  found-text : sameBytes (commandName list pool at) name ≡ true → binding list pool name ≡ text (commandText list pool at)
+  unfolding bodyBound textOf
+  found-text e = found h (declares-one one) e ∙ ap (bodyBound pool) (body-text list at one)
 
   module _ {start n : ℕ} (is-start : start ≡ littleEndian list (at + 1) 4) (is-length : n ≡ getD list (at + 5) 0) where
     -- another name
     pub on : sameBytes (part pool start n) name ≡ false → Here list pool name (at + 12)
-    on e =
-        let f : sameBytes (part pool (littleEndian list (at + 1) 4) (getD list (at + 5) 0)) name ≡ false = rw (is-start, is-length) at e in
-        record { valid = done .1; is = sym (rw f at turn) ∙ h .is }
+    on e = passed-by h (declares-one one) (size-one one) (same-part pool name is-start is-length e)
 
     -- this name
     pub hit : sameBytes (part pool start n) name ≡ true → (r : Binding) → TextAt list at r → (boundTo pool r ≡ binding list pool name) × Lies pool r
     unfolding boundTo
     hit e (Text from end) t =
-        let f : sameBytes (part pool (littleEndian list (at + 1) 4) (getD list (at + 5) 0)) name ≡ true = rw (is-start, is-length) at e in
         let k = command in
         let q : end - from ≡ littleEndian list (at + 10) 2 = omega arith in
-        (rw (q, t .0) (sym (rw f at turn) ∙ h .is), (omega arith, omega arith, t .2))
+        (rw (q, t .0) (sym (found-text (same-part pool name is-start is-length e))), (omega arith, omega arith, t .2))
     hit e (Predefined b) t = absurd t
+    hit e External t = absurd t
     hit e Unknown t = absurd t

@@ -2,13 +2,13 @@
 use mathlib.Core.Path.{_≡_, refl, ap, sym, _∙_}
 use mathlib.Core.Bool.{Bool, true, false, _&&_, _||_, not}
 use mathlib.Core.List.{List}
-use Prim.Native.Nat.{ℕ, _+_, _-_, _≤_, _<_}
+use Prim.Native.Nat.{ℕ, _+_, _-_, _≤_, _<_, zero-le}
 use native.Mathlib.Omega.{arith}
 use native.Mathlib.Nat.{add-sub-cancel-left}
 use lib.Dec.{eqb, leb, ltb}
 use lib.ListN.{length, getD, take, drop, length-take, length-drop}
 use lib.Seq.{getD-take, getD-drop}
-use borrow.Author.Tests.{eq-eqb, ne-eqb, leb-true, ltb-false, not-true}
+use borrow.Author.Tests.{eq-eqb, ne-eqb, leb-true, le-ltb, ltb-false, not-true}
 use Rattle.text.specs.Utf8.{utf8End, wellFormed}
 use Rattle.text.specs.Call.{passed}
 use Rattle.text.specs.Blocks.{Ascii}
@@ -17,7 +17,7 @@ use Rattle.text.proofs.Bytes.{contrary, and-left, and-right, or-left, or-right}
 use Rattle.text.proofs.Utf8.{tested, testable}
 use Rattle.text.proofs.Blocks.{ascii-inside}
 use Rattle.text.proofs.Longest.{end-whole, whole-end}
-use Rattle.entity.specs.Table.{part, inside, Declaration, illFormed, declarationCheck}
+use Rattle.entity.specs.Table.{part, inside, outside, Declaration, illFormed, declarationCheck}
 
 module _ (pool : List ℕ) (start size : ℕ) where
   -- from start to end, and so many from the start
@@ -95,3 +95,9 @@ module _ (pool : List ℕ) (name n text t : ℕ) where
       let textIs = part-ascii pool text t a p (omega (arith, textTo, textIn)) in
       let j : illFormed pool declared ≡ false = unfold illFormed in rw (not-true (eqb n 0) (and-right both (not (eqb n 0)) i), nameIs, textIs) in
       rw (e, j)
+
+-- an external entity is checked as one with an empty text
+pub outside-empty : (pool : List ℕ) (at name n : ℕ) → declarationCheck pool at (record { nameStart = name; nameLength = n; body = inside 0 0 }) passed
+    ≡ declarationCheck pool at (record { nameStart = name; nameLength = n; body = outside }) passed
+unfolding declarationCheck
+outside-empty pool at name n = rw (le-ltb (length pool) 0 zero-le)

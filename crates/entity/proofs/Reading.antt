@@ -1,12 +1,16 @@
 -- A command's numbers, read at its offset in the list. Assumes nothing.
-use mathlib.Core.Path.{_≡_, refl, ap₂}
+use mathlib.Core.Path.{_≡_, refl, ap, ap₂, _∙_}
+use mathlib.Core.Logic.{_≢_}
 use mathlib.Core.List.{List}
 use Prim.Native.Nat.{ℕ, zero, suc, _+_, _*_, _<_}
 use native.Mathlib.Omega.{arith}
 use native.Mathlib.Numerals.{add-one, unary-clauses}
+use lib.Dec.{eqb}
 use lib.ListN.{getD, drop}
 use lib.Seq.{getD-drop}
-use Rattle.entity.specs.Table.{littleEndian, inside}
+use borrow.Author.Tests.{eq-eqb, ne-eqb}
+use Rattle.text.specs.Bytes.{pick}
+use Rattle.entity.specs.Table.{littleEndian, Body, inside, outside, Declaration}
 use Rattle.entity.specs.Steps.{declarationAt}
 
 module _ (bytes : List ℕ) (i : ℕ) where
@@ -37,12 +41,18 @@ little-drop k bytes i (suc width) =
     simp unary-clauses at
     (ap₂ (λ (a b : ℕ). a + 256 * b) (getD-drop k bytes i 0) (little-drop k bytes (suc i) width))
 
+-- what the command at `at` gives its name
+abbrev pub bodyAt : List ℕ → ℕ → Body
+bodyAt list at = pick (eqb (getD list at 0) 1) (inside (littleEndian list (at + 6) 4) (littleEndian list (at + 10) 2)) outside
+
+pub body-text : (list : List ℕ) (at : ℕ) → getD list at 0 ≡ 1 → bodyAt list at ≡ inside (littleEndian list (at + 6) 4) (littleEndian list (at + 10) 2)
+body-text list at one = rw (eq-eqb (getD list at 0) 1 one)
+
+pub body-outside : (list : List ℕ) (at : ℕ) → getD list at 0 ≢ 1 → bodyAt list at ≡ outside
+body-outside list at other = rw (ne-eqb (getD list at 0) 1 other)
+
 pub declaration-at : (list : List ℕ) (at : ℕ) → declarationAt list at
-    ≡ record {
-      nameStart = littleEndian list (at + 1) 4;
-      nameLength = getD list (at + 5) 0;
-      body = inside (littleEndian list (at + 6) 4) (littleEndian list (at + 10) 2);
-    }
+    ≡ record { nameStart = littleEndian list (at + 1) 4; nameLength = getD list (at + 5) 0; body = bodyAt list at }
 unfolding declarationAt
 declaration-at list at =
     let q0 : at + 1 + 0 ≡ at + 1 = omega arith in
@@ -54,3 +64,13 @@ declaration-at list at =
     let s5 = rw q5 at (little-drop (at + 1) list 5 4) in
     let s9 = rw q9 at (little-drop (at + 1) list 9 2) in
     rw (s0, s4, u8-is list (at + 5), s5, s9)
+
+abbrev pub named : List ℕ → ℕ → Body → Declaration
+named list at b = record { nameStart = littleEndian list (at + 1) 4; nameLength = getD list (at + 5) 0; body = b }
+
+pub declaration-text : (list : List ℕ) (at : ℕ) → getD list at 0 ≡ 1
+    → declarationAt list at ≡ named list at (inside (littleEndian list (at + 6) 4) (littleEndian list (at + 10) 2))
+declaration-text list at one = declaration-at list at ∙ ap (named list at) (body-text list at one)
+
+pub declaration-outside : (list : List ℕ) (at : ℕ) → getD list at 0 ≢ 1 → declarationAt list at ≡ named list at outside
+declaration-outside list at other = declaration-at list at ∙ ap (named list at) (body-outside list at other)

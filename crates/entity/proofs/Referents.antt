@@ -1,5 +1,5 @@
--- What a name refers to, by a command of the table or as predefined: `defines-hit` where a lookup stops at a command, `refers-plain` where it
--- stops at none, and `refers-binding`, that a referent is what the name is bound to. Assumes nothing.
+-- What a name refers to, by a command of the table or as predefined: `defines-hit` and `refers-hit` where a lookup stops at a command,
+-- `refers-plain` where it stops at none, and `refers-binding`, that a referent is what the name is bound to. Assumes nothing.
 use mathlib.Core.Path.{_≡_, refl, sym, ap, subst, _∙_}
 use mathlib.Core.Bool.{Bool, true, false}
 use mathlib.Core.List.{List, [], _∷_}
@@ -8,14 +8,16 @@ use native.Mathlib.Omega.{arith}
 use lib.ListN.{getD}
 use Rattle.text.specs.Bytes.{pick, sameBytes}
 use Rattle.text.proofs.Bytes.{same-equal}
-use Rattle.entity.specs.Table.{littleEndian, part}
-use Rattle.entity.specs.Binding.{Bound, text, predefined, unknown, predefinedOf, binding, boundTo, Lies}
+use Rattle.entity.specs.Table.{littleEndian, part, Body, inside, outside, Declaration, declares, nameOf, declarations}
+use Rattle.entity.specs.Binding.{Bound, text, predefined, external, unknown, predefinedOf, bodyBound, bindingIn, binding, boundTo, Lies}
 use Rattle.entity.specs.Commands.{commandName, commandText, Defines, RefersTo, Refers}
+use Rattle.entity.specs.Steps.{ReferentAt, Here}
 use Rattle.entity.specs.declared.Binding.{Binding}
-use Rattle.entity.specs.declared.Binding.the-variants.{Text, Predefined, Unknown}
+use Rattle.entity.specs.declared.Binding.the-variants.{Text, Predefined, External, Unknown}
 use Rattle.entity.specs.declared.Referent.{Referent}
-use Rattle.entity.specs.declared.Referent.the-variants.{Text as Inside, Predefined as Plain, Unknown as Nothing}
-use Rattle.entity.proofs.Lookup.{Here, command, hit}
+use Rattle.entity.specs.declared.Referent.the-variants.{Text as Inside, Predefined as Plain, External as Outside, Unknown as Nothing}
+use Rattle.entity.proofs.Lookup.{command, hit, found}
+use Rattle.entity.proofs.Reading.{body-outside}
 
 -- ---- a command that defines its name
 
@@ -37,6 +39,21 @@ defines-hit list pool name c h one same short =
       binds = ap (binding list pool) (same-equal (commandName list pool c) name same) ∙ sym (r .0) ∙ ap (λ (n : ℕ). text (part pool start n)) q;
     }
 
+-- a command of either kind, at which a lookup stops
+pub refers-hit : {list pool name : List ℕ} {at : ℕ} → Here list pool name at → declares (getD list at 0) ≡ true → sameBytes (commandName list pool at) name ≡ true
+    → (r : Referent) → ReferentAt list at r → Refers list pool name r
+unfolding bodyBound
+refers-hit {list} {pool} {name} {at} h is same (Inside c start end) t =
+    subst (λ (n : ℕ). RefersTo list pool name n start end) (sym (t .1)) (record {
+      defines = defines-hit list pool name at h (t .0) same (omega (arith, t .3, t .4));
+      same = same;
+      starts = t .2;
+      ends = t .3;
+    })
+refers-hit h is same (Plain b) t = absurd t
+refers-hit {list} {pool} {name} {at} h is same Outside t = found h is same ∙ ap (bodyBound pool) (body-outside list at t)
+refers-hit h is same Nothing t = absurd t
+
 -- a name that is the command's is bound to its text
 pub defines-binding : {list pool : List ℕ} {c : ℕ} → Defines list pool c → (name : List ℕ) → sameBytes (commandName list pool c) name ≡ true
     → binding list pool name ≡ text (commandText list pool c)
@@ -44,51 +61,83 @@ defines-binding {list} {pool} {c} d name same = ap (binding list pool) (sym (sam
 
 -- ---- a name that the table does not define
 
--- a predefined name is bound to no text
-predefined-or-none : (name : List ℕ) (t : List ℕ) → text t ≡ predefinedOf name → ⊥
+-- the lookup of predefined names answers with one, or with nothing
+abbrev Plainly : Bound → Type 0
+Plainly (text t) = ⊥
+Plainly (predefined t) = Unit {0}
+Plainly external = ⊥
+Plainly unknown = Unit {0}
+
+-- what a command gives is a text or external
+abbrev Declares : Bound → Type 0
+Declares (text t) = Unit {0}
+Declares (predefined t) = ⊥
+Declares external = Unit {0}
+Declares unknown = ⊥
+
+predefined-or-none : (name : List ℕ) → Plainly (predefinedOf name)
 unfolding predefinedOf
-predefined-or-none name t e =
+predefined-or-none name =
     go (sameBytes name (108 ∷ 116 ∷ [])) (sameBytes name (103 ∷ 116 ∷ [])) (sameBytes name (97 ∷ 109 ∷ 112 ∷ []))
-    (sameBytes name (97 ∷ 112 ∷ 111 ∷ 115 ∷ [])) (sameBytes name (113 ∷ 117 ∷ 111 ∷ 116 ∷ [])) e
+    (sameBytes name (97 ∷ 112 ∷ 111 ∷ 115 ∷ [])) (sameBytes name (113 ∷ 117 ∷ 111 ∷ 116 ∷ []))
   where
     go : (l g a p q : Bool)
-        → text t ≡ pick l (predefined (60 ∷ [])) (pick g (predefined (62 ∷ [])) (pick a (predefined (38 ∷ []))
-        (pick p (predefined (39 ∷ [])) (pick q (predefined (34 ∷ [])) unknown))))
-        → ⊥
-    go true g a p q k = let z : _≡_ {A = ℕ} 0 1 = cc in omega (arith, z)
-    go false true a p q k = let z : _≡_ {A = ℕ} 0 1 = cc in omega (arith, z)
-    go false false true p q k = let z : _≡_ {A = ℕ} 0 1 = cc in omega (arith, z)
-    go false false false true q k = let z : _≡_ {A = ℕ} 0 1 = cc in omega (arith, z)
-    go false false false false true k = let z : _≡_ {A = ℕ} 0 1 = cc in omega (arith, z)
-    go false false false false false k = let z : _≡_ {A = ℕ} 0 1 = cc in omega (arith, z)
+        → Plainly (pick l (predefined (60 ∷ [])) (pick g (predefined (62 ∷ [])) (pick a (predefined (38 ∷ []))
+        (pick p (predefined (39 ∷ [])) (pick q (predefined (34 ∷ [])) unknown)))))
+    go true g a p q = tt
+    go false true a p q = tt
+    go false false true p q = tt
+    go false false false true q = tt
+    go false false false false true = tt
+    go false false false false false = tt
 
 -- what the predefined lookup answers, as a referent
 abbrev pub plainOf : Binding → Referent
 plainOf (Text start end) = Nothing
 plainOf (Predefined b) = Plain b
+plainOf External = Nothing
 plainOf Unknown = Nothing
 
 plain-cases : (list pool name : List ℕ) (r : Binding) → boundTo pool r ≡ predefinedOf name → Lies pool r → predefinedOf name ≡ binding list pool name
     → Refers list pool name (plainOf r)
 unfolding boundTo
-plain-cases list pool name (Text start end) e lies none = absurd (predefined-or-none name (part pool start (end - start)) e)
+plain-cases list pool name (Text start end) e lies none = absurd (subst Plainly (sym e) (predefined-or-none name))
 plain-cases list pool name (Predefined b) e lies none = (lies, sym e, sym none ∙ sym e)
+plain-cases list pool name External e lies none = absurd (subst Plainly (sym e) (predefined-or-none name))
 plain-cases list pool name Unknown e lies none = sym none ∙ sym e
 
 pub refers-plain : (name : List ℕ) (r : Binding) → ((pool : List ℕ) → boundTo pool r ≡ predefinedOf name) → ((pool : List ℕ) → Lies pool r)
     → {x : Binding} → r ≡ x → (list pool : List ℕ) → predefinedOf name ≡ binding list pool name → Refers list pool name (plainOf x)
 refers-plain name r bound lies q list pool none = subst (λ (x : Binding). Refers list pool name (plainOf x)) q (plain-cases list pool name r (bound pool) (lies pool) none)
 
+-- a name that is bound to a predefined text is the predefined one
+bound-predefined : (ds : List Declaration) (pool name t : List ℕ) → bindingIn ds pool name ≡ predefined t → predefinedOf name ≡ predefined t
+unfolding bindingIn bodyBound
+bound-predefined [] pool name t e = e
+bound-predefined (d ∷ ds) pool name t e = go (sameBytes (nameOf pool d) name) (d .body) e (bound-predefined ds pool name t)
+  where
+    go : (x : Bool) (b : Body) → pick x (bodyBound pool b) (bindingIn ds pool name) ≡ predefined t
+        → (bindingIn ds pool name ≡ predefined t → predefinedOf name ≡ predefined t) → predefinedOf name ≡ predefined t
+    go true (inside start size) q k = absurd (subst Declares q tt)
+    go true outside q k = absurd (subst Declares q tt)
+    go false b q k = k q
+
+pub predefined-binding : (list pool name t : List ℕ) → binding list pool name ≡ predefined t → predefinedOf name ≡ predefined t
+unfolding binding
+predefined-binding list pool name t e = bound-predefined (declarations list) pool name t e
+
 -- ---- both agree with what the name is bound to
 
 abbrev pub referentBound : List ℕ → List ℕ → Referent → Bound
 referentBound list pool (Inside c start end) = text (commandText list pool c)
 referentBound list pool (Plain b) = predefined (b ∷ [])
+referentBound list pool Outside = external
 referentBound list pool Nothing = unknown
 
 pub refers-binding : (list pool name : List ℕ) (r : Referent) → Refers list pool name r → binding list pool name ≡ referentBound list pool r
 refers-binding list pool name (Inside c start end) r = defines-binding (r .defines) name (r .same)
 refers-binding list pool name (Plain b) r = r .2
+refers-binding list pool name Outside r = r
 refers-binding list pool name Nothing r = r
 
 -- so an answer without the command is that of the lookup
@@ -106,12 +155,14 @@ refers-text {list} {pool} {name} {c} {start} {end} r =
 abbrev pub resolvedOf : Referent → Binding
 resolvedOf (Inside c start end) = Text start end
 resolvedOf (Plain b) = Predefined b
+resolvedOf Outside = External
 resolvedOf Nothing = Unknown
 
 resolved-cases : (list pool name : List ℕ) (r : Referent) → Refers list pool name r → (boundTo pool (resolvedOf r) ≡ binding list pool name) × Lies pool (resolvedOf r)
 unfolding boundTo
 resolved-cases list pool name (Inside c start end) r = refers-text r
 resolved-cases list pool name (Plain b) r = (sym (r .2), r .0)
+resolved-cases list pool name Outside r = (sym r, tt)
 resolved-cases list pool name Nothing r = (sym r, tt)
 
 pub refers-resolved : (list pool name : List ℕ) (r : Referent) → Refers list pool name r → {x : Referent} → r ≡ x

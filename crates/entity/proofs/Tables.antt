@@ -1,5 +1,5 @@
 -- What a valid table binds names to, and how a caller learns that a table is valid. Assumes nothing.
-use mathlib.Core.Path.{_≡_, refl, sym, _∙_}
+use mathlib.Core.Path.{_≡_, refl, sym, subst, _∙_}
 use mathlib.Core.Bool.{Bool, true, false, _||_, not}
 use mathlib.Core.List.{List, [], _∷_}
 use Prim.Native.Nat.{ℕ, zero, suc, _≤_, _<_}
@@ -9,14 +9,15 @@ use lib.ListN.{length, getD, length-take}
 use borrow.Author.Tests.{eqb-true, ltb-true, ltb-false, not-false, le-leb}
 use Rattle.text.specs.Bytes.{pick, sameBytes}
 use Rattle.text.specs.Utf8.{wellFormed, WellFormed}
-use Rattle.text.specs.Call.{andThen}
+use Rattle.text.specs.Call.{andThen, passed}
 use Rattle.text.specs.declared.Answer.{Answer}
 use Rattle.text.specs.declared.Answer.the-variants.{Done, Refused}
 use Rattle.text.proofs.Bytes.{pick-by, pick-both, or-right}
 use Rattle.text.proofs.Utf8.{tested, ascii-well-formed}
-use Rattle.entity.specs.Table.{part, Body, inside, Declaration, declaration, nameOf, textOf, declarationsFrom, declarations, runsPast, illFormed, declarationCheck, commandsCheck, sizeCheck, tableCheck, ValidTable, operands}
+use Rattle.entity.specs.Table.{littleEndian, part, Body, inside, outside, Declaration, declares, declaration, nameOf, textOf, declarationsFrom, declarations, runsPast, illFormed, declarationCheck, endCheck, commandsCheck, sizeCheck, tableCheck, ValidTable, operands}
 use Rattle.entity.specs.Binding.{Bound, text, predefined, unknown, predefinedOf, bodyBound, bindingIn, binding, ShortBound, GoodBound}
-use Rattle.entity.proofs.Commands.{IsDone, is-done, passes, long-list}
+use Rattle.entity.specs.Steps.{IsDone}
+use Rattle.entity.proofs.Commands.{is-done, passes, head-checked, long-list}
 use Rattle.entity.proofs.Lookup.{table-done}
 use Rattle.entity.proofs.Reading.{u16-small}
 
@@ -94,15 +95,16 @@ five-all P one none name =
 
 -- ---- well-formed texts
 
--- a command 1 of a valid list
-command-good : (pool bs : List ℕ) (offset : ℕ) → IsDone (commandsCheck pool offset 0 (1 ∷ bs))
-    → (illFormed pool (declaration bs) ≡ false) × IsDone (commandsCheck pool (suc offset) operands bs)
-unfolding commandsCheck declarationCheck
-command-good pool bs offset h =
-    let rest = commandsCheck pool (suc offset) operands bs in
-    let p = passes (ltb (length bs) operands) 7 offset (declarationCheck pool offset (declaration bs) rest) h in
-    let q = passes (runsPast pool (declaration bs)) 8 offset (pick (illFormed pool (declaration bs)) (Refused 9 offset 0) rest) (p .1) in
-    passes (illFormed pool (declaration bs)) 9 offset rest (q .1)
+-- a declaration of a valid list
+command-good : (pool : List ℕ) (b : ℕ) (bs : List ℕ) (offset : ℕ) → declares b ≡ true → IsDone (commandsCheck pool offset 0 (b ∷ bs))
+    → (illFormed pool (declaration b bs) ≡ false) × IsDone (commandsCheck pool (suc offset) (operands b) bs)
+unfolding declarationCheck
+command-good pool b bs offset is h =
+    let d = declaration b bs in
+    let rest = commandsCheck pool (suc offset) (operands b) bs in
+    let p = passes (ltb (length bs) (operands b)) 7 offset (declarationCheck pool offset d rest) (subst IsDone (head-checked pool offset b bs is) h) in
+    let q = passes (runsPast pool d) 8 offset (pick (illFormed pool d) (Refused 9 offset 0) rest) (p .1) in
+    passes (illFormed pool d) 9 offset rest (q .1)
 
 body-good : (pool : List ℕ) (d : Declaration) → illFormed pool d ≡ false → GoodBound (bodyBound pool (d .body))
 unfolding illFormed bodyBound
@@ -114,6 +116,7 @@ body-good pool d e =
   where
     go : (b : Body) → WellFormed (textOf pool b) → GoodBound (bodyBound pool b)
     go (inside start size) h = h
+    go outside h = tt
 
 byte-good : (b : ℕ) → b < 128 → WellFormed (b ∷ [])
 byte-good b h = ascii-well-formed (b ∷ []) (rw (le-leb b 0x7F (omega arith)))
@@ -126,10 +129,10 @@ unfolding commandsCheck declarationsFrom
 list-good pool [] offset skip h = tt
 list-good pool (b ∷ bs) offset (suc skip) h = list-good pool bs (suc offset) skip h
 list-good pool (b ∷ bs) offset zero h =
-    pick-by (Each GoodBound pool five-good) (eqb b 1) {a = declaration bs ∷ declarationsFrom operands bs} {b = []}
+    pick-by (Each GoodBound pool five-good) (declares b) {a = declaration b bs ∷ declarationsFrom (operands b) bs} {b = []}
     (λ e.
-    let p = command-good pool bs offset (rw (eqb-true b 1 e) at h) in
-    (body-good pool (declaration bs) (p .0), list-good pool bs (suc offset) operands (p .1)))
+    let p = command-good pool b bs offset e h in
+    (body-good pool (declaration b bs) (p .0), list-good pool bs (suc offset) (operands b) (p .1)))
     (λ e. tt)
 
 -- What a valid table binds a name to is UTF-8: refusal 9 keeps other texts out.
@@ -139,22 +142,64 @@ binding-good list pool e name = each-bound GoodBound pool five-good (declaration
 
 -- ---- lengths
 
-text-short : (pool bs : List ℕ) → ((k : ℕ) → getD bs k 0 < 0x100) → length (textOf pool (declaration bs .body)) ≤ 65535
-unfolding textOf part declaration
-text-short pool bs small = rw length-take (omega (arith, u16-small bs 9 small))
+text-short : (pool : List ℕ) (b : ℕ) (bs : List ℕ) → ((k : ℕ) → getD bs k 0 < 0x100) → ShortBound (bodyBound pool (declaration b bs .body))
+unfolding bodyBound textOf part declaration
+text-short pool b bs small = go (eqb b 1)
+  where
+    go : (t : Bool) → ShortBound (bodyBound pool (pick t (inside (littleEndian bs 5 4) (littleEndian bs 9 2)) outside))
+    go true = rw length-take (omega (arith, u16-small bs 9 small))
+    go false = tt
 
 five-short : (name : List ℕ) → ShortBound (predefinedOf name)
 five-short = five-all ShortBound (λ b h. lit≤ tt) tt
 
 list-short : (pool list : List ℕ) (skip : ℕ) → ((k : ℕ) → getD list k 0 < 0x100) → Each ShortBound pool five-short (declarationsFrom skip list)
-unfolding declarationsFrom bodyBound
+unfolding declarationsFrom
 list-short pool [] skip small = tt
 list-short pool (b ∷ bs) (suc skip) small = list-short pool bs skip (λ k. small (suc k))
 list-short pool (b ∷ bs) zero small =
-    pick-both (Each ShortBound pool five-short) (eqb b 1) {a = declaration bs ∷ declarationsFrom operands bs} {b = []}
-    (text-short pool bs (λ k. small (suc k)), list-short pool bs operands (λ k. small (suc k))) tt
+    pick-both (Each ShortBound pool five-short) (declares b) {a = declaration b bs ∷ declarationsFrom (operands b) bs} {b = []}
+    (text-short pool b bs (λ k. small (suc k)), list-short pool bs (operands b) (λ k. small (suc k))) tt
 
 -- the length of a text is written in two bytes
 pub binding-short : (list pool : List ℕ) → ((k : ℕ) → getD list k 0 < 0x100) → (name : List ℕ) → ShortBound (binding list pool name)
 unfolding binding declarations
 binding-short list pool small name = each-bound ShortBound pool five-short (declarations list) (list-short pool list 0 small) name
+
+-- ---- refusals by number
+
+-- what holds of a refusal's number
+abbrev pub ByNumber : (ℕ → Type 0) → Answer → Type 0
+ByNumber P (Done first second) = Unit {0}
+ByNumber P (Refused number first second) = P number
+
+module _ (P : ℕ → Type 0) (six : P 6) (seven : P 7) (eight : P 8) (nine : P 9) where
+  by-end : (bs : List ℕ) (offset : ℕ) → ByNumber P (endCheck bs offset)
+  unfolding endCheck
+  by-end [] offset = tt
+  by-end (b ∷ bs) offset = seven
+
+  by-commands : (pool : List ℕ) (offset skip : ℕ) (bs : List ℕ) → ByNumber P (commandsCheck pool offset skip bs)
+  unfolding commandsCheck declarationCheck
+  by-commands pool offset skip [] = seven
+  by-commands pool offset (suc skip) (b ∷ bs) = by-commands pool (suc offset) skip bs
+  by-commands pool offset zero (b ∷ bs) =
+      let d = declaration b bs in
+      let rest = commandsCheck pool (suc offset) (operands b) bs in
+      let by-nine = pick-both (ByNumber P) (illFormed pool d) {a = Refused 9 offset 0} {b = rest} nine (by-commands pool (suc offset) (operands b) bs) in
+      let by-eight = pick-both (ByNumber P) (runsPast pool d) {a = Refused 8 offset 0} {b = pick (illFormed pool d) (Refused 9 offset 0) rest} eight by-nine in
+      let whole = declarationCheck pool offset d rest in
+      let by-cut = pick-both (ByNumber P) (ltb (length bs) (operands b)) {a = Refused 7 offset 0} {b = whole} seven by-eight in
+      let cut = pick (ltb (length bs) (operands b)) (Refused 7 offset 0) whole in
+      pick-both (ByNumber P) (eqb b 0) {a = endCheck bs (suc offset)} {b = pick (declares b) cut (Refused 7 offset 0)} (by-end bs (suc offset))
+      (pick-both (ByNumber P) (declares b) {a = cut} {b = Refused 7 offset 0} by-cut seven)
+
+  -- a table is refused by 6 to 9
+  pub table-answers : (list pool : List ℕ) → ByNumber P (tableCheck list pool)
+  unfolding tableCheck sizeCheck
+  table-answers list pool = go (ltb 49153 (length list) || ltb 1048576 (length pool)) (commandsCheck pool 0 0 list) (by-commands pool 0 0 list)
+    where
+      go : (t : Bool) (x : Answer) → ByNumber P x → ByNumber P (andThen (pick t (Refused 6 0 0) passed) (andThen x (Done (length (declarations list)) 0)))
+      go true x h = six
+      go false (Done a b) h = tt
+      go false (Refused n a b) h = h

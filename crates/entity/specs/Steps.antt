@@ -1,6 +1,7 @@
 -- Check and lookup, one command at a time: the terms in which the code is proved. No promise of a call rests on these.
 -- Assumes nothing.
 use mathlib.Core.Path.{_≡_}
+use mathlib.Core.Logic.{_≢_}
 use Prim.Native.Nat.{ℕ, suc, _+_, _≤_, _<_}
 use mathlib.Core.List.{List, [], _∷_}
 use lib.ListN.{length, getD, drop}
@@ -10,20 +11,29 @@ use Rattle.text.specs.Call.{andThen, passed}
 use Rattle.text.specs.declared.Answer.{Answer}
 use Rattle.text.specs.declared.Answer.the-variants.{Done, Refused}
 use Rattle.entity.specs.declared.Binding.{Binding}
-use Rattle.entity.specs.declared.Binding.the-variants.{Text, Predefined, Unknown}
-use Rattle.entity.specs.Table.{littleEndian, Declaration, declaration, declarationCheck, endCheck}
+use Rattle.entity.specs.declared.Binding.the-variants.{Text, Predefined, External, Unknown}
+use Rattle.entity.specs.declared.Referent.{Referent}
+use Rattle.entity.specs.declared.Referent.the-variants.{Text as Inside, Predefined as Plain, External as Outside, Unknown as Nothing}
+use Rattle.entity.specs.Table.{littleEndian, Declaration, declaration, operands, declarationsFrom, declarationCheck, endCheck, commandsCheck, tableCheck}
+use Rattle.entity.specs.Binding.{bindingIn, binding}
 
--- the declaration of the command 1 at `at`
+-- the width of a command
+unfoldable pub commandSize : ℕ → ℕ
+unfolding operands
+commandSize b = suc (operands b)
+
+-- the declaration of the command at `at`
 unfoldable pub declarationAt : List ℕ → ℕ → Declaration
 unfolding declaration
-declarationAt list at = declaration (drop (at + 1) list)
+declarationAt list at = declaration (getD list at 0) (drop (at + 1) list)
 
--- refusals 7 (cut operands), 8 and 9 of the command 1 at `at`
+-- refusals 7 (cut operands), 8 and 9 of the command at `at`
 unfoldable pub commandCheck : List ℕ → List ℕ → ℕ → Answer
-unfolding declarationCheck declarationAt
-commandCheck list pool at = pick (ltb (length list) (at + 12)) (Refused 7 at 0) (declarationCheck pool at (declarationAt list at) passed)
+unfolding declarationCheck declarationAt commandSize
+commandCheck list pool at =
+    pick (ltb (length list) (at + commandSize (getD list at 0))) (Refused 7 at 0) (declarationCheck pool at (declarationAt list at) passed)
 
--- what a list from `at` on answers where it does not begin with a command 1, after so many declarations
+-- what a list from `at` on answers where it does not begin with a declaration, after so many of them
 unfoldable pub lastCheck : List ℕ → ℕ → ℕ → Answer
 unfolding endCheck
 lastCheck [] at count = Refused 7 at 0
@@ -33,9 +43,42 @@ lastCheck (b ∷ bs) at count = pick (eqb b 0) (andThen (endCheck bs (suc at)) (
 abbrev pub TextAt : List ℕ → ℕ → Binding → Type 0
 TextAt list at (Text start end) = (start ≡ littleEndian list (at + 6) 4) × (end ≡ start + littleEndian list (at + 10) 2) × (end ≤ start + 65535)
 TextAt list at (Predefined b) = ⊥
+TextAt list at External = ⊥
 TextAt list at Unknown = ⊥
+
+-- what the command at `at` gives its name
+abbrev pub ReferentAt : List ℕ → ℕ → Referent → Type 0
+ReferentAt list at (Inside command start end) =
+    (getD list at 0 ≡ 1) × (command ≡ at) × (start ≡ littleEndian list (at + 6) 4) × (end ≡ start + littleEndian list (at + 10) 2) × (end ≤ start + 65535)
+ReferentAt list at (Plain b) = ⊥
+ReferentAt list at Outside = getD list at 0 ≢ 1
+ReferentAt list at Nothing = ⊥
 
 -- the first bytes from `start` on are those of the name
 pub record Agree (pool : List ℕ) (start : ℕ) (name : List ℕ) (count : ℕ) : Type 0 where
   pub fits : count ≤ length name
   pub agree : (k : ℕ) → k < count → getD pool (start + k) 0 ≡ getD name k 0
+
+-- ---- where a check and a lookup stand
+
+-- an answer that refuses nothing
+abbrev pub IsDone : Answer → Type 0
+IsDone (Done first second) = Unit {0}
+IsDone (Refused number first second) = ⊥
+
+-- the answer of the commands from `at` on, with so many declarations before them
+unfoldable pub answerFrom : List ℕ → List ℕ → ℕ → ℕ → Answer
+unfolding commandsCheck declarationsFrom
+answerFrom list pool at count = andThen (commandsCheck pool at 0 (drop at list)) (Done (count + length (declarationsFrom 0 (drop at list))) 0)
+
+-- the check of a table: the answer from here on is the answer
+pub record Standing (list pool : List ℕ) (at count : ℕ) : Type 0 where
+  pub fits : at ≤ length list
+  pub few : count ≤ at
+  pub short : length list ≤ 49153
+  pub is : answerFrom list pool at count ≡ tableCheck list pool
+
+-- a lookup: the table is valid from here on, and the answer from here on is the answer
+pub record Here (list pool name : List ℕ) (at : ℕ) : Type 0 where
+  pub valid : IsDone (commandsCheck pool at 0 (drop at list))
+  pub is : bindingIn (declarationsFrom 0 (drop at list)) pool name ≡ binding list pool name

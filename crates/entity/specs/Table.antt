@@ -1,7 +1,8 @@
--- The entity table: a command list and a pool of bytes (document 01, Entity table and Refusals by place). Assumes nothing.
+-- The entity table: a command list and a pool of bytes (document 01, Entity table and Refusals by place; document 02, K9).
+-- Assumes nothing.
 use Prim.Native.Nat.{ℕ, zero, suc, _+_, _*_}
 use mathlib.Core.Path.{_≡_}
-use mathlib.Core.Bool.{Bool, _||_, not}
+use mathlib.Core.Bool.{Bool, false, _||_, not}
 use mathlib.Core.List.{List, [], _∷_}
 use lib.ListN.{length, getD, take, drop}
 use lib.Dec.{eqb, ltb}
@@ -20,28 +21,33 @@ littleEndian bytes at (suc width) = getD bytes at 0 + 256 * littleEndian bytes (
 unfoldable pub part : List ℕ → ℕ → ℕ → List ℕ
 part pool start size = take size (drop start pool)
 
--- Entity table: what a declaration gives its name, start and length of a text in the pool
+-- Entity table: what a declaration gives its name, start and length of a text in the pool; K9: or that the entity is external
 pub data Body : Type 0 where
   inside : ℕ → ℕ → Body
+  outside : Body
 
 pub record Declaration : Type 0 where
   pub nameStart : ℕ
   pub nameLength : ℕ
   pub body : Body
 
--- Entity table: name start u32, name length u8, text start u32, text length u16, after the command's byte
-unfoldable pub declaration : List ℕ → Declaration
+-- Entity table and K9: commands 1 and 2 declare a name
+unfoldable pub declares : ℕ → Bool
+declares b = eqb b 1 || eqb b 2
+
+-- Entity table: name start u32, name length u8, text start u32, text length u16, after the command's byte; K9: command 2 has no text
+unfoldable pub declaration : ℕ → List ℕ → Declaration
 unfolding littleEndian
-declaration bs =
+declaration b bs =
     record {
       nameStart = littleEndian bs 0 4;
       nameLength = littleEndian bs 4 1;
-      body = inside (littleEndian bs 5 4) (littleEndian bs 9 2);
+      body = pick (eqb b 1) (inside (littleEndian bs 5 4) (littleEndian bs 9 2)) outside;
     }
 
--- Entity table: the width of these operands
-abbrev pub operands : ℕ
-operands = 11
+-- Entity table and K9: the width of the operands of command 1, of command 2
+unfoldable pub operands : ℕ → ℕ
+operands b = pick (eqb b 1) 11 5
 
 unfoldable pub nameOf : List ℕ → Declaration → List ℕ
 unfolding part
@@ -50,13 +56,14 @@ nameOf pool d = part pool (d .nameStart) (d .nameLength)
 unfoldable pub textOf : List ℕ → Body → List ℕ
 unfolding part
 textOf pool (inside start size) = part pool start size
+textOf pool outside = []
 
--- Entity table: each command 1 up to the first other byte
+-- Entity table and K9: each command 1 or 2 up to the first other byte
 unfoldable pub declarationsFrom : ℕ → List ℕ → List Declaration
-unfolding declaration
+unfolding declaration declares operands
 declarationsFrom skip [] = []
 declarationsFrom (suc skip) (b ∷ bs) = declarationsFrom skip bs
-declarationsFrom zero (b ∷ bs) = let rest = declarationsFrom operands bs in pick (eqb b 1) (declaration bs ∷ rest) []
+declarationsFrom zero (b ∷ bs) = let rest = declarationsFrom (operands b) bs in pick (declares b) (declaration b bs ∷ rest) []
 
 unfoldable pub declarations : List ℕ → List Declaration
 unfolding declarationsFrom
@@ -65,6 +72,7 @@ declarations list = declarationsFrom 0 list
 -- refusal 8: start plus length of name or text past the pool
 unfoldable pub bodyPast : List ℕ → Body → Bool
 bodyPast pool (inside start size) = ltb (length pool) (start + size)
+bodyPast pool outside = false
 
 unfoldable pub runsPast : List ℕ → Declaration → Bool
 unfolding bodyPast
@@ -87,13 +95,13 @@ endCheck (b ∷ bs) offset = Refused 7 offset 0
 
 -- refusals 7 to 9, command by command, from the byte at the offset on after `skip` bytes
 unfoldable pub commandsCheck : List ℕ → ℕ → ℕ → List ℕ → Answer
-unfolding declarationCheck declaration endCheck
+unfolding declarationCheck declaration declares operands endCheck
 commandsCheck pool offset skip [] = Refused 7 offset 0
 commandsCheck pool offset (suc skip) (b ∷ bs) = commandsCheck pool (suc offset) skip bs
 commandsCheck pool offset zero (b ∷ bs) =
-    let rest = commandsCheck pool (suc offset) operands bs in
+    let rest = commandsCheck pool (suc offset) (operands b) bs in
     pick (eqb b 0) (endCheck bs (suc offset))
-    (pick (eqb b 1) (pick (ltb (length bs) operands) (Refused 7 offset 0) (declarationCheck pool offset (declaration bs) rest))
+    (pick (declares b) (pick (ltb (length bs) (operands b)) (Refused 7 offset 0) (declarationCheck pool offset (declaration b bs) rest))
     (Refused 7 offset 0))
 
 -- refusal 6: list over 49,153 or pool over 1,048,576 bytes

@@ -9,16 +9,17 @@ ghost use Rattle.text.specs.Bytes.{sameBytes};
 ghost use Rattle.text.specs.Utf8.{wellFormed};
 ghost use Rattle.text.specs.Call.{passed};
 ghost use Rattle.text.specs.Blocks.{Ascii};
-ghost use Rattle.entity.specs.Table.{littleEndian, part, inside, declarationCheck, tableCheck, ValidTable};
+ghost use Rattle.entity.specs.Table.{littleEndian, part, inside, declares, declarationCheck, tableCheck, ValidTable};
 ghost use Rattle.entity.specs.Binding.{predefinedOf, binding, boundTo, Lies};
 ghost use Rattle.entity.specs.Commands.{commandName, Refers};
-ghost use Rattle.entity.specs.Steps.{commandCheck, lastCheck, TextAt, Agree};
+ghost use Rattle.entity.specs.Steps.{commandSize, ReferentAt, commandCheck, lastCheck, TextAt, Agree, Standing, Here};
 use text::Answer;
 use text::load;
 use text::refusals;
 use text::validate;
 
-// What a name refers to: a command of the table with its text's start and end in the pool, a predefined byte, or nothing.
+// What a name refers to: a command 1 of the table with its text's start and end in the pool, a predefined byte, an external entity,
+// or nothing.
 pub enum Referent {
     Text {
         command: usize,
@@ -26,13 +27,15 @@ pub enum Referent {
         end: usize,
     },
     Predefined(u8),
+    External,
     Unknown,
 }
 
-// What a name is bound to: a text of the table as start and end in the pool, a predefined byte, or nothing.
+// What a name is bound to: a text of the table as start and end in the pool, a predefined byte, an external entity, or nothing.
 pub enum Binding {
     Text { start: usize, end: usize },
     Predefined(u8),
+    External,
     Unknown,
 }
 
@@ -135,8 +138,8 @@ fn check_declaration(
 }
 
 // Refusals 7 to 9 of the command 1 at `at`.
-fn check_command(list: &[u8], pool: &[u8], at: usize, ascii: usize) -> Answer
-    requires { ⌜ at < length (now list) ⌝ }
+fn check_text(list: &[u8], pool: &[u8], at: usize, ascii: usize) -> Answer
+    requires { ⌜ (at < length (now list)) × (getD (now list) at 0 ≡ 1) ⌝ }
     requires { ⌜ Ascii (now pool) ascii ⌝ }
     ensures { λ r. ⌜ r ≡ commandCheck (now (list .entry)) (now (pool .entry)) at ⌝ }
 {
@@ -154,7 +157,47 @@ fn check_command(list: &[u8], pool: &[u8], at: usize, ascii: usize) -> Answer
     )
 }
 
-// What the list answers where no command 1 is at `at`, after so many of them.
+// Refusals 7 to 9 of the command 2 at `at`. An external entity has no text: an empty one is as good.
+fn check_external(list: &[u8], pool: &[u8], at: usize, ascii: usize) -> Answer
+    requires { ⌜ (at < length (now list)) × (getD (now list) at 0 ≡ 2) ⌝ }
+    requires { ⌜ Ascii (now pool) ascii ⌝ }
+    ensures { λ r. ⌜ r ≡ commandCheck (now (list .entry)) (now (pool .entry)) at ⌝ }
+{
+    if list.len() - at < 6 {
+        return refused(refusals::MALFORMED_LIST, at);
+    }
+    check_declaration(
+        pool,
+        at,
+        u32_at(list, at + 1),
+        wide(list[at + 5]),
+        0,
+        0,
+        ascii,
+    )
+}
+
+fn check_command(list: &[u8], pool: &[u8], at: usize, ascii: usize) -> Answer
+    requires { ⌜ (at < length (now list)) × (declares (getD (now list) at 0) ≡ true) ⌝ }
+    requires { ⌜ Ascii (now pool) ascii ⌝ }
+    ensures { λ r. ⌜ r ≡ commandCheck (now (list .entry)) (now (pool .entry)) at ⌝ }
+{
+    if list[at] == 1 {
+        return check_text(list, pool, at, ascii);
+    }
+    check_external(list, pool, at, ascii)
+}
+
+fn command_size(command: u8) -> usize
+    ensures { λ r. ⌜ (r ≡ commandSize command) × (r ≤ 12) ⌝ }
+{
+    if command == 1 {
+        return 12;
+    }
+    6
+}
+
+// What the list answers where no declaration is at `at`, after so many of them.
 fn check_end(list: &[u8], at: usize, count: u64) -> Answer
     requires { ⌜ at ≤ length (now list) ⌝ }
     ensures { λ r. ⌜ r ≡ lastCheck (drop at (now (list .entry))) at count ⌝ }
@@ -174,7 +217,30 @@ fn check_end(list: &[u8], at: usize, count: u64) -> Answer
     }
 }
 
-// Refusals 7 to 9, else the number of declarations.
+// The check of a table from `from` on, where commands of both kinds stand, after `before` of them.
+fn check_later(list: &[u8], pool: &[u8], ascii: usize, from: usize, before: u64) -> Answer
+    requires { ⌜ Standing (now list) (now pool) from before ⌝ }
+    requires { ⌜ Ascii (now pool) ascii ⌝ }
+    ensures { λ r. ⌜ r ≡ tableCheck (now (list .entry)) (now (pool .entry)) ⌝ }
+{
+    let mut at = from;
+    let mut count = before;
+    while at < list.len() && (list[at] == 1) | (list[at] == 2) {
+        let checked = check_command(list, pool, at, ascii);
+        let Answer::Done {
+            first: _,
+            second: _,
+        } = checked
+        else {
+            return checked;
+        };
+        at += command_size(list[at]);
+        count += 1;
+    }
+    check_end(list, at, count)
+}
+
+// Refusals 7 to 9, else the number of declarations. Commands 1 are checked in a loop of their own, as most lists have no others.
 fn check_commands(list: &[u8], pool: &[u8]) -> Answer
     requires { ⌜ (length (now list) ≤ 49153) × (length (now pool) ≤ 1048576) ⌝ }
     ensures { λ r. ⌜ r ≡ tableCheck (now (list .entry)) (now (pool .entry)) ⌝ }
@@ -183,7 +249,7 @@ fn check_commands(list: &[u8], pool: &[u8]) -> Answer
     let mut at: usize = 0;
     let mut count: u64 = 0;
     while at < list.len() && list[at] == 1 {
-        let checked = check_command(list, pool, at, ascii);
+        let checked = check_text(list, pool, at, ascii);
         let Answer::Done {
             first: _,
             second: _,
@@ -194,7 +260,7 @@ fn check_commands(list: &[u8], pool: &[u8]) -> Answer
         at += 12;
         count += 1;
     }
-    check_end(list, at, count)
+    check_later(list, pool, ascii, at, count)
 }
 
 // Refusals 6 to 9, else the number of declarations.
@@ -307,6 +373,7 @@ fn plain_referent(name: &[u8]) -> Referent
     match resolve_xml_entity(name) {
         Binding::Predefined(b) => Referent::Predefined(b),
         Binding::Text { start: _, end: _ } => Referent::Unknown,
+        Binding::External => Referent::Unknown,
         Binding::Unknown => Referent::Unknown,
     }
 }
@@ -326,9 +393,9 @@ pub fn text_length(list: &[u8], at: usize) -> usize
     u16_at(list, at + 10)
 }
 
-// Is this the name of the command 1 at `at`?
+// Is this the name of the command at `at`? Its start and length are at the same places in both kinds.
 pub fn is_named(list: &[u8], pool: &[u8], at: usize, name: &[u8]) -> bool
-    requires { ⌜ at + 12 ≤ length (now list) ⌝ }
+    requires { ⌜ at + 6 ≤ length (now list) ⌝ }
     requires { ⌜ littleEndian (now list) (at + 1) 4 + getD (now list) (at + 5) 0 ≤ length (now pool) ⌝ }
     ensures { λ r. ⌜ r ≡ sameBytes (commandName (now (list .entry)) (now (pool .entry)) at) (now (name .entry)) ⌝ }
 {
@@ -346,8 +413,55 @@ pub fn is_named(list: &[u8], pool: &[u8], at: usize, name: &[u8]) -> bool
     true
 }
 
-// What a name refers to: the first command that has it, else one of the five, else nothing. A command's text is decoded once,
-// outside the loop over the bytes.
+// The same, the names' ends first: most are told apart by them.
+fn has_name(list: &[u8], pool: &[u8], at: usize, name: &[u8]) -> bool
+    requires { ⌜ at + 6 ≤ length (now list) ⌝ }
+    requires { ⌜ littleEndian (now list) (at + 1) 4 + getD (now list) (at + 5) 0 ≤ length (now pool) ⌝ }
+    ensures { λ r. ⌜ r ≡ sameBytes (commandName (now (list .entry)) (now (pool .entry)) at) (now (name .entry)) ⌝ }
+{
+    if wide(list[at + 5]) != name.len() {
+        return false;
+    }
+    if ends_differ(pool, u32_at(list, at + 1), name) {
+        return false;
+    }
+    is_named(list, pool, at, name)
+}
+
+// What the command at `at`, at which a lookup stops, gives its name.
+fn referent_at(list: &[u8], at: usize) -> Referent
+    requires { ⌜ (at < length (now list)) × (getD (now list) at 0 ≡ 1 → at + 12 ≤ length (now list)) ⌝ }
+    ensures { λ r. ⌜ ReferentAt (now (list .entry)) at r ⌝ }
+{
+    if list[at] == 1 {
+        let start = text_start(list, at);
+        return Referent::Text {
+            command: at,
+            start,
+            end: start + text_length(list, at),
+        };
+    }
+    Referent::External
+}
+
+// What a name refers to, from `from` on, where commands of both kinds stand.
+fn find_later(list: &[u8], pool: &[u8], name: &[u8], from: usize) -> Referent
+    requires { ⌜ Here (now list) (now pool) (now name) from ⌝ }
+    ensures { λ r. ⌜ Refers (now (list .entry)) (now (pool .entry)) (now (name .entry)) r ⌝ }
+{
+    let mut at = from;
+    while list[at] != 0 {
+        if has_name(list, pool, at, name) {
+            return referent_at(list, at);
+        }
+        at += command_size(list[at]);
+    }
+    plain_referent(name)
+}
+
+// What a name refers to: the first command that has it, else one of the five, else nothing. Commands 1 have a loop of their own, as
+// most lists have no others; that the list is over is seen by its length, so that the loop keeps no byte for a second test. A command's
+// text is decoded once, outside the loop over the bytes.
 pub fn find_entity(list: &[u8], pool: &[u8], name: &[u8]) -> Referent
     requires { ⌜ ValidTable (now list) (now pool) ⌝ }
     ensures { λ r. ⌜ Refers (now (list .entry)) (now (pool .entry)) (now (name .entry)) r ⌝ }
@@ -355,7 +469,16 @@ pub fn find_entity(list: &[u8], pool: &[u8], name: &[u8]) -> Referent
     let mut at: usize = 0;
     'commands: loop {
         if list[at] != 1 {
-            break 'commands plain_referent(name);
+            if at + 1 == list.len() {
+                break 'commands plain_referent(name);
+            }
+            // As parts: slices that are handed on whole are copied at entry, by loads that wait for the caller's stores.
+            break 'commands find_later(
+                &list[..list.len()],
+                &pool[..pool.len()],
+                &name[..name.len()],
+                at,
+            );
         }
         let length = wide(list[at + 5]);
         if length != name.len() {
@@ -387,21 +510,29 @@ pub fn find_entity(list: &[u8], pool: &[u8], name: &[u8]) -> Referent
     }
 }
 
-// The text of the first command whose name is `name`, else one of the five, else nothing.
-pub fn resolve_entity(list: &[u8], pool: &[u8], name: &[u8]) -> Binding
-    requires { ⌜ ValidTable (now list) (now pool) ⌝ }
-    ensures { λ r. ⌜ boundTo (now (pool .entry)) r ≡ binding (now (list .entry)) (now (pool .entry)) (now (name .entry)) ⌝ }
-    ensures { λ r. ⌜ Lies (now (pool .entry)) r ⌝ }
+// What a name is bound to, by what it refers to.
+fn binding_of(referent: Referent) -> Binding
+    ensures { λ r. ⌜ ((list pool name : List ℕ) → Refers list pool name referent → (boundTo pool r ≡ binding list pool name) × Lies pool r) ⌝ }
 {
-    match find_entity(list, pool, name) {
+    match referent {
         Referent::Text {
             command: _,
             start,
             end,
         } => Binding::Text { start, end },
         Referent::Predefined(b) => Binding::Predefined(b),
+        Referent::External => Binding::External,
         Referent::Unknown => Binding::Unknown,
     }
+}
+
+// What the first command whose name is `name` gives it, else one of the five, else nothing.
+pub fn resolve_entity(list: &[u8], pool: &[u8], name: &[u8]) -> Binding
+    requires { ⌜ ValidTable (now list) (now pool) ⌝ }
+    ensures { λ r. ⌜ boundTo (now (pool .entry)) r ≡ binding (now (list .entry)) (now (pool .entry)) (now (name .entry)) ⌝ }
+    ensures { λ r. ⌜ Lies (now (pool .entry)) r ⌝ }
+{
+    binding_of(find_entity(list, pool, name))
 }
 
 // The same for a short name, whose end is not worth a test of its own: small enough to be compiled into each walk.
@@ -413,6 +544,9 @@ pub fn resolve_short(list: &[u8], pool: &[u8], name: &[u8]) -> Binding
     let mut at: usize = 0;
     'commands: loop {
         if list[at] != 1 {
+            if list[at] == 2 {
+                break 'commands binding_of(find_later(list, pool, name, at));
+            }
             break 'commands resolve_xml_entity(name);
         }
         let length = wide(list[at + 5]);

@@ -1,5 +1,5 @@
 -- What becomes of a halt, return by return: a text of the table (`halt-limit`, `halt-again`, `halt-leaf`, `halt-opens`), other names
--- (`halt-predefined`, `halt-unknown`), characters and refusals (`halt-char`, `halt-refused`), line ends (`halt-blank`). Assumes nothing.
+-- (`halt-external`, `halt-predefined`, `halt-unknown`), characters and refusals (`halt-char`, `halt-refused`), line ends (`halt-blank`). Assumes nothing.
 use mathlib.Core.Path.{_≡_, refl, sym, ap, subst, _∙_}
 use mathlib.Core.Logic.{_≢_}
 use mathlib.Core.Bool.{Bool, true, false, true≢false, _&&_, _||_}
@@ -21,7 +21,7 @@ use Rattle.halts.specs.Halts.{halts, Smooth, blanksSpaced}
 use Rattle.text.specs.declared.Answer.the-variants.{Done, Refused}
 use Rattle.entity.specs.Table.{littleEndian, part, declarations, ValidTable}
 use Rattle.entity.proofs.Commands.{long-list}
-use Rattle.entity.specs.Binding.{text, predefined, unknown, predefinedOf, binding, boundTo}
+use Rattle.entity.specs.Binding.{text, external, predefined, unknown, predefinedOf, binding, boundTo}
 use Rattle.entity.specs.Commands.{commandText, RefersTo}
 use Rattle.entity.proofs.Referents.{defines-binding}
 use Rattle.tokens.specs.Tokens.{named, stop, Token, Heads, tokenOf}
@@ -30,7 +30,7 @@ use Rattle.tokens.specs.Walking.{headAt, outcomeOf}
 use Rattle.attribute.specs.Walk.{Settings, answer, opened, walk}
 use Rattle.attribute.specs.Heads.{attributeHead}
 use Rattle.attribute.specs.Steps.{stopAnswer, Blank}
-use Rattle.attribute.proofs.Single.{stop-deeper, at-unknown, at-predefined, walk-predefined}
+use Rattle.attribute.proofs.Single.{stop-deeper, at-external, at-unknown, at-predefined, walk-predefined}
 use Rattle.attribute.proofs.Stops.{blank-line}
 use Rattle.memory.specs.Slots.{slotOf, Kept, Noted}
 use Rattle.memory.specs.Levels.{ruleBy, settingsOf, Level, levelOf, Adds, Came, Taken}
@@ -189,6 +189,20 @@ module _ (r : Reading) (t list pool : List ℕ) (p : Place) (deep : r .depth ≢
 
     bind : reads .bind name ≡ binding list pool name
     bind = call-bind (ruleBy (r .inner)) list pool (r .limit) name
+
+    -- refusal 27, whatever the openings so far
+    pub halt-external : binding list pool name ≡ external → HaltKeeps level (r .base) p old seen old seen (Stopped 27 (p .at) 0)
+    unfolding boundTo
+    halt-external e =
+        record {
+          past = tt;
+          buffer = refl;
+          words = refl;
+          goes = λ v whole begun b k.
+              came-stop level v whole begun k [] (p .openings) inside
+              (at-external (eqb (r .how) 1) reads legal (r .depth) deep t (p .at) (p .openings) end (f .amp) (f .ends) (f .inside) (f .no-number) (binding list pool name) bind pool
+              (rw (f .no-amp, e)));
+        }
 
     -- refusal 11
     pub halt-unknown : binding list pool name ≡ unknown → HaltKeeps level (r .base) p old seen old seen (Stopped 11 (p .at + 1) end)

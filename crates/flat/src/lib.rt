@@ -231,7 +231,7 @@ fn text_step(
     }
 }
 
-// A reference to a name, which ends at `end`: predefined, unknown, or a text of the table.
+// A reference to a name, which ends at `end`: a text of the table, external, predefined, or unknown.
 fn named_step(
     text: &[u8],
     end: usize,
@@ -266,6 +266,11 @@ fn named_step(
             seen,
             out,
         ),
+        Referent::External => Halted::Stopped {
+            number: refusals::EXTERNAL_ENTITY,
+            first: place.at as u64,
+            second: 0,
+        },
         Referent::Predefined(b) => {
             memory::keep_plain(b, seen);
             output::put_byte(b, place.len, out);

@@ -1,4 +1,4 @@
-// Document 01's refusals, by the names of include/govlezna.h.
+// The refusals of documents 01 and 02, by the names of include/govlezna.h.
 pub const TOO_LONG: u32 = 1;
 
 pub const DEPTH_TOO_LARGE: u32 = 2;
@@ -38,6 +38,8 @@ pub const NO_SCRATCH: u32 = 18;
 pub const NO_ROOM: u32 = 19;
 
 pub const CURSOR_OUTSIDE: u32 = 20;
+
+pub const EXTERNAL_ENTITY: u32 = 27;
 
 // No refusal: there is no further piece.
 pub const NO_MORE: u32 = 255;

@@ -13,7 +13,7 @@ use Rattle.charref.specs.CharRef.{anyCharacter, encode}
 use Rattle.charref.specs.Reading.{Found}
 use Rattle.charref.specs.declared.Quick.{Quick}
 use Rattle.entity.specs.Binding.{Bound, boundTo, Lies}
-use Rattle.entity.specs.declared.Binding.the-variants.{Text, Predefined, Unknown}
+use Rattle.entity.specs.declared.Binding.the-variants.{Text, External, Predefined, Unknown}
 use Rattle.output.specs.Over.{over}
 use Rattle.runs.specs.RunEnds.{isAmp}
 use Rattle.tokens.specs.Tokens.{stop, unterminated}
@@ -54,6 +54,13 @@ module _ (pool name : List ℕ) (i next : ℕ) {bound : Bound} where
   named-predefined b {old} {new} q w =
       subst (λ (d : Bound). Named d name i next old new (Next next 1 0)) q
       (record { step = stepped-byte b w; short = (omega arith, refl) })
+
+  -- refusal 27
+  pub named-external : {old : List ℕ} → boundTo pool External ≡ bound → Named bound name i next old old (Stopped 27 i 0)
+  unfolding copied boundTo
+  named-external {old} q =
+      subst (λ (d : Bound). Named d name i next old old (Stopped 27 i 0)) q
+      (record { step = stepped-refused refl refl; short = tt })
 
   -- refusal 11
   pub named-unknown : {size : ℕ} {old : List ℕ} → length name ≡ size → boundTo pool Unknown ≡ bound

@@ -9,7 +9,7 @@ use borrow.Author.Tests.{eqb-true}
 use Rattle.text.specs.Utf8.{State, between, next, after, WellFormed}
 use Rattle.text.proofs.Bytes.{pick-by}
 use Rattle.charref.specs.CharRef.{anyCharacter}
-use Rattle.entity.specs.Binding.{Bound, text, predefined, unknown, GoodBound}
+use Rattle.entity.specs.Binding.{Bound, text, external, predefined, unknown, GoodBound}
 use Rattle.tokens.specs.Tokens.{kept, space, number, named, unterminated, copy, stop, head}
 use Rattle.tokens.specs.Outcome.{done}
 use Rattle.tokens.proofs.Carried.{Carried, Moving, Answering, run-carried, number-carried}
@@ -28,6 +28,7 @@ module _ (bind : List ℕ → Bound) (C : Carried anyCharacter) where
         → C .Holds x y n (copied offset name b n)
     unfolding copied
     copied-carried x y offset name l (text t) e n = P .bound x y offset name t l e n
+    copied-carried x y offset name l external e n = C .refusal x y n 27 offset 0
     copied-carried x y offset name l (predefined t) e n = P .stands-for x y offset name t l e n
     copied-carried x y offset name l unknown e n = C .refusal x y n 11 (suc offset) (suc offset + length name)
 

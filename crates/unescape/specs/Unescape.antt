@@ -6,7 +6,7 @@ use lib.ListN.{length}
 use lib.Dec.{eqb}
 use Rattle.text.specs.Bytes.{pick}
 use Rattle.charref.specs.CharRef.{anyCharacter}
-use Rattle.entity.specs.Binding.{Bound, text, predefined, unknown}
+use Rattle.entity.specs.Binding.{Bound, text, external, predefined, unknown}
 use Rattle.tokens.specs.Tokens.{Stop, kept, space, number, named, unterminated, copy, Head, head, nameAt, referenceAt, tokens}
 use Rattle.tokens.specs.Outcome.{Outcome, done, refused, run, numberOutcome}
 
@@ -15,9 +15,10 @@ unfoldable pub textHead : ℕ → ℕ → List ℕ → Head
 unfolding referenceAt nameAt
 textHead offset b bs = pick (eqb b 38) (referenceAt offset bs (nameAt true bs)) (head (copy b) 0)
 
--- the text copied; refusal 11 has start and end of the name
+-- the text copied; refusal 27 (document 02, K9) has the offset of `&`, refusal 11 start and end of the name
 unfoldable pub copied : ℕ → List ℕ → Bound → ℕ → Outcome
 copied offset name (text t) openings = done t openings
+copied offset name external openings = refused [] openings 27 offset 0
 copied offset name (predefined t) openings = done t openings
 copied offset name unknown openings = refused [] openings 11 (suc offset) (suc offset + length name)
 

@@ -41,6 +41,11 @@ fn bound_step(
                 openings: 0,
             }
         }
+        Binding::External => Step::Stopped {
+            number: refusals::EXTERNAL_ENTITY,
+            first: i as u64,
+            second: 0,
+        },
         Binding::Predefined(b) => {
             output::put_byte(b, 0, out);
             Step::Next {

@@ -1,12 +1,12 @@
 -- `check_commands` keeps `Standing`: the answer of the commands from here on, with those counted before them, is the table's.
 use mathlib.Core.Path.{_≡_, sym, _∙_}
-use mathlib.Core.Logic.{⊎-elim}
 use native.Mathlib.Omega.{arith}
 use borrow.Author.Needs.{needs}
-use borrow.Author.Tests.{eqb-true, eqb-false}
+use borrow.Author.Tests.{eqb-true}
 use lib.ListN.{length, getD}
 use Prim.Native.Nat.{_-_}
-use Rattle.entity.proofs.Commands.{Standing, start, finish, refuses, goes-on}
+use Rattle.entity.specs.Steps.{Standing}
+use Rattle.entity.proofs.Commands.{start, refuses, goes-on, size-one, declares-one}
 use Rattle.entity.proofs.check_commands.Statement.{statement}
 use Rattle.entity.proofs.check_commands.Tie as tie
 
@@ -18,7 +18,7 @@ abbrev μ-loop : tie.MeasureT-loop
 
 -- places: a command that was checked, and its turn of the loop
 abbrev Checked : Type 0
-Checked = tie.After-check-command Inv-loop μ-loop
+Checked = tie.After-check-text Inv-loop μ-loop
 
 abbrev test : Checked → tie.In-loop Inv-loop μ-loop
 test c = c .before .before .before
@@ -44,8 +44,10 @@ loop-holds c =
 shared-slice-read-if1 : tie.Need-shared-slice-read-if1 Inv-loop μ-loop
 shared-slice-read-if1 c = c .before .loop-test .taken
 
-check-command-requires : tie.Need-check-command-requires Inv-loop μ-loop
-check-command-requires c κs = let t = c .before .before in (t .loop-test .taken, t .before .before .ascii-of .ensures)
+check-text-requires : tie.Need-check-text-requires Inv-loop μ-loop
+check-text-requires c κs =
+    let t = c .before .before in
+    ((t .loop-test .taken, eqb-true _ _ (c .if1 .taken)), t .before .before .ascii-of .ensures)
 
 enum-told : tie.Need-enum-told Inv-loop μ-loop
 enum-told c = search needs
@@ -57,10 +59,10 @@ enum-told-2 c = search needs
 returns : tie.Need-returns Inv-loop μ-loop
 returns c =
     let k = c .before .before in
-    let is = k .check-command .ensures in
+    let is = k .check-text .ensures in
     let asked = entry k .args in
     let l = turn k .loop in
-    is ∙ refuses (asked .list .now) (asked .pool .now) (l .at) (l .count) (l .inv) (test k .loop-test .taken) (one k) (sym is ∙ c .enum-told2 .given .1)
+    is ∙ refuses (asked .list .now) (asked .pool .now) (l .at) (l .count) (l .inv) (test k .loop-test .taken) (declares-one (one k)) (sym is ∙ c .enum-told2 .given .1)
 
 -- one that is not
 add-at : tie.Need-add-at Inv-loop μ-loop
@@ -77,19 +79,14 @@ loop-again c =
     let k = c .before .before in
     let asked = entry k .args in
     let l = turn k .loop in
-    goes-on (asked .list .now) (asked .pool .now) (l .at) (l .count) (l .inv) (test k .loop-test .taken) (one k) (sym (k .check-command .ensures) ∙ c .enum-told .given .1)
+    goes-on (asked .list .now) (asked .pool .now) (l .at) (l .count) (l .inv) (test k .loop-test .taken) (declares-one (one k))
+    (sym (k .check-text .ensures) ∙ c .enum-told .given .1) (size-one (one k))
 
-check-end-requires : tie.Need-check-end-requires Inv-loop μ-loop
-check-end-requires c κs = c .before .loop .inv .fits
+check-later-requires : tie.Need-check-later-requires Inv-loop μ-loop
+check-later-requires c κs = let l = c .before in (l .loop .inv, l .before .ascii-of .ensures)
 
 returns-2 : tie.Need-returns-2 Inv-loop μ-loop
-returns-2 c =
-    let left = c .before in
-    let l = left .before .loop in
-    let asked = left .before .before .before .before .before .args in
-    c .check-end .ensures
-    ∙ finish (asked .list .now) (asked .pool .now) (l .at) (l .count) (l .inv)
-    (λ h e. ⊎-elim (λ w. eqb-false _ _ (w .2 .left) e) (λ w. let o : ⊥ = omega (arith, w .left) in o) (left .loop-test .came))
+returns-2 c = c .check-later .ensures
 
 pub check-commands-spec : {M : Type 1} → statement M
 check-commands-spec =
@@ -100,7 +97,7 @@ check-commands-spec =
     ascii-of-requires
     loop-holds
     shared-slice-read-if1
-    check-command-requires
+    check-text-requires
     enum-told
     enum-told-2
     returns
@@ -108,5 +105,5 @@ check-commands-spec =
     add-count
     loop-less
     loop-again
-    check-end-requires
+    check-later-requires
     returns-2)

@@ -1,13 +1,15 @@
--- `find_entity` answers with the first command that has the name, with none where the list has no more: the loop over commands keeps `Here`, the
--- loop over bytes `Agree`.
+-- `find_entity` answers with the first command 1 that has the name, or as `find_later` where another command comes: the loop over commands keeps
+-- `Here`, the loop over bytes `Agree`.
 use mathlib.Core.Path.{refl, sym, ap, _∙_}
+use mathlib.Core.List.{List}
 use native.Mathlib.Omega.{arith}
 use borrow.Author.Needs.{needs}
 use lib.ListN.{length}
 use Prim.Native.Nat.{ℕ, _+_, _-_, _≤_}
 use Rattle.entity.specs.Table.{littleEndian}
-use Rattle.entity.specs.Steps.{Agree}
-use Rattle.entity.proofs.Lookup.{Here, begin, in-list, over, Command, command, on, agree-more, same-all, differ-length, differ-at, same-part}
+use Rattle.entity.specs.Commands.{Refers}
+use Rattle.entity.specs.Steps.{Agree, Here}
+use Rattle.entity.proofs.Lookup.{whole-part, as-parts, of-parts, begin, in-list, over, last-over, Command, command, on, agree-more, same-all, differ-length, differ-at, same-part}
 use Rattle.entity.proofs.Referents.{defines-hit}
 use Rattle.entity.proofs.find_entity.Statement.{statement}
 use Rattle.entity.proofs.find_entity.Tie as tie
@@ -29,13 +31,13 @@ abbrev One : Type 0
 One = tie.Else1 Inv-bytes μ-bytes Inv-commands μ-commands
 
 abbrev Long : Type 0
-Long = tie.Else2 Inv-bytes μ-bytes Inv-commands μ-commands
+Long = tie.Else3 Inv-bytes μ-bytes Inv-commands μ-commands
 
 abbrev Alike : Type 0
-Alike = tie.Else3 Inv-bytes μ-bytes Inv-commands μ-commands
+Alike = tie.Else4 Inv-bytes μ-bytes Inv-commands μ-commands
 
 abbrev Byte : Type 0
-Byte = tie.Else4 Inv-bytes μ-bytes Inv-commands μ-commands
+Byte = tie.Else5 Inv-bytes μ-bytes Inv-commands μ-commands
 
 abbrev entry : One → tie.Start Inv-bytes μ-bytes Inv-commands μ-commands
 entry c = c .before .before .before .before .before .before
@@ -52,7 +54,7 @@ name-read c = c .before .before
 abbrev alike : Byte → Alike
 alike c = c .before .before .before .before .before
 
-abbrev byte : tie.Else5 Inv-bytes μ-bytes Inv-commands μ-commands → Byte
+abbrev byte : tie.Else6 Inv-bytes μ-bytes Inv-commands μ-commands → Byte
 byte c = c .before .before .before
 
 -- the command's operands are in the list, name and text in the pool
@@ -72,9 +74,37 @@ commands-holds c =
 shared-slice-read-if1 : tie.Need-shared-slice-read-if1 Inv-bytes μ-bytes Inv-commands μ-commands
 shared-slice-read-if1 c = in-list (c .before .commands .inv)
 
+add-if2 : tie.Need-add-if2 Inv-bytes μ-bytes Inv-commands μ-commands
+add-if2 c = omega (arith, in-list (c .before .before .commands .inv))
+
 plain-referent-requires :
     tie.Need-plain-referent-requires Inv-bytes μ-bytes Inv-commands μ-commands
 plain-referent-requires c κs = search needs
+
+slice-aggregate-find-later :
+    tie.Need-slice-aggregate-find-later Inv-bytes μ-bytes Inv-commands μ-commands
+slice-aggregate-find-later c =
+    let t = c .before .before .before .before in
+    ap length (sym (whole-part (t .before .before .before .before .args .list .now)))
+
+slice-aggregate-find-later-2 :
+    tie.Need-slice-aggregate-find-later-2 Inv-bytes μ-bytes Inv-commands μ-commands
+slice-aggregate-find-later-2 c =
+    let t = c .before .before .before .before .before in
+    ap length (sym (whole-part (t .before .before .before .before .args .pool .now)))
+
+slice-aggregate-find-later-3 :
+    tie.Need-slice-aggregate-find-later-3 Inv-bytes μ-bytes Inv-commands μ-commands
+slice-aggregate-find-later-3 c =
+    let t = c .before .before .before .before .before .before in
+    ap length (sym (whole-part (t .before .before .before .before .args .name .now)))
+
+-- a command of another kind: the lookup goes on from there, its three slices as parts
+find-later-requires : tie.Need-find-later-requires Inv-bytes μ-bytes Inv-commands μ-commands
+find-later-requires c κs =
+    let t = c .before .before .before .before .before .before in
+    let asked = t .before .before .before .before .args in
+    as-parts (λ (l p n : List ℕ). Here l p n (t .commands .at)) (asked .list .now) (asked .pool .now) (asked .name .now) (t .commands .inv)
 
 add-wide : tie.Need-add-wide Inv-bytes μ-bytes Inv-commands μ-commands
 add-wide c = let k = known c in omega arith
@@ -99,7 +129,7 @@ commands-again c =
     let asked = entry o .args in
     let start = littleEndian (asked .list .now) (turn o .commands .at + 1) 4 in
     on (turn o .commands .inv) (o .if1 .left) refl (c .before .wide .ensures .0)
-    (differ-length (asked .pool .now) start (asked .name .now) (c .before .wide .result) (omega arith) (c .if2 .taken))
+    (differ-length (asked .pool .now) start (asked .name .now) (c .before .wide .result) (omega arith) (c .if3 .taken))
 
 add-u32-at : tie.Need-add-u32-at Inv-bytes μ-bytes Inv-commands μ-commands
 add-u32-at c = let k = known (one c) in omega arith
@@ -122,8 +152,8 @@ commands-again-2 c =
     let start = c .before .before in
     let l = start .before in
     let o = one l in
-    on (turn o .commands .inv) (o .if1 .left) (start .u32-at .ensures .0) (sym (l .if2 .left) ∙ l .before .wide .ensures .0)
-    (c .before .ends-differ .ensures (c .if3 .taken))
+    on (turn o .commands .inv) (o .if1 .left) (start .u32-at .ensures .0) (sym (l .if3 .left) ∙ l .before .wide .ensures .0)
+    (c .before .ends-differ .ensures (c .if4 .taken))
 
 text-start-requires : tie.Need-text-start-requires Inv-bytes μ-bytes Inv-commands μ-commands
 text-start-requires c κs = let k = known (one (name-read c .before)) in omega arith
@@ -140,15 +170,15 @@ same-words-requires c κs = inside (name-read (c .before .before))
 bytes-holds : tie.Need-bytes-holds Inv-bytes μ-bytes Inv-commands μ-commands
 bytes-holds c = c .same-words .ensures
 
-add-if5 : tie.Need-add-if5 Inv-bytes μ-bytes Inv-commands μ-commands
-add-if5 c = omega (arith, inside (name-read (alike c)), c .before .bytes .inv .fits)
+add-if6 : tie.Need-add-if6 Inv-bytes μ-bytes Inv-commands μ-commands
+add-if6 c = omega (arith, inside (name-read (alike c)), c .before .bytes .inv .fits)
 
-shared-slice-read-if5 : tie.Need-shared-slice-read-if5 Inv-bytes μ-bytes Inv-commands μ-commands
-shared-slice-read-if5 c = let b = c .before in omega (arith, inside (name-read (alike b)), b .before .bytes .inv .fits)
+shared-slice-read-if6 : tie.Need-shared-slice-read-if6 Inv-bytes μ-bytes Inv-commands μ-commands
+shared-slice-read-if6 c = let b = c .before in omega (arith, inside (name-read (alike b)), b .before .bytes .inv .fits)
 
-shared-slice-read-if5-2 :
-    tie.Need-shared-slice-read-if5-2 Inv-bytes μ-bytes Inv-commands μ-commands
-shared-slice-read-if5-2 c = omega (arith, c .before .before .before .bytes .inv .fits)
+shared-slice-read-if6-2 :
+    tie.Need-shared-slice-read-if6-2 Inv-bytes μ-bytes Inv-commands μ-commands
+shared-slice-read-if6-2 c = omega (arith, c .before .before .before .bytes .inv .fits)
 
 add-i : tie.Need-add-i Inv-bytes μ-bytes Inv-commands μ-commands
 add-i c = omega (arith, byte c .before .bytes .inv .fits)
@@ -161,7 +191,7 @@ bytes-again c =
     let start = name-read (alike (byte c)) in
     let asked = entry (one (start .before)) .args in
     let l = byte c .before .bytes in
-    agree-more (asked .pool .now) (start .u32-at .result) (asked .name .now) (l .i) (l .inv) (omega (arith, l .inv .fits)) (c .if5 .left) (omega arith)
+    agree-more (asked .pool .now) (start .u32-at .result) (asked .name .now) (l .i) (l .inv) (omega (arith, l .inv .fits)) (c .if6 .left) (omega arith)
 
 -- a byte that differs
 add-at-3 : tie.Need-add-at-3 Inv-bytes μ-bytes Inv-commands μ-commands
@@ -179,18 +209,26 @@ commands-again-3 c =
     let size = start .before .before .wide in
     let l = b .before .bytes in
     on (turn o .commands .inv) (o .if1 .left) (start .u32-at .ensures .0) (size .ensures .0)
-    (differ-at (asked .pool .now) (start .u32-at .result) (asked .name .now) (size .result) (l .i) (omega (arith, l .inv .fits)) (c .if5 .taken))
+    (differ-at (asked .pool .now) (start .u32-at .result) (asked .name .now) (size .result) (l .i) (omega (arith, l .inv .fits)) (c .if6 .taken))
 
--- no command has the name
+-- the list is over
 returns : tie.Need-returns Inv-bytes μ-bytes Inv-commands μ-commands
 returns c =
-    let at = c .before .before .before in
+    let last = c .before in
+    let at = last .before .before .before in
     let asked = at .before .before .before .before .args in
-    c .plain-referent .ensures (asked .list .now) (asked .pool .now) (over (at .commands .inv) (c .before .if1 .taken))
+    c .plain-referent .ensures (asked .list .now) (asked .pool .now) (over (at .commands .inv) (last-over (at .commands .inv) (omega (arith, last .if2 .taken))))
 
--- this command has it
+-- a command of another kind
 returns-2 : tie.Need-returns-2 Inv-bytes μ-bytes Inv-commands μ-commands
 returns-2 c =
+    let t = c .before .before .before .before .before .before .before in
+    let asked = t .before .before .before .before .args in
+    of-parts (λ (l p n : List ℕ). Refers l p n (c .find-later .result)) (asked .list .now) (asked .pool .now) (asked .name .now) (c .find-later .ensures)
+
+-- this command has it
+returns-3 : tie.Need-returns-3 Inv-bytes μ-bytes Inv-commands μ-commands
+returns-3 c =
     let count = c .before .before .before in
     let text = count .before .text-start in
     let name = name-read (count .before .before) in
@@ -200,7 +238,7 @@ returns-2 c =
     let asked = entry o .args in
     let start = name .u32-at in
     let size = l .before .wide in
-    let same = same-all (asked .pool .now) (start .result) (asked .name .now) (size .result) (omega (arith, inside name)) (l .if2 .left) (c .before .bytes .inv) (omega arith) in
+    let same = same-all (asked .pool .now) (start .result) (asked .name .now) (size .result) (omega (arith, inside name)) (l .if3 .left) (c .before .bytes .inv) (omega arith) in
     let same-name = same-part (asked .pool .now) (asked .name .now) (start .ensures .0) (size .ensures .0) same in
     record {
       defines = defines-hit (asked .list .now) (asked .pool .now) (asked .name .now) (t .at) (t .inv) (o .if1 .left) same-name (omega (arith, count .text-length .ensures));
@@ -219,7 +257,12 @@ find-entity-spec =
     μ-commands
     commands-holds
     shared-slice-read-if1
+    add-if2
     plain-referent-requires
+    slice-aggregate-find-later
+    slice-aggregate-find-later-2
+    slice-aggregate-find-later-3
+    find-later-requires
     add-wide
     shared-slice-read-wide
     wide-requires
@@ -237,9 +280,9 @@ find-entity-spec =
     add-end
     same-words-requires
     bytes-holds
-    add-if5
-    shared-slice-read-if5
-    shared-slice-read-if5-2
+    add-if6
+    shared-slice-read-if6
+    shared-slice-read-if6-2
     add-i
     bytes-less
     bytes-again
@@ -247,4 +290,5 @@ find-entity-spec =
     commands-less-3
     commands-again-3
     returns
-    returns-2)
+    returns-2
+    returns-3)

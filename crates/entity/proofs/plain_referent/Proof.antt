@@ -16,6 +16,9 @@ enum-told c = search needs
 enum-told-2 : tie.Need-enum-told-2
 enum-told-2 c = search needs
 
+enum-told-3 : tie.Need-enum-told-3
+enum-told-3 c = search needs
+
 returns : tie.Need-returns
 returns c =
     let found = c .before .before .before .resolve-xml-entity in
@@ -31,6 +34,11 @@ returns-3 c =
     let found = c .before .before .resolve-xml-entity in
     refers-plain (c .before .before .before .before .args .name .now) (found .result) (found .ensures .0) (found .ensures .1) (c .enum-told2 .given .1)
 
+returns-4 : tie.Need-returns-4
+returns-4 c =
+    let found = c .before .before .resolve-xml-entity in
+    refers-plain (c .before .before .before .before .args .name .now) (found .result) (found .ensures .0) (found .ensures .1) (c .enum-told3 .given .1)
+
 pub plain-referent-spec : {M : Type 1} → statement M
 plain-referent-spec =
     tie.close
@@ -39,6 +47,8 @@ plain-referent-spec =
     enum-known-b
     enum-told
     enum-told-2
+    enum-told-3
     returns
     returns-2
-    returns-3)
+    returns-3
+    returns-4)

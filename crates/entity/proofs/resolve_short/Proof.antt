@@ -5,8 +5,8 @@ use borrow.Author.Needs.{needs}
 use lib.ListN.{length}
 use Prim.Native.Nat.{_+_, _-_, _≤_}
 use Rattle.entity.specs.Table.{littleEndian}
-use Rattle.entity.specs.Steps.{Agree}
-use Rattle.entity.proofs.Lookup.{Here, begin, in-list, over, Command, command, on, hit, agree-none, agree-more, same-all, differ-length, differ-at}
+use Rattle.entity.specs.Steps.{Agree, Here}
+use Rattle.entity.proofs.Lookup.{begin, in-list, over, other-declares, Command, command, on, hit, agree-none, agree-more, same-all, differ-length, differ-at}
 use Rattle.entity.proofs.resolve_short.Statement.{statement}
 use Rattle.entity.proofs.resolve_short.Tie as tie
 
@@ -27,10 +27,10 @@ abbrev One : Type 0
 One = tie.Else1 Inv-bytes μ-bytes Inv-commands μ-commands
 
 abbrev Long : Type 0
-Long = tie.Else2 Inv-bytes μ-bytes Inv-commands μ-commands
+Long = tie.Else3 Inv-bytes μ-bytes Inv-commands μ-commands
 
 abbrev Byte : Type 0
-Byte = tie.Else3 Inv-bytes μ-bytes Inv-commands μ-commands
+Byte = tie.Else4 Inv-bytes μ-bytes Inv-commands μ-commands
 
 abbrev entry : One → tie.Start Inv-bytes μ-bytes Inv-commands μ-commands
 entry c = c .before .before .before .before .before .before
@@ -44,7 +44,7 @@ one c = c .before .before .before
 abbrev long : Byte → Long
 long c = c .before .before .before .before
 
-abbrev byte : tie.Else4 Inv-bytes μ-bytes Inv-commands μ-commands → Byte
+abbrev byte : tie.Else5 Inv-bytes μ-bytes Inv-commands μ-commands → Byte
 byte c = c .before .before .before
 
 -- the command's operands are in the list, name and text in the pool
@@ -63,6 +63,16 @@ commands-holds c =
 
 shared-slice-read-if1 : tie.Need-shared-slice-read-if1 Inv-bytes μ-bytes Inv-commands μ-commands
 shared-slice-read-if1 c = in-list (c .before .commands .inv)
+
+shared-slice-read-if2 : tie.Need-shared-slice-read-if2 Inv-bytes μ-bytes Inv-commands μ-commands
+shared-slice-read-if2 c = in-list (c .before .before .before .commands .inv)
+
+-- a command of another kind
+find-later-requires : tie.Need-find-later-requires Inv-bytes μ-bytes Inv-commands μ-commands
+find-later-requires c κs = c .before .before .before .before .commands .inv
+
+binding-of-requires : tie.Need-binding-of-requires Inv-bytes μ-bytes Inv-commands μ-commands
+binding-of-requires c = search needs
 
 resolve-xml-entity-requires :
     tie.Need-resolve-xml-entity-requires Inv-bytes μ-bytes Inv-commands μ-commands
@@ -91,7 +101,7 @@ commands-again c =
     let asked = entry o .args in
     let start = littleEndian (asked .list .now) (turn o .commands .at + 1) 4 in
     on (turn o .commands .inv) (o .if1 .left) refl (c .before .wide .ensures .0)
-    (differ-length (asked .pool .now) start (asked .name .now) (c .before .wide .result) (omega arith) (c .if2 .taken))
+    (differ-length (asked .pool .now) start (asked .name .now) (c .before .wide .result) (omega arith) (c .if3 .taken))
 
 add-u32-at : tie.Need-add-u32-at Inv-bytes μ-bytes Inv-commands μ-commands
 add-u32-at c = let k = known (one c) in omega arith
@@ -107,15 +117,15 @@ bytes-holds c =
     let asked = entry (one (c .before .before)) .args in
     agree-none (asked .pool .now) (c .before .u32-at .result) (asked .name .now)
 
-add-if4 : tie.Need-add-if4 Inv-bytes μ-bytes Inv-commands μ-commands
-add-if4 c = omega (arith, inside (c .before .before .before), c .before .bytes .inv .fits)
+add-if5 : tie.Need-add-if5 Inv-bytes μ-bytes Inv-commands μ-commands
+add-if5 c = omega (arith, inside (c .before .before .before), c .before .bytes .inv .fits)
 
-shared-slice-read-if4 : tie.Need-shared-slice-read-if4 Inv-bytes μ-bytes Inv-commands μ-commands
-shared-slice-read-if4 c = omega (arith, inside (c .before .before .before .before), c .before .before .bytes .inv .fits)
+shared-slice-read-if5 : tie.Need-shared-slice-read-if5 Inv-bytes μ-bytes Inv-commands μ-commands
+shared-slice-read-if5 c = omega (arith, inside (c .before .before .before .before), c .before .before .bytes .inv .fits)
 
-shared-slice-read-if4-2 :
-    tie.Need-shared-slice-read-if4-2 Inv-bytes μ-bytes Inv-commands μ-commands
-shared-slice-read-if4-2 c = omega (arith, c .before .before .before .bytes .inv .fits)
+shared-slice-read-if5-2 :
+    tie.Need-shared-slice-read-if5-2 Inv-bytes μ-bytes Inv-commands μ-commands
+shared-slice-read-if5-2 c = omega (arith, c .before .before .before .bytes .inv .fits)
 
 add-k : tie.Need-add-k Inv-bytes μ-bytes Inv-commands μ-commands
 add-k c = omega (arith, byte c .before .bytes .inv .fits)
@@ -128,7 +138,7 @@ bytes-again c =
     let b = byte c in
     let asked = entry (one (long b)) .args in
     let l = b .before .bytes in
-    agree-more (asked .pool .now) (b .before .before .before .u32-at .result) (asked .name .now) (l .k) (l .inv) (omega (arith, l .inv .fits)) (c .if4 .left) (omega arith)
+    agree-more (asked .pool .now) (b .before .before .before .u32-at .result) (asked .name .now) (l .k) (l .inv) (omega (arith, l .inv .fits)) (c .if5 .left) (omega arith)
 
 -- a byte that differs
 add-at-2 : tie.Need-add-at-2 Inv-bytes μ-bytes Inv-commands μ-commands
@@ -145,18 +155,28 @@ commands-again-2 c =
     let start = b .before .before .before .u32-at in
     let size = long b .before .wide in
     on (turn o .commands .inv) (o .if1 .left) (start .ensures .0) (size .ensures .0)
-    (differ-at (asked .pool .now) (start .result) (asked .name .now) (size .result) (b .before .bytes .k) (omega (arith, b .before .bytes .inv .fits)) (c .if4 .taken))
+    (differ-at (asked .pool .now) (start .result) (asked .name .now) (size .result) (b .before .bytes .k) (omega (arith, b .before .bytes .inv .fits)) (c .if5 .taken))
 
--- no command has the name
+-- as the lookup from there on
 returns : tie.Need-returns Inv-bytes μ-bytes Inv-commands μ-commands
 returns c =
-    let at = c .before .before .before in
-    let pool = at .before .before .before .before .args .pool .now in
-    (c .resolve-xml-entity .ensures .0 pool ∙ over (at .commands .inv) (c .before .if1 .taken), c .resolve-xml-entity .ensures .1 pool)
+    let later = c .before in
+    let asked = later .before .before .before .before .before .before .before .before .before .args in
+    c .binding-of .ensures (asked .list .now) (asked .pool .now) (asked .name .now) (later .find-later .ensures)
 
--- this command has it
+-- no command has the name
 returns-2 : tie.Need-returns-2 Inv-bytes μ-bytes Inv-commands μ-commands
 returns-2 c =
+    let other = c .before in
+    let at = other .before .before .before .before in
+    let pool = at .before .before .before .before .args .pool .now in (
+      c .resolve-xml-entity .ensures .0 pool ∙ over (at .commands .inv) (other-declares (other .before .before .if1 .taken) (λ e. omega (arith, e, other .if2 .left))),
+      c .resolve-xml-entity .ensures .1 pool,
+    )
+
+-- this command has it
+returns-3 : tie.Need-returns-3 Inv-bytes μ-bytes Inv-commands μ-commands
+returns-3 c =
     let found = c .before .before in
     let l = found .before .before in
     let o = one l in
@@ -165,7 +185,7 @@ returns-2 c =
     let size = l .before .wide in
     let k = known o in
     hit (turn o .commands .inv) (o .if1 .left) (start .ensures .0) (size .ensures .0)
-    (same-all (asked .pool .now) (start .result) (asked .name .now) (size .result) (omega arith) (l .if2 .left) (c .before .bytes .inv) (omega arith))
+    (same-all (asked .pool .now) (start .result) (asked .name .now) (size .result) (omega arith) (l .if3 .left) (c .before .bytes .inv) (omega arith))
     (found .text-at .result) (found .text-at .ensures)
 
 pub resolve-short-spec : {M : Type 1} → statement M
@@ -178,6 +198,9 @@ resolve-short-spec =
     μ-commands
     commands-holds
     shared-slice-read-if1
+    shared-slice-read-if2
+    find-later-requires
+    binding-of-requires
     resolve-xml-entity-requires
     add-wide
     shared-slice-read-wide
@@ -189,9 +212,9 @@ resolve-short-spec =
     u32-at-requires
     text-at-requires
     bytes-holds
-    add-if4
-    shared-slice-read-if4
-    shared-slice-read-if4-2
+    add-if5
+    shared-slice-read-if5
+    shared-slice-read-if5-2
     add-k
     bytes-less
     bytes-again
@@ -199,4 +222,5 @@ resolve-short-spec =
     commands-less-2
     commands-again-2
     returns
-    returns-2)
+    returns-2
+    returns-3)

@@ -1,5 +1,5 @@
 -- What the table says of the name (`refers`) decides: a text goes on in `text_step`, which is told what the name refers to (`referred`), a
--- predefined name is its byte, any other name is refused.
+-- predefined name is its byte, an external or any other name is refused.
 use Prim.Native.Nat.{ℕ, _<_}
 use mathlib.Core.Path.{_≡_, subst}
 use native.Mathlib.Omega.{arith}
@@ -8,7 +8,7 @@ use Rattle.entity.specs.Commands.{Refers}
 use Rattle.entity.specs.declared.Referent.{Referent}
 use Rattle.memory.proofs.Readings.{lent-within, lent-room, lent-bounds}
 use Rattle.flat.specs.Between.{nameOf}
-use Rattle.flat.proofs.Halting.{referred, halt-unknown, halt-predefined, valid-short, refers-part}
+use Rattle.flat.proofs.Halting.{referred, halt-external, halt-unknown, halt-predefined, valid-short, refers-part}
 use borrow.Author.Needs.{needs}
 use Rattle.flat.proofs.named_step.Statement.{statement}
 use Rattle.flat.proofs.named_step.Tie as tie
@@ -97,6 +97,9 @@ text-step-requires c κs =
       ),
     )
 
+enum-told : tie.Need-enum-told
+enum-told c = search needs
+
 enum-known-b : tie.Need-enum-known-b
 enum-known-b c = search needs
 
@@ -106,11 +109,11 @@ keep-plain-requires c κs = search needs
 put-byte-requires : tie.Need-put-byte-requires
 put-byte-requires c κs = search needs
 
-add-t41 : tie.Need-add-t41
-add-t41 c = search needs
+add-t42 : tie.Need-add-t42
+add-t42 c = search needs
 
-enum-told : tie.Need-enum-told
-enum-told c = search needs
+enum-told-2 : tie.Need-enum-told-2
+enum-told-2 c = search needs
 
 same-length : tie.Need-same-length
 same-length c = search needs
@@ -130,11 +133,22 @@ returns c =
 same-length-3 : tie.Need-same-length-3
 same-length-3 c = search needs
 
+returns-2 : tie.Need-returns-2
+returns-2 c =
+    let answer = c .before .before in
+    let start = entry answer in
+    let a = start .args in
+    halt-external (a .reading) (a .text .now) (a .list .now) (a .pool .now) (a .place) (start .pre .1 .0 .0) (a .out .now) (a .seen .now)
+    (start .pre .1 .1 .0) (refers answer (c .enum-told .given .1))
+
 same-length-4 : tie.Need-same-length-4
 same-length-4 c = search needs
 
-returns-2 : tie.Need-returns-2
-returns-2 c =
+same-length-5 : tie.Need-same-length-5
+same-length-5 c = search needs
+
+returns-3 : tie.Need-returns-3
+returns-3 c =
     let kept = c .before .before .before .before .before .before in
     let at-byte = kept .before .before .before in
     let answer = at-byte .before .before in
@@ -144,16 +158,16 @@ returns-2 c =
     halt-predefined (a .reading) (a .text .now) (a .list .now) (a .pool .now) (a .place) (start .pre .1 .0 .0) (a .out .now) (a .seen .now)
     (start .pre .1 .1 .0) (k .1) (k .2) (c .before .before .put-byte .ensures) (kept .keep-plain .ensures)
 
-same-length-5 : tie.Need-same-length-5
-same-length-5 c = search needs
+same-length-6 : tie.Need-same-length-6
+same-length-6 c = search needs
 
-returns-3 : tie.Need-returns-3
-returns-3 c =
+returns-4 : tie.Need-returns-4
+returns-4 c =
     let answer = c .before .before in
     let start = entry answer in
     let a = start .args in
     halt-unknown (a .reading) (a .text .now) (a .list .now) (a .pool .now) (a .place) (start .pre .1 .0 .0) (a .out .now) (a .seen .now)
-    (start .pre .1 .1 .0) (refers answer (c .enum-told .given .1))
+    (start .pre .1 .1 .0) (refers answer (c .enum-told2 .given .1))
 
 pub named-step-spec : {M : Type 1} → statement M
 named-step-spec =
@@ -174,16 +188,19 @@ named-step-spec =
     part-text-step-end
     add-text-step
     text-step-requires
+    enum-told
     enum-known-b
     keep-plain-requires
     put-byte-requires
-    add-t41
-    enum-told
+    add-t42
+    enum-told-2
     same-length
     same-length-2
     returns
     same-length-3
-    same-length-4
     returns-2
+    same-length-4
     same-length-5
-    returns-3)
+    returns-3
+    same-length-6
+    returns-4)

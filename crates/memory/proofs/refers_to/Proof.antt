@@ -41,7 +41,7 @@ is-named-requires : tie.Need-is-named-requires
 is-named-requires c κs =
     let start = c .before .before .before .before .before .before .before in
     let d = slot-defines (start .pre .1 .1) (start .pre .1 .0 .0) (c .if2 .taken) in
-    (d .fits, d .name)
+    (omega (arith, d .fits), d .name)
 
 text-start-requires : tie.Need-text-start-requires
 text-start-requires c κs =
