@@ -19,11 +19,17 @@ struct span {
     size_t length;
 };
 
-/* The arguments, taken apart. Pointers are into argv; the entities are as written, NAME=TEXT. */
+/* An entity of the command line: its name, and its text; NULL for one that is external. */
+struct entity {
+    struct span name;
+    const char *text;
+};
+
+/* The arguments, taken apart. Pointers are into argv; the entities are in the order given, of either option. */
 struct arguments {
     enum command command;
     const char *text, *file, *list, *pool;
-    char **entities;
+    struct entity *entities;
     size_t entity_count;
     uint8_t level, version;
     uint64_t depth, limit;
@@ -65,6 +71,8 @@ void read_arguments(int argc, char **argv, struct arguments *arguments);
 void fail(const char *what, const char *why);
 void flush_output(void);
 void *allocate(size_t length);
+/* How many bytes the command 1 or 2 of a list takes up. */
+size_t command_size(const uint8_t *command);
 void read_request(const struct arguments *arguments, struct request *request);
 void free_request(struct request *request);
 

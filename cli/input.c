@@ -73,35 +73,47 @@ static void read_text(const struct arguments *a, struct request *request)
     }
 }
 
+size_t command_size(const uint8_t *command)
+{
+    return command[0] == 1 ? 12 : 6;
+}
+
 static void put_number(uint8_t *to, size_t width, size_t value)
 {
     for (size_t i = 0; i < width; i++)
         to[i] = (uint8_t)(value >> 8 * i & 0xFF);
 }
 
-/* The table of the --entity options: a command each, names and texts one after the other in the pool. */
+/* Appends to the pool; where the bytes start there. */
+static size_t pooled(struct request *request, const void *bytes, size_t length)
+{
+    size_t start = request->pool_length;
+    memcpy(request->pool + start, bytes, length);
+    request->pool_length += length;
+    return start;
+}
+
+/* The table of the --entity and --external options: a command each, names and texts one after the other in the pool. */
 static void build_table(const struct arguments *a, struct request *request)
 {
     uint8_t *command;
     size_t pool_room = 0;
     for (size_t i = 0; i < a->entity_count; i++)
-        pool_room += strlen(a->entities[i]) - 1;
-    request->list_length = 12 * a->entity_count + 1;
-    request->list = command = allocate(request->list_length);
+        pool_room += a->entities[i].name.length + (a->entities[i].text == NULL ? 0 : strlen(a->entities[i].text));
+    request->list = command = allocate(12 * a->entity_count + 1);
     request->pool = allocate(pool_room);
-    for (size_t i = 0; i < a->entity_count; i++, command += 12) {
-        const char *name = a->entities[i], *text = strchr(name, '=') + 1;
-        size_t name_length = (size_t)(text - name) - 1, start = request->pool_length;
-        memcpy(request->pool + start, name, name_length);
-        memcpy(request->pool + start + name_length, text, strlen(text));
-        request->pool_length += name_length + strlen(text);
-        command[0] = 1;
-        put_number(command + 1, 4, start);
-        put_number(command + 5, 1, name_length);
-        put_number(command + 6, 4, start + name_length);
-        put_number(command + 10, 2, strlen(text));
+    for (size_t i = 0; i < a->entity_count; i++, command += command_size(command)) {
+        const struct entity *e = &a->entities[i];
+        command[0] = e->text == NULL ? 2 : 1;
+        put_number(command + 1, 4, pooled(request, e->name.bytes, e->name.length));
+        put_number(command + 5, 1, e->name.length);
+        if (e->text == NULL)
+            continue;
+        put_number(command + 6, 4, pooled(request, e->text, strlen(e->text)));
+        put_number(command + 10, 2, strlen(e->text));
     }
     command[0] = 0;
+    request->list_length = (size_t)(command - request->list) + 1;
 }
 
 void read_request(const struct arguments *a, struct request *request)

@@ -10,7 +10,7 @@ static const char *const commands[] = { "escape", "unescape", "normalize", "cano
 
 #define COMMANDS (sizeof commands / sizeof commands[0])
 
-enum option { LEVEL, VERSION, DEPTH, LIMIT, ENTITY, TABLE, AT_START, AT_END, FROM_FILE, JSON, OPTIONS };
+enum option { LEVEL, VERSION, DEPTH, LIMIT, ENTITY, EXTERNAL, TABLE, AT_START, AT_END, FROM_FILE, JSON, OPTIONS };
 
 #define ON(command) (1u << (command))
 #define ALL 0xFFu
@@ -26,6 +26,7 @@ static const struct {
     { "--depth", 1, ON(NORMALIZE) | ON(CANONICAL) },
     { "--limit", 1, ON(NORMALIZE) | ON(CANONICAL) },
     { "--entity", 1, ON(UNESCAPE) | ON(NORMALIZE) | ON(CANONICAL) | ON(CHECK) },
+    { "--external", 1, ON(UNESCAPE) | ON(NORMALIZE) | ON(CANONICAL) | ON(CHECK) },
     { "--table", 2, ON(UNESCAPE) | ON(NORMALIZE) | ON(CANONICAL) | ON(CHECK) },
     { "--start", 0, ON(TRIM) },
     { "--end", 0, ON(TRIM) },
@@ -91,16 +92,23 @@ static enum option read_option(const char *word, const char **value)
     return OPTIONS;
 }
 
-static void set_entity(struct arguments *a, char *value)
+/* An entity whose name is the first bytes of the value; without a text it is external. */
+static void add_entity(struct arguments *a, const char *option, const char *name, size_t length, const char *text)
+{
+    if (length > 0xFF)
+        bad_usage(option, "a name has at most 255 bytes");
+    if (text != NULL && strlen(text) > 0xFFFF)
+        bad_usage(option, "a text has at most 65,535 bytes");
+    a->entities[a->entity_count++] = (struct entity){ { (const uint8_t *)name, length }, text };
+}
+
+static void set_entity(struct arguments *a, const char *value)
 {
     const char *equals = strchr(value, '=');
     if (equals == NULL)
         bad_usage("--entity", "expected NAME=TEXT");
-    if (equals - value > 0xFF)
-        bad_usage("--entity", "a name has at most 255 bytes");
-    if (strlen(equals + 1) > 0xFFFF)
-        bad_usage("--entity", "a text has at most 65,535 bytes");
-    a->entities[a->entity_count++] = value;
+    else
+        add_entity(a, "--entity", value, (size_t)(equals - value), equals + 1);
 }
 
 /* Puts an option's values where they belong. */
@@ -113,6 +121,7 @@ static void set_option(struct arguments *a, enum option option, char **values)
     case DEPTH: a->depth = read_number(name, values[0], UINT64_MAX); break;
     case LIMIT: a->limit = read_number(name, values[0], UINT64_MAX); break;
     case ENTITY: set_entity(a, values[0]); break;
+    case EXTERNAL: add_entity(a, name, values[0], strlen(values[0]), NULL); break;
     case TABLE: a->list = values[0], a->pool = values[1]; break;
     case AT_START: a->side = START; break;
     case AT_END: a->side = END; break;
@@ -127,7 +136,7 @@ static void check_together(const struct arguments *a, unsigned seen)
     if (a->text != NULL && a->file != NULL)
         bad_usage("--file", "the text is given too");
     if (a->entity_count > 0 && a->list != NULL)
-        bad_usage("--entity", "--table is given too");
+        bad_usage(seen & ON(ENTITY) ? "--entity" : "--external", "--table is given too");
     if (seen & ON(AT_START) && seen & ON(AT_END))
         bad_usage("--start", "--end is given too; for both ends give neither");
 }
@@ -141,7 +150,7 @@ static int take_option(struct arguments *a, unsigned *seen, int argc, char **arg
     char *value = argv[at] + strlen(options[option].name) + 1;
     if (!(options[option].commands & ON(a->command)))
         bad_usage(options[option].name, "not an option of this command");
-    if (option != ENTITY && *seen & ON(option))
+    if (option != ENTITY && option != EXTERNAL && *seen & ON(option))
         bad_usage(options[option].name, "given twice");
     *seen |= ON(option);
     if (inside != NULL && values != 1)

@@ -103,13 +103,15 @@ static size_t little_endian(const uint8_t *bytes, size_t width)
     return value;
 }
 
-/* The text of a name in a table that was checked. 0: it defines no such name. */
+/* The text of a name in a table that was checked. 0: it gives that name none. */
 static int look_up(const struct request *q, struct span name, struct span *text)
 {
-    for (const uint8_t *command = q->list; command[0] == 1; command += 12) {
+    for (const uint8_t *command = q->list; command[0] != 0; command += command_size(command)) {
         size_t length = little_endian(command + 5, 1);
         if (length != name.length || memcmp(q->pool + little_endian(command + 1, 4), name.bytes, length) != 0)
             continue;
+        if (command[0] == 2)
+            return 0;
         *text = (struct span){ q->pool + little_endian(command + 6, 4), little_endian(command + 10, 2) };
         return 1;
     }
@@ -189,7 +191,8 @@ struct place find_place(const struct request *q, const struct outcome *o)
                                .text = { q->text, q->text_length },
                                .start = o->answer[0],
                                .end = o->answer[0] + 1 };
-    if (o->number >= GOVLEZNA_UNTERMINATED_ENTITY && o->number <= GOVLEZNA_TOO_MANY_OPENINGS)
+    if ((o->number >= GOVLEZNA_UNTERMINATED_ENTITY && o->number <= GOVLEZNA_TOO_MANY_OPENINGS) ||
+        o->number == GOVLEZNA_EXTERNAL_ENTITY)
         return find_in_walk(q, o->number);
     return none;
 }

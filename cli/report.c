@@ -119,13 +119,18 @@ static void show_place(const struct request *q, const struct place *place)
     show_line(given, place->opened, place->opened + 1);
 }
 
-/* The definition or the command of the list that a table is refused for. */
+/* The option or the command of the list that a table is refused for. */
 static void show_command(const struct request *q, const struct outcome *o)
 {
-    if (q->arguments->entity_count > 0)
-        fprintf(stderr, ": --entity number %" PRIu64, o->answer[0] / 12 + 1);
-    else
+    const uint8_t *command = q->list;
+    size_t number[3] = { 0, 0, 0 };
+    if (q->arguments->entity_count == 0) {
         fprintf(stderr, ": byte %" PRIu64 " of the list", o->answer[0]);
+        return;
+    }
+    for (; command < q->list + o->answer[0]; command += command_size(command))
+        number[command[0]]++;
+    fprintf(stderr, ": %s number %zu", command[0] == 1 ? "--entity" : "--external", number[command[0]] + 1);
 }
 
 void report_refusal(const struct request *q, const struct outcome *o)

@@ -26,6 +26,7 @@ static const struct {
     { GOVLEZNA_NO_SCRATCH, "the scratch is shorter than the value" },
     { GOVLEZNA_NO_ROOM, "the output is shorter than the result" },
     { GOVLEZNA_CURSOR_OUTSIDE, "the cursor is past the text's end or inside a character" },
+    { GOVLEZNA_EXTERNAL_ENTITY, "the entity is external: it has no text here, and may not stand in an attribute value" },
     { GOVLEZNA_NO_MORE, "there is no further piece" },
 };
 

@@ -59,6 +59,7 @@ extern "C" {
 #define GOVLEZNA_NO_SCRATCH 18          /* scratch shorter than the value: first is the length needed */
 #define GOVLEZNA_NO_ROOM 19             /* output shorter than the result: first is the length needed */
 #define GOVLEZNA_CURSOR_OUTSIDE 20      /* cursor past the end or inside a character: first is its offset */
+#define GOVLEZNA_EXTERNAL_ENTITY 27     /* the name of an external entity: first is the offset of & */
 
 /* No refusal: there is no further piece. */
 #define GOVLEZNA_NO_MORE 255
@@ -113,10 +114,12 @@ uint32_t govlezna_normalize_eols(const uint8_t *text, size_t text_length, uint8_
  * fixed width, little-endian:
  *   1  name start (4 bytes), name length (1), text start (4), text length (2): a definition, 12 bytes in all; the starts
  *      are offsets in the pool.
+ *   2  name start (4 bytes), name length (1): an external entity, 6 bytes in all. Its text is elsewhere, and XML forbids
+ *      it in attribute values: a reference to it is refused.
  *   0  end: the last byte of the list. Alone it is the empty table: for "no table" hand over the list { 0 } of length 1,
  *      and NULL with length 0 for the pool.
- * Where a name is defined twice, the first definition binds. A name that no definition has may be one of lt, gt, amp,
- * apos and quot, which stand for < > & ' " . A table may define these five.
+ * Where a name is defined twice, by either command, the first definition binds. A name that no definition has may be one
+ * of lt, gt, amp, apos and quot, which stand for < > & ' " . A table may define these five.
  *
  * Example: the list { 1, 0,0,0,0, 1, 1,0,0,0, 4,0, 0 } and the pool "esail" define e as `sail`.
  */
@@ -125,7 +128,7 @@ uint32_t govlezna_normalize_eols(const uint8_t *text, size_t text_length, uint8_
  * Is the table valid? The calls below check their table in the same way.
  *
  * `list`, `pool`: the table; for none the list { 0 } of length 1, and NULL with length 0.
- * Success: answer[0] is the number of definitions.
+ * Success: answer[0] is the number of definitions, external entities among them.
  * Refusals, in this order: TABLE_TOO_LONG (list over 49,153 or pool over 1,048,576 bytes); then, command by command,
  * MALFORMED_LIST (unknown command, cut operands, no end, bytes after the end; answer[0]: where), OUTSIDE_POOL (a name or
  * text runs past the pool; answer[0]: the command's offset), INVALID_DEFINITION (an empty name, or a name or text that
@@ -145,8 +148,9 @@ uint32_t govlezna_check_table(const uint8_t *list, size_t list_length, const uin
  * Success: answer[0] is the length written; the rest of `out` keeps its bytes.
  * Refusals, in this order: TOO_LONG; NOT_UTF8; those of govlezna_check_table; the leftmost of UNTERMINATED_ENTITY (no ;
  * after &; answer[0]: the offset of &, answer[1]: the text's length), UNRECOGNIZED_ENTITY (no such name; answer[0] and
- * answer[1]: its start and end) and UNEXPECTED_SIGN, INVALID_NUMBER, ILLEGAL_CHARACTER, INVALID_CODEPOINT (as in
- * govlezna_parse_number); NO_ROOM (answer[0]: the length needed). None writes to `out`.
+ * answer[1]: its start and end), EXTERNAL_ENTITY (answer[0]: the offset of &) and UNEXPECTED_SIGN, INVALID_NUMBER,
+ * ILLEGAL_CHARACTER, INVALID_CODEPOINT (as in govlezna_parse_number); NO_ROOM (answer[0]: the length needed). None
+ * writes to `out`.
  * Time: the text is walked at most twice, to count and to write; a name is looked for from the table's first command on.
  * Example: with the table above `&lt;&e; &#65;` gives `<sail A`; `a&b;` is refused by UNRECOGNIZED_ENTITY, first 2,
  * second 3.
@@ -174,13 +178,14 @@ uint32_t govlezna_unescape(const uint8_t *text, size_t text_length, const uint8_
  * may be a text of the table, are: TOO_DEEP (at depth 0, as above), UNTERMINATED_ENTITY (no ; after &; answer[0]: the
  * offset of &, answer[1]: that text's length), UNEXPECTED_SIGN, INVALID_NUMBER, ILLEGAL_CHARACTER, INVALID_CODEPOINT (as
  * in govlezna_parse_number), UNRECOGNIZED_ENTITY (no such name; answer[0] and answer[1]: its start and end),
- * TOO_MANY_OPENINGS (the limit is used up; answer[0]: the offset of &).
+ * EXTERNAL_ENTITY (answer[0]: the offset of &), TOO_MANY_OPENINGS (the limit is used up; answer[0]: the offset of &).
  * Time: the text is walked at most twice, to count and to write. A text of the table is walked at its first opening, and
  * mostly not again: what up to sixteen of them gave is kept during the call. Openings times the longest text of the
  * table bound what the walk takes beyond its own text, so `limit` is the caller's hold on time. A name that is not kept
  * is looked for from the table's first command on.
  * Example: version 0, depth 2, limit 10, the table above: `&e;` TAB `&#9;` gives `sail`, a space and a TAB, openings 1.
- * With limit 0 it is refused by TOO_MANY_OPENINGS, first 0; at depth 0 by TOO_DEEP.
+ * With limit 0 it is refused by TOO_MANY_OPENINGS, first 0; at depth 0 by TOO_DEEP. With the list { 2, 0,0,0,0, 1, 0 }
+ * in the place of the table's, which names e as external, it is refused by EXTERNAL_ENTITY, first 0.
  */
 uint32_t govlezna_normalize_attribute_value(const uint8_t *text, size_t text_length, uint8_t version, uint64_t depth,
                                             uint64_t limit, const uint8_t *list, size_t list_length,
@@ -191,7 +196,8 @@ uint32_t govlezna_normalize_attribute_value(const uint8_t *text, size_t text_len
  * The canonical form of an attribute value: the normalized value, written as level 3 of govlezna_escape; in version 2
  * also U+0085 as &#133; and U+2028 as &#8232; . Two values of one XML version have equal forms exactly when their
  * normalized values are equal. A form of at most 16,777,216 bytes, normalized in the same version at depth 1 or more
- * with a table that defines none of lt, gt, apos and quot, gives the normalized value back, and its form is itself.
+ * with a table that defines none of lt, gt, apos and quot, by either command, gives the normalized value back, and its
+ * form is itself.
  *
  * `list`, `pool`: the table; for none the list { 0 } of length 1, and NULL with length 0.
  * Success: answer[0] is the length of the form, answer[1] the number of openings. The first bytes of the scratch are the

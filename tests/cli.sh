@@ -52,7 +52,7 @@ refuses() {
 # The place in the last answer in JSON is the library's, where the refusal has one.
 place_is_the_librarys() { # NUMBER
     case $1 in
-    5 | 10 | 17) grep -qE '"first":([0-9]+),.*"start":\1,' "$room/out" ;;
+    5 | 10 | 17 | 27) grep -qE '"first":([0-9]+),.*"start":\1,' "$room/out" ;;
     11) grep -qE '"first":([0-9]+),"second":([0-9]+),.*"start":\1,"end":\2,' "$room/out" ;;
     esac
 }
@@ -89,6 +89,9 @@ results() {
     gives $'a\xC2\x85b' canonical 'a&#x85;b' --version 1.0
     gives 'a b' normalize 'a b' --depth 0
     gives 'xx' normalize '&a;' --entity 'a=&b;&b;' --entity b=x --depth 2 --limit 3
+    gives 'x' normalize '&e;' --entity e=x --external e
+    gives '&' normalize '&amp;' --external amp
+    gives 'ab' normalize 'a&e;b' --entity e= --entity 'never=&f;' --external f
     gives $'a\nb\nc' eols $'a\r\nb\rc'
     gives $'\n' eols $'\r\xC2\x85' --version 2
     gives 'a b' trim $' \t a b\r\n'
@@ -99,6 +102,7 @@ results() {
     gives '<![CDATA[]]>' cdata ''
     gives $'UTF-8, 3 bytes\n' check 'aß'
     gives $'UTF-8, 1 bytes\ntable valid, 2 definitions\n' check a --entity a=b --entity c=
+    gives $'UTF-8, 1 bytes\ntable valid, 3 definitions\n' check a --external a --entity b=c --external b
     gives '--level' escape -- --level
     gives '-' escape -
 }
@@ -127,6 +131,8 @@ refusals() {
     done
     refuses 9 ': --entity number 2' unescape a --entity a=b --entity =c
     refuses 9 ': --entity number 1' check a --entity $'a=\xFF'
+    refuses 9 ': --external number 1' check a --entity a=b --external ''
+    refuses 9 ': --entity number 2' check a --entity a=b --external c --external d --entity =e
     refuses 10 ': byte 2 of the text' unescape 'a &b'
     refuses 10 ': byte 0 of the text' unescape '&a&b;'
     refuses 11 ': bytes 1 to 3 of the text' normalize '&a&b;'
@@ -146,6 +152,12 @@ refusals() {
     refuses 17 ': byte 0 of the text' normalize '&e;' --entity e=½ --limit 0
     refuses 17 ': byte 0 of the text of the entity e' normalize '&e;' --entity 'e=&e;' --limit 2 --depth 3
     refuses 17 ': byte 5 of the text' normalize 'a &e;&e;' --entity 'e=&f;' --entity f=x --limit 2
+    refuses 27 ': bytes 2 to 4 of the text' normalize 'a &e; b' --external e --entity e=x
+    refuses 27 ': bytes 2 to 4 of the text' canonical 'a &e; b' --external e --limit 0
+    refuses 27 ': bytes 0 to 4 of the text' unescape '&amp;' --external amp
+    refuses 27 ': bytes 0 to 3 of the text' normalize '&lt;' --external lt
+    refuses 27 ': bytes 1 to 3 of the text of the entity a' normalize 'q &a;' --entity 'a=x&e;' --external e
+    refuses 16 ': byte 0 of the text' normalize '&e;' --external e --depth 0
 }
 
 # The line and the carets: below entities, on a later line, in a long line, under characters of several bytes.
@@ -156,6 +168,9 @@ places() {
 govlezna: opened from byte 5 of the text, line 2
     ab &panel; c
        ^' normalize $'x\nab &panel; c' --entity 'panel=&sail;' --entity 'sail=a &boom; b'
+    shows 'govlezna: refusal 27: the entity is external: it has no text here, and may not stand in an attribute value: bytes 4 to 9 of the text, line 1
+    Cut &plan; here
+        ^^^^^^' normalize 'Cut &plan; here' --external plan
     shows 'govlezna: refusal 10: no ; after &: byte 6 of the text, line 2
      ß?&c
        ^' unescape $'\r\n\tß\x01&c'
@@ -183,6 +198,10 @@ files() {
     head -c 12 "$room/list" >"$room/cut"
     refuses 7 ': byte 12 of the list' check a --table "$room/cut" "$room/pool"
     refuses 8 ': byte 0 of the list' unescape a --table "$room/list" "$room/text"
+    printf '\2\0\0\0\0\1\0' >"$room/list"
+    refuses 27 ': bytes 1 to 3 of the text' unescape 'a&e;' --table "$room/list" "$room/pool"
+    head -c 3 "$room/list" >"$room/cut"
+    refuses 7 ': byte 0 of the list' check a --table "$room/cut" "$room/pool"
     misused "$room/none: No such file" escape --file "$room/none"
     misused "$room/none: No such file" unescape a --table "$room/list" "$room/none"
     misused "$room: Is a directory" escape --file "$room"
@@ -216,6 +235,12 @@ sizes() {
     refuses 7 ': byte 0 of the list' check a --table "$room/list" /dev/null
     bytes 49154 "$room/list"
     refuses 6 'too long' check a --table "$room/list" /dev/null
+    printf e >"$room/pool"
+    printf '\2\0\0\0\0\1%.0s' {1..8192} >"$room/externals"
+    { cat "$room/externals"; printf '\0'; } >"$room/list"
+    gives $'UTF-8, 1 bytes\ntable valid, 8192 definitions\n' check a --table "$room/list" "$room/pool"
+    { cat "$room/externals"; printf '\2\0\0\0\0\1\0'; } >"$room/list"
+    refuses 6 'too long' check a --table "$room/list" "$room/pool"
     printf '\0' >"$room/list"
     bytes 1048577 "$room/pool"
     refuses 6 'too long' check a --table "$room/list" "$room/pool"
@@ -260,6 +285,9 @@ usage() {
     misused 'the text is given too' escape a --file b
     misused 'expected NAME=TEXT' unescape a --entity b
     misused 'at most 255 bytes' unescape a --entity "$(printf 'n%.0s' {1..256})=b"
+    misused 'at most 255 bytes' unescape a --external "$(printf 'n%.0s' {1..256})"
+    misused '--table is given too' check a --external b --table d e
+    misused 'not an option of this command' escape a --external b
     misused 'at most 65,535 bytes' unescape a --entity "b=$(head -c 65536 /dev/zero | tr '\0' a)"
     misused 'two files' unescape a --table b
     misused '--table is given too' unescape a --entity b=c --table d e

@@ -10,6 +10,7 @@ static uint64_t answer[2];
 static uint8_t out[64], scratch[64];
 
 static const uint8_t list[] = { 1, 0, 0, 0, 0, 1, 1, 0, 0, 0, 4, 0, 0 }, empty[] = { 0 };
+static const uint8_t external[] = { 2, 0, 0, 0, 0, 1, 0 };
 static const uint8_t pool[] = { 'e', 's', 'a', 'i', 'l' };
 
 static const uint8_t *bytes(const char *s)
@@ -38,10 +39,10 @@ static uint32_t unescape(const char *text, const uint8_t *commands, size_t lengt
     return govlezna_unescape(bytes(text), strlen(text), commands, length, from, size, out, sizeof out, answer);
 }
 
-static uint32_t normalize(uint64_t depth, uint64_t limit)
+static uint32_t normalize(uint64_t depth, uint64_t limit, const uint8_t *commands, size_t length)
 {
     const char *text = "&e;\t&#9;";
-    return govlezna_normalize_attribute_value(bytes(text), strlen(text), 0, depth, limit, list, sizeof list, pool,
+    return govlezna_normalize_attribute_value(bytes(text), strlen(text), 0, depth, limit, commands, length, pool,
                                               sizeof pool, out, sizeof out, answer);
 }
 
@@ -53,10 +54,12 @@ static void examples(void)
     expect(__LINE__, unescape("&lt;&e; &#65;", list, sizeof list, pool, sizeof pool), 0, 7, 0);
     expect_bytes(__LINE__, out, "<sail A");
     expect(__LINE__, unescape("a&b;", list, sizeof list, pool, sizeof pool), GOVLEZNA_UNRECOGNIZED_ENTITY, 2, 3);
-    expect(__LINE__, normalize(2, 10), 0, 6, 1);
+    expect(__LINE__, normalize(2, 10, list, sizeof list), 0, 6, 1);
     expect_bytes(__LINE__, out, "sail \t");
-    expect(__LINE__, normalize(2, 0), GOVLEZNA_TOO_MANY_OPENINGS, 0, 0);
-    expect(__LINE__, normalize(0, 10), GOVLEZNA_TOO_DEEP, 0, 0);
+    expect(__LINE__, normalize(2, 0, list, sizeof list), GOVLEZNA_TOO_MANY_OPENINGS, 0, 0);
+    expect(__LINE__, normalize(0, 10, list, sizeof list), GOVLEZNA_TOO_DEEP, 0, 0);
+    expect(__LINE__, govlezna_check_table(external, sizeof external, pool, sizeof pool, answer), 0, 1, 0);
+    expect(__LINE__, normalize(2, 10, external, sizeof external), GOVLEZNA_EXTERNAL_ENTITY, 0, 0);
     expect(__LINE__,
            govlezna_canonical_form(bytes(text), strlen(text), 0, 2, 10, list, sizeof list, pool, sizeof pool, scratch,
                                    sizeof scratch, out, sizeof out, answer),
