@@ -6,7 +6,7 @@ use crate::lent::Cursor;
 pub const NO_MORE: u32 = 255;
 
 /// Document 01's number, where 0 is success, and the two answer words; then what a call writes.
-#[derive(Debug)]
+#[derive(Debug, PartialEq, Eq)]
 pub struct Answer {
     pub number: u32,
     pub first: u64,

@@ -12,7 +12,9 @@ pub struct Call {
     /// In their order, before the answer words.
     pub parameters: &'static [Parameter],
     pub run: Run,
-    pub expected: fn(&Arguments) -> Answer,
+    pub expected: Expected,
+    /// The documents' own reading of the call, where there is one: it has to be what is expected.
+    pub reading: Option<Expected>,
     /// Rows of document 01 that `expected` has to agree with.
     pub documented: &'static [Documented],
     /// The inputs that a reader would ask about first; the stored results are made of them too.
@@ -31,6 +33,8 @@ pub struct Call {
     pub counted: fn(&mut Vec<counting::Row>),
 }
 
+pub type Expected = fn(&Arguments) -> Answer;
+
 #[derive(Clone, Copy, PartialEq, Eq)]
 pub enum Parameter {
     Text,
@@ -48,6 +52,9 @@ pub enum Parameter {
 /// A wrong library, made of the real call.
 pub type Fault = unsafe fn(&Lent, Run) -> u32;
 pub type Faults = &'static [(&'static str, Fault)];
+
+/// A wrong reading, made of the real one.
+pub type Misreading = fn(&Arguments, Expected) -> Answer;
 
 impl Call {
     pub fn has(&self, parameter: Parameter) -> bool {

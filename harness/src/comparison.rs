@@ -15,6 +15,7 @@ const DESCRIBED: usize = 5;
 pub struct Comparison<'a> {
     call: &'a Call,
     library: &'a dyn Fn(&Lent) -> u32,
+    reading: Option<&'a Reading<'a>>,
     buffers: Buffers,
     pub compared: usize,
     /// How many of them have which number for an answer.
@@ -23,12 +24,20 @@ pub struct Comparison<'a> {
     pub descriptions: Vec<String>,
 }
 
+/// The documents' own reading of a call, or a wrong one.
+pub type Reading<'a> = dyn Fn(&Arguments) -> Answer + 'a;
+
 impl<'a> Comparison<'a> {
-    /// `library` stands for the call, so that a wrong one can take its place.
-    pub fn new(call: &'a Call, library: &'a dyn Fn(&Lent) -> u32) -> Self {
+    /// `library` stands for the call, so that a wrong one can take its place; and so the reading, where it is compared too.
+    pub fn new(
+        call: &'a Call,
+        library: &'a dyn Fn(&Lent) -> u32,
+        reading: Option<&'a Reading<'a>>,
+    ) -> Self {
         Comparison {
             call,
             library,
+            reading,
             buffers: Buffers::new(),
             compared: 0,
             numbers: BTreeMap::new(),
@@ -48,6 +57,11 @@ impl<'a> Comparison<'a> {
     /// The turn picks addresses and fills. Gives what was expected.
     pub fn compare_at(&mut self, arguments: &Arguments, turn: usize) -> Answer {
         let expected = (self.call.expected)(arguments);
+        if let Some(read) = self.reading.map(|reading| reading(arguments)) {
+            if read != expected {
+                self.misread(arguments, &expected, &read);
+            }
+        }
         let lent = self.buffers.lend(arguments, &expected, turn);
         let number = (self.library)(&lent);
         let damage = self.buffers.damage(arguments, &expected);
@@ -57,6 +71,30 @@ impl<'a> Comparison<'a> {
             self.differ(arguments, &lent, &expected, number, damage);
         }
         expected
+    }
+
+    #[cold]
+    fn misread(&mut self, arguments: &Arguments, expected: &Answer, read: &Answer) {
+        self.differences += 1;
+        if self.descriptions.len() == DESCRIBED {
+            return;
+        }
+        let words = |answer: &Answer| (answer.number, answer.first, answer.second);
+        self.descriptions.push(format!(
+            "{}: the documents' own reading differs: {}\n  level or version {}, depth {}, limit {}\n  list {}\n  pool {}\n  \
+             expected {:?} {}\n  read     {:?} {}",
+            self.call.name,
+            shortened(arguments.text),
+            arguments.choice,
+            arguments.depth,
+            arguments.limit,
+            shortened(arguments.table.list),
+            shortened(arguments.table.pool),
+            words(expected),
+            shortened(&expected.written),
+            words(read),
+            shortened(&read.written),
+        ));
     }
 
     #[cold]

@@ -1,7 +1,7 @@
 //! Compares every call of the library with the Rust.
 
 use crate::call::Call;
-use crate::comparison::Comparison;
+use crate::comparison::{Comparison, Reading};
 use crate::corpus;
 use crate::lent::Lent;
 use crate::random::Random;
@@ -28,9 +28,13 @@ pub fn run(calls: &[&Call], seed: u64, time: Duration) -> bool {
 fn compare_call(call: &Call, seed: u64, end: Instant) -> bool {
     // SAFETY: the comparison lends memory of the lengths stated, which nothing else uses meanwhile.
     let library = |lent: &Lent| unsafe { (call.run)(lent) };
-    let mut comparison = Comparison::new(call, &library);
+    let reading = call.reading.as_ref().map(|reading| reading as &Reading);
+    let mut comparison = Comparison::new(call, &library, reading);
     let mut random = Random::new(seed);
     comparison.try_all(call.seams, &mut random);
+    for row in call.documented {
+        row.give(&mut |arguments| comparison.compare(&arguments));
+    }
     corpus::each(call, &mut |arguments| comparison.compare(&arguments));
     for &family in call.families.iter().copied().flatten() {
         comparison.try_all(family, &mut random);

@@ -1,12 +1,12 @@
-//! Rows of document 01's Test seams with the answers that stand there, and the examples of XML 1.0, 3.3.3: what the comparison expects
-//! of the library has to agree with them.
+//! Rows of document 01's Test seams with the answers that stand there, the examples of XML 1.0, 3.3.3, and what document 02's requests
+//! say of single cases: what the comparison expects of the library has to agree with them.
 
-use crate::answer::Answer;
-use crate::arguments::Arguments;
-use crate::draft::Draft;
+use crate::answer::{refusal, Answer};
+use crate::arguments::{Arguments, Sink};
+use crate::draft::{Draft, Entity};
 
 pub struct Documented {
-    definitions: &'static [(&'static str, &'static str)],
+    entities: &'static [Entity<'static>],
     pub text: &'static str,
     choice: u8,
     depth: u64,
@@ -23,7 +23,7 @@ pub enum Outcome {
 
 pub const fn row(text: &'static str, choice: u8, outcome: Outcome) -> Documented {
     Documented {
-        definitions: &[],
+        entities: &[],
         text,
         choice,
         depth: 1,
@@ -40,24 +40,27 @@ pub const fn within(depth: u64, limit: u64, row: Documented) -> Documented {
     }
 }
 
-pub const fn with(
-    definitions: &'static [(&'static str, &'static str)],
-    row: Documented,
-) -> Documented {
-    Documented { definitions, ..row }
+pub const fn with(entities: &'static [Entity<'static>], row: Documented) -> Documented {
+    Documented { entities, ..row }
 }
 
 impl Documented {
-    /// What is expected instead; nothing where it is the row's answer.
-    pub fn differs(&self, expected: fn(&Arguments) -> Answer) -> Option<Answer> {
-        let draft = Draft::of(self.definitions);
-        let answer = expected(&Arguments {
+    /// Its input.
+    pub fn give(&self, sink: &mut Sink) {
+        let draft = Draft::of_entities(self.entities.iter().copied());
+        sink(Arguments {
             choice: self.choice,
             depth: self.depth,
             limit: self.limit,
             table: draft.table(),
             ..Arguments::text(self.text.as_bytes())
         });
+    }
+
+    /// What is expected instead; nothing where it is the row's answer.
+    pub fn differs(&self, expected: fn(&Arguments) -> Answer) -> Option<Answer> {
+        let mut answer = refusal(0, 0);
+        self.give(&mut |arguments| answer = expected(&arguments));
         let found = (answer.number, answer.first, answer.second);
         let agrees = match self.outcome {
             Outcome::Made(result, second) => {

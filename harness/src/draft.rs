@@ -1,6 +1,6 @@
 //! Entity tables as they are written, sound or not.
 
-use crate::table::{Table, DEFINE, END};
+use crate::table::{Table, DECLARE_EXTERNAL, DEFINE, END};
 
 /// A table as it is written.
 #[derive(Clone, Default)]
@@ -12,12 +12,24 @@ pub struct Draft {
 /// A part of the pool: start and length.
 pub type Part = (usize, usize);
 
+/// A name and its text, or none where it is external.
+pub type Entity<'a> = (&'a str, Option<&'a str>);
+
 impl Draft {
     /// Names and texts, and the end.
     pub fn of(definitions: &[(&str, &str)]) -> Self {
+        let entities = definitions.iter().map(|&(name, text)| (name, Some(text)));
+        Draft::of_entities(entities)
+    }
+
+    /// Names with texts and external ones, and the end.
+    pub fn of_entities<'a>(entities: impl IntoIterator<Item = Entity<'a>>) -> Self {
         let mut draft = Draft::default();
-        for (name, text) in definitions {
-            draft.define(name.as_bytes(), text.as_bytes());
+        for (name, text) in entities {
+            match text {
+                Some(text) => draft.define(name.as_bytes(), text.as_bytes()),
+                None => draft.declare_external(name.as_bytes()),
+            }
         }
         draft.ended()
     }
@@ -30,13 +42,29 @@ impl Draft {
         self.refer((start, name.len()), (start + name.len(), text.len()));
     }
 
+    /// Puts the name at the end of the pool.
+    pub fn declare_external(&mut self, name: &[u8]) {
+        let start = self.pool.len();
+        self.pool.extend_from_slice(name);
+        self.refer_external((start, name.len()));
+    }
+
     /// Defines by parts of the pool, whatever they hold.
     pub fn refer(&mut self, name: Part, text: Part) {
-        self.list.push(DEFINE);
-        self.list.extend_from_slice(&(name.0 as u32).to_le_bytes());
-        self.list.push(name.1 as u8);
+        self.command(DEFINE, name);
         self.list.extend_from_slice(&(text.0 as u32).to_le_bytes());
         self.list.extend_from_slice(&(text.1 as u16).to_le_bytes());
+    }
+
+    pub fn refer_external(&mut self, name: Part) {
+        self.command(DECLARE_EXTERNAL, name);
+    }
+
+    /// The bytes that both commands begin with.
+    fn command(&mut self, command: u8, name: Part) {
+        self.list.push(command);
+        self.list.extend_from_slice(&(name.0 as u32).to_le_bytes());
+        self.list.push(name.1 as u8);
     }
 
     pub fn ended(mut self) -> Self {

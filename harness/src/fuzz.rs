@@ -5,7 +5,7 @@
 use crate::answer::Answer;
 use crate::call::Call;
 use crate::calls::CALLS;
-use crate::comparison::Comparison;
+use crate::comparison::{Comparison, Reading};
 use crate::cut::cut;
 use crate::lent::Lent;
 use std::cell::RefCell;
@@ -67,7 +67,8 @@ fn comparisons() -> Vec<Comparison<'static>> {
     let of = |call: &'static Call| {
         // SAFETY: the comparison lends memory of the lengths stated, which nothing else uses meanwhile.
         let library: &'static _ = Box::leak(Box::new(|lent: &Lent| unsafe { (call.run)(lent) }));
-        Comparison::new(call, library)
+        let reading = call.reading.as_ref().map(|reading| reading as &Reading);
+        Comparison::new(call, library, reading)
     };
     CALLS.iter().map(of).collect()
 }

@@ -1,36 +1,63 @@
-//! Puts wrong libraries in the place of the real one: the comparison has to catch each.
+//! Puts wrong libraries in the place of the real one, and wrong readings of the documents: the comparison has to catch each.
 
-use crate::arguments::Family;
-use crate::call::{Call, Fault, Faults};
-use crate::comparison::Comparison;
+use crate::arguments::{Arguments, Family};
+use crate::call::{Call, Faults};
+use crate::comparison::{Comparison, Reading};
 use crate::faults;
-use crate::lent::Lent;
+use crate::lent::{Lent, Run};
 use crate::random::{Random, DEFAULT_SEED};
+use crate::table::has_external;
 
-/// True: document 01's rows are what is expected, every wrong library is caught, and the real one
-/// is not.
+/// True: the documents' rows are what is expected, every wrong library and every wrong reading is caught, and the real ones are not.
 pub fn run(calls: &[&Call]) -> bool {
     let (mut tried, mut missed, mut rows) = (0, 0, 0);
     for call in calls {
         rows += call.documented.len();
         missed += differing_rows(call);
-        if is_caught(call, |lent, real| unsafe { real(lent) }, &[]) {
-            println!("{}: the library itself differs", call.name);
+        let reading = call.reading.as_ref().map(|reading| reading as &Reading);
+        if is_caught(call, &itself(call.run), reading, &[]) {
+            println!("{}: the library or the reading itself differs", call.name);
             missed += 1;
         }
-        for &(name, fault) in faults_of(call).into_iter().flatten() {
-            let caught = is_caught(call, fault, call.families);
+        let mut judge = |name: &str, caught: bool| {
             let verdict = if caught { "caught" } else { "NOT CAUGHT" };
             println!("{}: {name}: {verdict}", call.name);
             tried += 1;
             missed += usize::from(!caught);
+        };
+        for &(name, fault) in faults_of(call).into_iter().flatten() {
+            // SAFETY: the comparison lends memory of the lengths stated; the faults stay inside its guards.
+            let library = |lent: &Lent| unsafe { fault(lent, call.run) };
+            judge(name, is_caught(call, &library, None, call.families));
+        }
+        let Some(real) = call.reading else {
+            continue;
+        };
+        for &(name, misreading) in faults::reading::of(call) {
+            let wrong = |arguments: &Arguments| match is_the_rusts(arguments) {
+                true => misreading(arguments, real),
+                false => real(arguments),
+            };
+            let caught = is_caught(call, &itself(call.run), Some(&wrong), call.families);
+            judge(&format!("reading: {name}"), caught);
         }
     }
-    println!("self-test: {rows} rows of document 01, {tried} wrong libraries, {missed} failures");
+    println!("self-test: {rows} rows of the documents, {tried} wrong libraries and readings, {missed} failures");
     missed == 0
 }
 
-/// How many of document 01's rows are answered otherwise.
+/// Whether the Rust answers: else what is expected is the reading, which differs from every wrong one.
+fn is_the_rusts(arguments: &Arguments) -> bool {
+    let definitions = arguments.table.definitions();
+    definitions.is_ok_and(|definitions| !has_external(&definitions))
+}
+
+fn itself(run: Run) -> impl Fn(&Lent) -> u32 {
+    // SAFETY: the comparison lends memory of the lengths stated.
+    move |lent| unsafe { run(lent) }
+}
+
+/// How many of the documents' rows are answered otherwise.
 fn differing_rows(call: &Call) -> usize {
     let mut differing = 0;
     for row in call.documented {
@@ -53,10 +80,13 @@ fn faults_of(call: &Call) -> Vec<Faults> {
 }
 
 /// Whether some answer of the seams or of the families differs.
-fn is_caught(call: &Call, fault: Fault, families: &[&[Family]]) -> bool {
-    // SAFETY: the comparison lends memory of the lengths stated; the faults stay inside its guards.
-    let library = |lent: &Lent| unsafe { fault(lent, call.run) };
-    let mut comparison = Comparison::new(call, &library);
+fn is_caught(
+    call: &Call,
+    library: &dyn Fn(&Lent) -> u32,
+    reading: Option<&Reading>,
+    families: &[&[Family]],
+) -> bool {
+    let mut comparison = Comparison::new(call, library, reading);
     let mut random = Random::new(DEFAULT_SEED);
     let families = families.iter().copied().flatten();
     std::iter::once(&call.seams).chain(families).any(|family| {

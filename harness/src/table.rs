@@ -1,5 +1,5 @@
-//! The entity table, read as document 01 says. The Rust has no such format: this reading is the
-//! comparison's own, made from the document's text alone.
+//! The entity table, read as documents 01 and 02 say. The Rust has no such format: this reading is the
+//! comparison's own, made from the documents' text alone.
 
 use crate::rust::escape::resolve_xml_entity;
 
@@ -12,6 +12,9 @@ pub const END: u8 = 0;
 pub const DEFINE: u8 = 1;
 /// The command byte, name start u32, name length u8, text start u32, text length u16.
 pub const DEFINITION: usize = 12;
+/// An external entity (K9): the command byte, name start u32, name length u8.
+pub const DECLARE_EXTERNAL: u8 = 2;
+pub const EXTERNAL_DECLARATION: usize = 6;
 
 /// A table as it is lent.
 #[derive(Clone, Copy)]
@@ -29,7 +32,8 @@ pub const EMPTY: Table = Table {
 #[derive(Clone, Copy)]
 pub struct Definition<'a> {
     pub name: &'a str,
-    pub text: &'a str,
+    /// Nothing for an external entity.
+    pub text: Option<&'a str>,
 }
 
 /// Document 01's number, and the first answer word; the second is 0.
@@ -47,33 +51,40 @@ impl<'a> Table<'a> {
             match self.list.get(at) {
                 Some(&END) if at + 1 == self.list.len() => return Ok(definitions),
                 Some(&END) => return Err((7, at + 1)),
-                Some(&DEFINE) => definitions.push(self.definition(at)?),
-                // An unknown command, or no end.
-                _ => return Err((7, at)),
+                Some(&command) => {
+                    let size = size(command).ok_or((7, at))?;
+                    let operands = self.list.get(at..at + size).ok_or((7, at))?;
+                    definitions.push(self.definition(operands).map_err(|number| (number, at))?);
+                    at += size;
+                }
+                None => return Err((7, at)),
             }
-            at += DEFINITION;
         }
     }
 
-    /// The definition whose command stands at this offset of the list.
-    fn definition(self, at: usize) -> Result<Definition<'a>, Refusal> {
-        let Some(command) = self.list.get(at..at + DEFINITION) else {
-            return Err((7, at));
+    /// What a whole command defines, or the number by which it is refused.
+    fn definition(self, command: &[u8]) -> Result<Definition<'a>, u32> {
+        let is_external = command[0] == DECLARE_EXTERNAL;
+        let name = self.name(command).ok_or(8u32)?;
+        let text = match is_external {
+            true => &[],
+            false => self.text(command).ok_or(8u32)?,
         };
-        let name = self.name(command).ok_or((8, at))?;
-        let text = self.text(command).ok_or((8, at))?;
         match (std::str::from_utf8(name), std::str::from_utf8(text)) {
-            (Ok(name), Ok(text)) if !name.is_empty() => Ok(Definition { name, text }),
-            _ => Err((9, at)),
+            (Ok(name), Ok(text)) if !name.is_empty() => Ok(Definition {
+                name,
+                text: (!is_external).then_some(text),
+            }),
+            _ => Err(9),
         }
     }
 
-    /// The name that a definition's command gives, if the pool has it.
+    /// The name that a command gives, if the pool has it.
     pub fn name(self, command: &[u8]) -> Option<&'a [u8]> {
         self.part(&command[1..5], &command[5..6])
     }
 
-    /// The text that it gives, if the pool has it.
+    /// The text that a command 1 gives, if the pool has it.
     pub fn text(self, command: &[u8]) -> Option<&'a [u8]> {
         self.part(&command[6..10], &command[10..12])
     }
@@ -83,12 +94,25 @@ impl<'a> Table<'a> {
         self.pool.get(start..start + little_endian(length))
     }
 
-    /// The definitions' commands, of a list that has nothing else before its end.
+    /// The commands of a list that has whole commands and nothing else before its end.
     pub fn commands(self) -> Option<Vec<&'a [u8]>> {
-        let (end, commands) = self.list.split_last()?;
-        let commands: Vec<&[u8]> = commands.chunks(DEFINITION).collect();
-        let sound = |command: &&[u8]| command[0] == DEFINE && command.len() == DEFINITION;
-        (*end == END && commands.iter().all(sound)).then_some(commands)
+        let (end, mut rest) = self.list.split_last()?;
+        let mut commands = vec![];
+        while let Some(&command) = rest.first() {
+            let (whole, after) = rest.split_at_checked(size(command)?)?;
+            commands.push(whole);
+            rest = after;
+        }
+        (*end == END).then_some(commands)
+    }
+}
+
+/// How many bytes a command has that defines a name; nothing for another.
+pub fn size(command: u8) -> Option<usize> {
+    match command {
+        DEFINE => Some(DEFINITION),
+        DECLARE_EXTERNAL => Some(EXTERNAL_DECLARATION),
+        _ => None,
     }
 }
 
@@ -103,6 +127,8 @@ fn little_endian(bytes: &[u8]) -> usize {
 pub enum Meaning<'a> {
     /// The text of the first definition of the name.
     Defined(&'a str),
+    /// The first definition of the name says that it is external.
+    External,
     /// One of the five, where the table does not define it.
     Predefined(&'static str),
     Nothing,
@@ -110,7 +136,12 @@ pub enum Meaning<'a> {
 
 pub fn look_up<'a>(definitions: &[Definition<'a>], name: &str) -> Meaning<'a> {
     match definitions.iter().find(|defined| defined.name == name) {
-        Some(defined) => Meaning::Defined(defined.text),
+        Some(defined) => defined.text.map_or(Meaning::External, Meaning::Defined),
         None => resolve_xml_entity(name).map_or(Meaning::Nothing, Meaning::Predefined),
     }
+}
+
+/// Whether the Rust can be asked: it knows no external entities.
+pub fn has_external(definitions: &[Definition]) -> bool {
+    definitions.iter().any(|defined| defined.text.is_none())
 }

@@ -5,7 +5,7 @@ use super::parts::{table, text};
 use crate::arguments::{DEEPEST, MOST_OPENINGS};
 use crate::call::Faults;
 use crate::lent::{Lent, Run};
-use crate::table::END;
+use crate::table::{DEFINE, END};
 use std::collections::HashMap;
 use std::ptr::null_mut;
 
@@ -27,7 +27,11 @@ fn slot_of(name: &[u8]) -> usize {
 unsafe fn definitions(lent: &Lent) -> HashMap<&[u8], &[u8]> {
     let (table, mut definitions) = (table(lent), HashMap::new());
     for command in table.commands().unwrap_or_default() {
-        if let (Some(name), Some(text)) = (table.name(command), table.text(command)) {
+        let text = match command[0] {
+            DEFINE => table.text(command),
+            _ => Some(&b""[..]),
+        };
+        if let (Some(name), Some(text)) = (table.name(command), text) {
             definitions.entry(name).or_insert(text);
         }
     }

@@ -4,6 +4,7 @@ pub mod answer;
 pub mod memory;
 pub mod output;
 pub mod parts;
+pub mod reading;
 pub mod table;
 pub mod text;
 pub mod walk;

@@ -1,18 +1,15 @@
 //! What the calls with an entity table share. The walks are the Rust's, with the table behind its resolver; the table's format,
-//! the count of openings, and 17 are document 01's.
+//! the count of openings, and 17 are document 01's. Tables with external entities are not the Rust's: reading.rs answers for them.
 
+use super::checks::{defined_by, settings_checked};
+use super::reading;
 use super::result::Made;
-use super::text::{checked, length_checked};
+use super::text::checked;
 use crate::answer::{refusal, Answer};
-use crate::arguments::{Arguments, DEEPEST, MOST_OPENINGS};
-use crate::rust::escape::{EscapeError, ParseCharRefError};
+use crate::arguments::{Arguments, LONGEST_OUTPUT};
+use crate::rust::escape::{unescape_with, EscapeError, ParseCharRefError};
 use crate::rust::XmlVersion;
-use crate::table::{look_up, Definition, Meaning, Table};
-
-pub fn defined_by(table: Table) -> Result<Vec<Definition>, Answer> {
-    let refused = |(number, first)| refusal(number, first as u64);
-    table.definitions().map_err(refused)
-}
+use crate::table::{has_external, look_up, Meaning};
 
 pub fn walk_refusal(error: EscapeError) -> Answer {
     match error {
@@ -41,9 +38,12 @@ pub fn number_refusal(error: ParseCharRefError) -> Answer {
 
 /// The normalized value, with the openings as its second word. The Rust's depth is document 01's.
 pub fn normalized(arguments: &Arguments) -> Result<Made, Answer> {
-    let version = settings_checked(arguments)?;
+    settings_checked(arguments)?;
     let text = checked(arguments.text)?;
     let definitions = defined_by(arguments.table)?;
+    if has_external(&definitions) {
+        return reading::normalized(arguments);
+    }
     let (mut openings, mut used_up) = (0, false);
     let resolve = |name: &str| match look_up(&definitions, name) {
         // Without a text the Rust stops here, and says where the name stands.
@@ -56,8 +56,9 @@ pub fn normalized(arguments: &Arguments) -> Result<Made, Answer> {
             Some(text)
         }
         Meaning::Predefined(text) => Some(text),
-        Meaning::Nothing => None,
+        Meaning::External | Meaning::Nothing => None,
     };
+    let version = version_of(arguments.choice);
     match version.normalize_attribute_value(text, arguments.depth as usize, resolve) {
         Ok(value) => Ok(Made {
             bytes: value.into_owned().into_bytes(),
@@ -71,19 +72,38 @@ pub fn normalized(arguments: &Arguments) -> Result<Made, Answer> {
     }
 }
 
-/// Refusals 1 to 4, which come before the text's bytes.
-pub fn settings_checked(arguments: &Arguments) -> Result<XmlVersion, Answer> {
-    length_checked(arguments.text)?;
-    if arguments.depth > DEEPEST {
-        return Err(refusal(2, 0));
+fn version_of(choice: u8) -> XmlVersion {
+    match choice {
+        0 => XmlVersion::Implicit1_0,
+        1 => XmlVersion::Explicit1_0,
+        _ => XmlVersion::Explicit1_1,
     }
-    if arguments.limit > MOST_OPENINGS {
-        return Err(refusal(3, 0));
+}
+
+/// The table is asked for every name. What no output is long enough for is counted and not made.
+pub fn unescaped(arguments: &Arguments) -> Result<Made, Answer> {
+    let text = checked(arguments.text)?;
+    let definitions = defined_by(arguments.table)?;
+    if has_external(&definitions) {
+        return reading::unescaped(arguments);
     }
-    match arguments.choice {
-        0 => Ok(XmlVersion::Implicit1_0),
-        1 => Ok(XmlVersion::Explicit1_0),
-        2 => Ok(XmlVersion::Explicit1_1),
-        _ => Err(refusal(4, 0)),
-    }
+    let (mut copied, mut left_out) = (0, 0);
+    let mut resolve = |name: &str| match look_up(&definitions, name) {
+        Meaning::Defined(text) if copied + text.len() > LONGEST_OUTPUT => {
+            left_out += text.len();
+            Some("")
+        }
+        Meaning::Defined(text) => {
+            copied += text.len();
+            Some(text)
+        }
+        Meaning::Predefined(text) => Some(text),
+        Meaning::External | Meaning::Nothing => None,
+    };
+    let result = unescape_with(text, &mut resolve).map_err(walk_refusal)?;
+    Ok(Made {
+        bytes: result.into_owned().into_bytes(),
+        left_out,
+        second: 0,
+    })
 }

@@ -57,7 +57,7 @@ pub fn rust_normalize(
             Some(text)
         }
         Meaning::Predefined(text) => Some(text),
-        Meaning::Nothing => None,
+        Meaning::External | Meaning::Nothing => None,
     };
     let depth = DEEPEST as usize;
     let value = version.normalize_attribute_value(text, depth, resolve)?;

@@ -1,19 +1,35 @@
-//! The Rust's writer of attribute values on the value that its walk gives; 18 is document 01's.
+//! The Rust's writer of attribute values on the value that its walk gives, and the documents' own reading; 18 is document 01's.
 
 use crate::answer::{refusal, Answer};
 use crate::arguments::{Arguments, LONGEST_OUTPUT, LONGEST_SCRATCH};
-use crate::oracle::entities::normalized;
 use crate::oracle::result::{finished, in_some_room, Made};
+use crate::oracle::{entities, reading};
 use crate::rust::escape;
+
+pub fn canonical_form(arguments: &Arguments) -> Answer {
+    formed(arguments, entities::normalized(arguments), canonical)
+}
+
+pub fn reading(arguments: &Arguments) -> Answer {
+    formed(
+        arguments,
+        reading::normalized(arguments),
+        reading::canonical,
+    )
+}
 
 /// Normalizes into the scratch and writes from there: 18 comes before 19, and with 19 the scratch
 /// holds the value.
-pub fn canonical_form(arguments: &Arguments) -> Answer {
-    let value = match normalized(arguments) {
+fn formed(
+    arguments: &Arguments,
+    value: Result<Made, Answer>,
+    write: fn(&[u8], u8) -> Vec<u8>,
+) -> Answer {
+    let value = match value {
         Ok(value) => value,
         Err(refusal) => return in_some_room(arguments, refusal),
     };
-    let form = canonical(&value.bytes, arguments.choice);
+    let form = write(&value.bytes, arguments.choice);
     let needed = value.bytes.len();
     let scratch_room = arguments.scratch.length(needed).min(LONGEST_SCRATCH);
     if scratch_room < needed {

@@ -7,7 +7,7 @@ mod rows;
 
 use crate::call::Call;
 use crate::call::Parameter::{Choice, Depth, Limit, Output, Scratch, Table, Text};
-use crate::documented::{row, Outcome::Made};
+use crate::documented::{row, with, within, Outcome::Answered, Outcome::Made};
 use crate::faults::{memory::MEMORY, table::LOOKUP, walk::WALK};
 use crate::inputs::attribute::{self, Attribute};
 use crate::inputs::{entities, woven};
@@ -56,9 +56,16 @@ pub const CALL: Call = Call {
     parameters: &[Text, Choice, Depth, Limit, Table, Scratch, Output],
     run,
     expected: answer::canonical_form,
+    reading: Some(answer::reading),
     documented: &[
         row("a&#x85;b", 2, Made("a&#133;b", 0)),
         row("a&#x85;b", 0, Made("a\u{85}b", 0)),
+        with(&[("e", None)], row("<&e;", 0, Answered(27, 1, 0))),
+        with(&[("amp", None)], row("&amp;", 2, Made("&amp;", 0))),
+        with(
+            &[("gt", None), ("e", Some("&gt;"))],
+            within(2, 1, row("&e;", 0, Answered(27, 0, 0))),
+        ),
     ],
     seams: inputs::seams,
     families: &[

@@ -28,6 +28,7 @@ pub const CALL: Call = Call {
     parameters: &[Parameter::Text, Parameter::Cursor],
     run,
     expected: answer::cdata_next,
+    reading: None,
     documented: &[],
     seams: woven::seams::<Cdata>,
     families: &[&[

@@ -9,7 +9,7 @@ use crate::call::Call;
 use crate::call::Parameter::Table;
 use crate::inputs::tables;
 use crate::lent::Lent;
-use crate::oracle::entities::defined_by;
+use crate::oracle::checks::defined_by;
 
 extern "C" {
     fn govlezna_check_table(
@@ -36,6 +36,7 @@ pub const CALL: Call = Call {
     parameters: &[Table],
     run,
     expected: answer,
+    reading: None,
     documented: &[],
     seams: inputs::seams,
     families: &[&[

@@ -24,6 +24,7 @@ pub const CALL: Call = Call {
     parameters: &[Text],
     run,
     expected: answer,
+    reading: None,
     documented: &[],
     seams: inputs::seams,
     families: &[&[

@@ -39,6 +39,7 @@ pub const CALL: Call = Call {
     parameters: &[Text, Choice, Output],
     run,
     expected: answer::escape,
+    reading: None,
     documented: &[
         row("a<b\t", 3, Made("a&lt;b&#9;", 0)),
         row(">'", 2, Made(">'", 0)),

@@ -12,8 +12,8 @@ use crate::faults::{memory::MEMORY, table::LOOKUP, walk::WALK};
 use crate::inputs::attribute::{self, Attribute};
 use crate::inputs::{entities, woven};
 use crate::lent::{Lent, Run};
-use crate::oracle::entities::normalized;
 use crate::oracle::result::finished;
+use crate::oracle::{entities as rust, reading};
 
 extern "C" {
     fn govlezna_normalize_attribute_value(
@@ -54,6 +54,7 @@ pub const CALL: Call = Call {
     parameters: &[Text, Choice, Depth, Limit, Table, Output],
     run,
     expected: answer,
+    reading: Some(reading),
     documented: documented::ROWS,
     seams: woven::seams::<Attribute>,
     families: &[attribute::FAMILIES, &[
@@ -77,7 +78,11 @@ pub const CALL: Call = Call {
 };
 
 fn answer(arguments: &Arguments) -> Answer {
-    finished(arguments, normalized(arguments))
+    finished(arguments, rust::normalized(arguments))
+}
+
+fn reading(arguments: &Arguments) -> Answer {
+    finished(arguments, reading::normalized(arguments))
 }
 
 const VALUE: Faults = &[("a number's LF turned into a space", spaced_number)];

@@ -42,6 +42,7 @@ pub const CALL: Call = Call {
     parameters: &[Text, Choice, Output],
     run,
     expected: answer,
+    reading: None,
     documented: &[
         row("\r\r\n", 0, Made("\n\n", 0)),
         row("\r\u{85}", 2, Made("\n", 0)),

@@ -53,6 +53,7 @@ pub const SPACES: Call = Call {
     parameters: &[Text],
     run: run_spaces,
     expected: |given| part(given.text, utils::trim_xml_spaces, given.text.len()),
+    reading: None,
     documented: &[],
     seams: woven::seams::<Trim>,
     families: &[

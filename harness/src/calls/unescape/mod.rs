@@ -45,6 +45,7 @@ pub const CALL: Call = Call {
     parameters: &[Text, Table, Output],
     run,
     expected: answer::unescape,
+    reading: Some(answer::reading),
     documented: DOCUMENTED,
     seams: woven::seams::<Unescape>,
     families: &[&[
@@ -83,7 +84,20 @@ const DOCUMENTED: &[Documented] = &[
     said("&#xD800;", Answered(14, 55_296, 0)),
     said("&#0;", Answered(15, 0, 0)),
     said("&#;", Answered(13, 0, 0)),
-    with(&[("amp", "X")], said("&amp;", Made("X", 0))),
+    with(&[("amp", Some("X"))], said("&amp;", Made("X", 0))),
+    with(&[("amp", None)], said("&amp;", Answered(27, 0, 0))),
+    with(&[("lt", None)], said("a&lt;", Answered(27, 1, 0))),
+    with(
+        &[("e", None), ("e", Some("x"))],
+        said("&e;", Answered(27, 0, 0)),
+    ),
+    with(&[("e", Some("x")), ("e", None)], said("&e;", Made("x", 0))),
+    with(
+        &[("a", Some("&e;")), ("e", None)],
+        said("&a;", Made("&e;", 0)),
+    ),
+    with(&[("e", None)], said("&e&e;", Answered(10, 0, 5))),
+    with(&[("e", None)], said("&f;&e;", Answered(11, 1, 2))),
 ];
 
 const fn said(text: &'static str, outcome: Outcome) -> Documented {

@@ -44,7 +44,7 @@ fn rust_unescape(
     let resolve = |name: &str| match look_up(definitions, name) {
         Meaning::Defined(text) => Some(text),
         Meaning::Predefined(text) => Some(text),
-        Meaning::Nothing => None,
+        Meaning::External | Meaning::Nothing => None,
     };
     Ok((escape::unescape_with(text, resolve)?, 0))
 }

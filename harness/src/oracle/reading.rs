@@ -1,0 +1,255 @@
+//! The walks of document 01 with what document 02 adds, read by the comparison itself and from their text alone: neither the Rust nor
+//! the library's definitions have a part in it. It answers where the Rust cannot be asked, since it knows no external entities (K9);
+//! everywhere else the comparison asks both, and they have to agree.
+
+use super::checks::{defined_by, settings_checked};
+use super::result::Made;
+use super::text::checked;
+use crate::answer::{refusal, Answer};
+use crate::arguments::{Arguments, LONGEST_OUTPUT};
+use crate::table::Definition;
+
+const PREDEFINED: [(&str, &str); 5] = [
+    ("lt", "<"),
+    ("gt", ">"),
+    ("amp", "&"),
+    ("apos", "'"),
+    ("quot", "\""),
+];
+
+/// What stays the same in a walk, whichever text it is in.
+struct Settings<'a> {
+    /// Whether the line ends are those of XML 1.1.
+    newer: bool,
+    limit: u64,
+    definitions: &'a [Definition<'a>],
+}
+
+struct Walk<'a> {
+    settings: Settings<'a>,
+    value: Vec<u8>,
+    openings: u64,
+}
+
+/// Attribute normalization.
+pub fn normalized(arguments: &Arguments) -> Result<Made, Answer> {
+    settings_checked(arguments)?;
+    let text = checked(arguments.text)?;
+    let definitions = defined_by(arguments.table)?;
+    let settings = Settings {
+        newer: arguments.choice == 2,
+        limit: arguments.limit,
+        definitions: &definitions,
+    };
+    let mut walk = Walk {
+        settings,
+        value: vec![],
+        openings: 0,
+    };
+    walk.text(text, arguments.depth)?;
+    Ok(Made {
+        bytes: walk.value,
+        left_out: 0,
+        second: walk.openings,
+    })
+}
+
+impl Walk<'_> {
+    /// The value's own text or one of the table.
+    fn text(&mut self, text: &str, depth: u64) -> Result<(), Answer> {
+        let mut at = 0;
+        while at < text.len() {
+            let rest = &text.as_bytes()[at..];
+            at += match self.is_stop(rest[0]) {
+                false => self.copied(rest[0]),
+                true if depth == 0 => return Err(refusal(16, 0)),
+                true if rest[0] == b'&' => self.reference(text, at, depth)?,
+                true => match self.blank(rest) {
+                    0 => self.copied(rest[0]),
+                    length => {
+                        self.value.push(b' ');
+                        length
+                    }
+                },
+            };
+        }
+        Ok(())
+    }
+
+    fn copied(&mut self, byte: u8) -> usize {
+        self.value.push(byte);
+        1
+    }
+
+    fn is_stop(&self, byte: u8) -> bool {
+        match byte {
+            b'\t' | b'\r' | b'\n' | b'&' => true,
+            0xC2 | 0xE2 => self.settings.newer,
+            _ => false,
+        }
+    }
+
+    /// How many bytes the TAB or line end here has; 0 where it is none.
+    fn blank(&self, rest: &[u8]) -> usize {
+        match rest {
+            [b'\r', 0xC2, 0x85, ..] if self.settings.newer => 3,
+            [b'\r', b'\n', ..] => 2,
+            [b'\t' | b'\n' | b'\r', ..] => 1,
+            [0xC2, 0x85, ..] if self.settings.newer => 2,
+            [0xE2, 0x80, 0xA8, ..] if self.settings.newer => 3,
+            _ => 0,
+        }
+    }
+
+    /// The reference at this offset: how many bytes it has.
+    fn reference(&mut self, text: &str, at: usize, depth: u64) -> Result<usize, Answer> {
+        let Some(length) = text[at..].find(';') else {
+            return Err(unterminated(text, at));
+        };
+        let name = &text[at + 1..at + length];
+        if let Some(number) = name.strip_prefix('#') {
+            self.push(character(number)?);
+        } else if name == "amp" {
+            self.value.push(b'&');
+        } else {
+            match bound(self.settings.definitions, name) {
+                Bound::Nothing => return Err(unknown(at, name)),
+                Bound::External => return Err(refusal(27, at as u64)),
+                Bound::Defined(_) if self.openings == self.settings.limit => {
+                    return Err(refusal(17, at as u64));
+                }
+                Bound::Defined(inner) => {
+                    self.openings += 1;
+                    self.text(inner, depth - 1)?;
+                }
+                // Its replacement text is walked as well; none of these has a stop but that of amp, which does not come here.
+                Bound::Predefined(character) => self.value.extend(character.bytes()),
+            }
+        }
+        Ok(length + 1)
+    }
+
+    fn push(&mut self, character: char) {
+        let mut bytes = [0; 4];
+        let bytes = character.encode_utf8(&mut bytes).bytes();
+        self.value.extend(bytes);
+    }
+}
+
+/// Unescaping. What no output is long enough for is counted and not made.
+pub fn unescaped(arguments: &Arguments) -> Result<Made, Answer> {
+    let text = checked(arguments.text)?;
+    let definitions = defined_by(arguments.table)?;
+    let (mut result, mut left_out, mut rest) = (String::new(), 0, text);
+    while let Some(before) = rest.find('&') {
+        let at = text.len() - rest.len() + before;
+        result += &rest[..before];
+        let inner = &rest[before + 1..];
+        let Some(length) = inner
+            .find(['&', ';'])
+            .filter(|&end| inner[end..].starts_with(';'))
+        else {
+            return Err(unterminated(text, at));
+        };
+        let name = &inner[..length];
+        rest = &inner[length + 1..];
+        if let Some(number) = name.strip_prefix('#') {
+            result.push(character(number)?);
+            continue;
+        }
+        match bound(&definitions, name) {
+            Bound::Nothing => return Err(unknown(at, name)),
+            Bound::External => return Err(refusal(27, at as u64)),
+            Bound::Defined(inner) if result.len() + inner.len() > LONGEST_OUTPUT => {
+                left_out += inner.len()
+            }
+            Bound::Defined(inner) | Bound::Predefined(inner) => result += inner,
+        }
+    }
+    result += rest;
+    Ok(Made {
+        bytes: result.into_bytes(),
+        left_out,
+        second: 0,
+    })
+}
+
+/// The canonical form of a value.
+pub fn canonical(value: &[u8], version: u8) -> Vec<u8> {
+    let value = std::str::from_utf8(value).expect("values are UTF-8");
+    let mut form = String::with_capacity(value.len());
+    for character in value.chars() {
+        match character {
+            '<' => form += "&lt;",
+            '>' => form += "&gt;",
+            '&' => form += "&amp;",
+            '\'' => form += "&apos;",
+            '"' => form += "&quot;",
+            '\r' | '\n' | '\t' => form += &format!("&#{};", u32::from(character)),
+            '\u{85}' | '\u{2028}' if version == 2 => {
+                form += &format!("&#{};", u32::from(character))
+            }
+            _ => form.push(character),
+        }
+    }
+    form.into_bytes()
+}
+
+enum Bound<'a> {
+    Defined(&'a str),
+    External,
+    Predefined(&'static str),
+    Nothing,
+}
+
+/// The first definition of the name binds, else it is one of the five or unknown.
+fn bound<'a>(definitions: &[Definition<'a>], name: &str) -> Bound<'a> {
+    for definition in definitions {
+        if definition.name == name {
+            return definition.text.map_or(Bound::External, Bound::Defined);
+        }
+    }
+    for (predefined, character) in PREDEFINED {
+        if predefined == name {
+            return Bound::Predefined(character);
+        }
+    }
+    Bound::Nothing
+}
+
+/// What stands between `&#` and `;`.
+fn character(number: &str) -> Result<char, Answer> {
+    let (base, digits) = match number.strip_prefix('x') {
+        Some(digits) => (16, digits),
+        None => (10, number),
+    };
+    if digits.starts_with(['+', '-']) {
+        return Err(refusal(12, 0));
+    }
+    let mut value = if digits.is_empty() { None } else { Some(0u32) };
+    for digit in digits.chars() {
+        let more = |value: u32| value.checked_mul(base)?.checked_add(digit.to_digit(base)?);
+        value = value.and_then(more);
+    }
+    match value {
+        None => Err(refusal(13, 0)),
+        Some(0) => Err(refusal(15, 0)),
+        Some(value) => char::from_u32(value).ok_or(refusal(14, value.into())),
+    }
+}
+
+fn unterminated(text: &str, at: usize) -> Answer {
+    Answer {
+        second: text.len() as u64,
+        ..refusal(10, at as u64)
+    }
+}
+
+/// The name's start and end.
+fn unknown(at: usize, name: &str) -> Answer {
+    let start = at + 1;
+    Answer {
+        second: (start + name.len()) as u64,
+        ..refusal(11, start as u64)
+    }
+}
