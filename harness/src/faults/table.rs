@@ -3,7 +3,7 @@
 use super::parts::table;
 use crate::call::Faults;
 use crate::lent::{Lent, Run};
-use crate::table::{DEFINE, DEFINITION, END, LONGEST_LIST, LONGEST_POOL};
+use crate::table::{size, END, LONGEST_LIST, LONGEST_POOL};
 use std::borrow::Borrow;
 
 pub const TABLE: Faults = &[
@@ -33,13 +33,13 @@ pub const LOOKUP: Faults = &[
     ("names looked up by all but their last bytes", short_names),
 ];
 
-unsafe fn refused(lent: &Lent, number: u32, first: usize) -> u32 {
+pub unsafe fn refused(lent: &Lent, number: u32, first: usize) -> u32 {
     *lent.answer = first as u64;
     *lent.answer.add(1) = 0;
     number
 }
 
-unsafe fn with_commands(lent: &Lent, real: Run, commands: &[impl Borrow<[u8]>]) -> u32 {
+pub unsafe fn with_commands(lent: &Lent, real: Run, commands: &[impl Borrow<[u8]>]) -> u32 {
     let list = [commands.concat(), vec![END]].concat();
     real(&Lent {
         list: list.as_ptr(),
@@ -75,8 +75,11 @@ unsafe fn list_first(lent: &Lent, real: Run) -> u32 {
         match list.get(at) {
             Some(&END) if at + 1 == list.len() => return number,
             Some(&END) => return refused(lent, 7, at + 1),
-            Some(&DEFINE) if at + DEFINITION <= list.len() => at += DEFINITION,
-            _ => return refused(lent, 7, at),
+            Some(&command) => match size(command) {
+                Some(size) if at + size <= list.len() => at += size,
+                _ => return refused(lent, 7, at),
+            },
+            None => return refused(lent, 7, at),
         }
     }
 }

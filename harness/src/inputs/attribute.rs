@@ -7,7 +7,7 @@ use super::sizes::BLOCK_ENDS;
 use super::tables::few;
 use super::text::{woven, Mix};
 use super::woven::Subject;
-use super::{entities, memory, sizes, tables};
+use super::{entities, external, memory, sizes, tables};
 use crate::arguments::{Arguments, Family, Room, Sink};
 use crate::arguments::{DEEPEST, LONGEST_TEXT, MOST_OPENINGS, MOST_SPARE, ROOMS};
 use crate::draft::Draft;
@@ -23,6 +23,8 @@ pub const FAMILIES: &[Family] = &[
     sizes::limits,
     unknown_choices,
     every_setting,
+    external::every_order,
+    external::every_small_table,
     tables::limits,
     entities::text_before_table,
     entities::lookups,
@@ -72,6 +74,7 @@ impl Subject for Attribute {
 
     fn seams(random: &mut Random, sink: &mut Sink) {
         every_row(sink);
+        external::seams(sink);
         refused_seams(sink);
         for room in ROOMS {
             for scratch in ROOMS {

@@ -2,8 +2,9 @@
 
 use super::number::{written, Form};
 use super::rooms::random_room;
+use super::sequences::every_sequence;
 use super::spoiled::spoil_at_random;
-use super::tables::{few, random_draft, NAMES};
+use super::tables::{few, most_externals, random_draft, NAMES};
 use super::text::{text, Mix};
 use crate::arguments::{Arguments, Sink, MOST_OPENINGS};
 use crate::draft::Draft;
@@ -68,10 +69,11 @@ pub fn referring(
 
 /// The input with one of the few tables, mostly the one whose names are plain, or a random one.
 pub fn with_some_table(random: &mut Random, arguments: Arguments, sink: &mut Sink) {
-    let index = match random.below(8) {
+    let index = match random.below(9) {
         0 => 0,
         1..=3 => 1,
         4 => 2,
+        5 => 3,
         _ => {
             let draft = random_draft(random);
             return sink(Arguments {
@@ -123,8 +125,8 @@ pub fn damaged_tables(random: &mut Random, sink: &mut Sink) {
     }
 }
 
-/// Refused by 7, 7, 8 and 9.
-pub const REFUSED_TABLES: [Table; 4] = [
+/// Refused by 7, 7, 8, 9, and of an external entity by 7, 8 and 9.
+pub const REFUSED_TABLES: [Table; 7] = [
     Table {
         list: &[],
         pool: &[],
@@ -139,6 +141,18 @@ pub const REFUSED_TABLES: [Table; 4] = [
     },
     Table {
         list: &[1, 0, 0, 0, 0, 0, 0, 0, 0, 0, 0, 0, 0],
+        pool: b"a",
+    },
+    Table {
+        list: &[2, 0, 0],
+        pool: b"a",
+    },
+    Table {
+        list: &[2, 2, 0, 0, 0, 0, 0],
+        pool: b"a",
+    },
+    Table {
+        list: &[2, 0, 0, 0, 0, 0, 0],
         pool: b"a",
     },
 ];
@@ -159,13 +173,21 @@ pub fn text_before_table(_: &mut Random, sink: &mut Sink) {
 /// So many names of 255 bytes, which differ in their last four bytes and stand for them. As many as
 /// a list holds fit into a pool, since each text is a part of its name.
 pub fn long_names(count: usize) -> Draft {
+    long_entities(count, |_| false)
+}
+
+/// The same with some of them external.
+pub fn long_entities(count: usize, is_external: fn(usize) -> bool) -> Draft {
     let mut draft = Draft::default();
     for index in 0..count {
         let ending = format!("{index:04}");
         let start = draft.pool.len();
         draft.pool.resize(start + LONGEST_NAME - 4, b'n');
         draft.pool.extend_from_slice(ending.as_bytes());
-        draft.refer((start, LONGEST_NAME), (start + LONGEST_NAME - 4, 4));
+        match is_external(index) {
+            true => draft.refer_external((start, LONGEST_NAME)),
+            false => draft.refer((start, LONGEST_NAME), (start + LONGEST_NAME - 4, 4)),
+        }
     }
     draft.ended()
 }
@@ -179,7 +201,19 @@ pub fn long_reference(index: usize) -> Vec<u8> {
 /// Names in full tables: the first, the last, every other, and such as are nearly one of them.
 pub fn lookups(random: &mut Random, sink: &mut Sink) {
     let count = (LONGEST_LIST - 1) / DEFINITION;
-    let draft = long_names(count);
+    lookups_in(random, &long_names(count), count, sink);
+    let mixed = long_entities(count, |index| index % 2 == 0);
+    lookups_in(random, &mixed, count, sink);
+    let externals = most_externals();
+    for text in ["&0000;", "&8190;", "&8191;", "&8192;", "&819;", "&lt;"] {
+        sink(Arguments {
+            table: externals.table(),
+            ..Arguments::text(text.as_bytes())
+        });
+    }
+}
+
+fn lookups_in(random: &mut Random, draft: &Draft, count: usize, sink: &mut Sink) {
     let mut give = |random: &mut Random, text: &[u8]| {
         sink(Arguments {
             table: draft.table(),
@@ -206,19 +240,26 @@ pub fn lookups(random: &mut Random, sink: &mut Sink) {
     give(random, &some);
 }
 
-/// Every name that random tables use, twice in one, so that the first has to bind.
+/// Every name that random tables use, twice in one, so that the first has to bind, by either command.
 pub fn first_binds(random: &mut Random, sink: &mut Sink) {
     for first in NAMES {
         for second in NAMES {
-            let definitions = [(first, "1"), (second, "2"), (first, "3"), ("a", "4")];
-            let draft = Draft::of(&definitions);
-            for name in [first, second] {
-                sink(Arguments {
-                    table: draft.table(),
-                    room: random_room(random),
-                    ..Arguments::text(format!("&{name};").as_bytes())
-                });
-            }
+            every_sequence(&[false, true], 3, &mut |external| {
+                let text = |index: usize, text| (!external[index]).then_some(text);
+                let draft = Draft::of_entities([
+                    (first, text(0, "1")),
+                    (second, text(1, "2")),
+                    (first, text(2, "3")),
+                    ("a", Some("4")),
+                ]);
+                for name in [first, second] {
+                    sink(Arguments {
+                        table: draft.table(),
+                        room: random_room(random),
+                        ..Arguments::text(format!("&{name};").as_bytes())
+                    });
+                }
+            });
         }
     }
 }
@@ -291,8 +332,12 @@ pub fn similar_names(random: &mut Random, sink: &mut Sink) {
         let mut names = similar(random, length);
         let unknown = names.pop().unwrap();
         let mut draft = Draft::default();
+        let has_external = random.below(2) == 0;
         for (index, name) in names.iter().enumerate() {
-            draft.define(name, format!("{index}").as_bytes());
+            match has_external && random.below(2) == 0 {
+                true => draft.declare_external(name),
+                false => draft.define(name, format!("{index}").as_bytes()),
+            }
         }
         let draft = draft.ended();
         for name in names.iter().chain([&unknown]) {

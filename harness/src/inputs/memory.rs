@@ -29,10 +29,15 @@ pub fn kept(random: &mut Random, sink: &mut Sink) {
             names.swap(index, random.below(index + 1));
         }
         let mut draft = Draft::default();
+        // In few tables, and of few names: a text that refers to it is never kept.
+        let external = random.below(4 * NAMES.len());
         let mut defined: Vec<(&str, Needs)> = vec![];
-        for name in names {
+        for (index, name) in names.into_iter().enumerate() {
             let (text, needs) = referring(random, &defined, 3);
-            draft.define(name.as_bytes(), text.as_bytes());
+            match index == external {
+                true => draft.declare_external(name.as_bytes()),
+                false => draft.define(name.as_bytes(), text.as_bytes()),
+            }
             defined.push((name, needs));
         }
         let draft = draft.ended();

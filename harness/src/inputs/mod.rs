@@ -2,6 +2,7 @@
 
 pub mod attribute;
 pub mod entities;
+pub mod external;
 pub mod memory;
 pub mod number;
 pub mod rooms;

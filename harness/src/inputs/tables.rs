@@ -4,7 +4,7 @@ use super::sizes::lengths_of_33_bits;
 use crate::arguments::{Arguments, Sink};
 use crate::draft::Draft;
 use crate::random::Random;
-use crate::table::{Table, DEFINITION, LONGEST_LIST, LONGEST_POOL};
+use crate::table::{Table, DEFINITION, EXTERNAL_DECLARATION, LONGEST_LIST, LONGEST_POOL};
 use std::sync::OnceLock;
 
 /// What texts refer to, and names that only some texts can: with `&` none but an attribute value,
@@ -20,9 +20,9 @@ const TEXTS: [&str; 20] = [
     "&e;", "&lt;", "&amp;", "&#65;", "&#10;", "&",
 ];
 
-/// A few tables for every text: the empty one, one without references, and one of all sorts.
+/// A few tables for every text: the empty one, one without references, one of all sorts, and one with external entities.
 pub fn few() -> &'static [Draft] {
-    static FEW: OnceLock<[Draft; 3]> = OnceLock::new();
+    static FEW: OnceLock<[Draft; 4]> = OnceLock::new();
     FEW.get_or_init(|| {
         [
             Draft::of(&[]),
@@ -43,11 +43,21 @@ pub fn few() -> &'static [Draft] {
                 ("#65", "never"),
                 ("amp", "&"),
             ]),
+            Draft::of_entities([
+                ("a", Some("x&e;")),
+                ("e", None),
+                ("e", Some("never")),
+                ("b", Some("y\t")),
+                ("b", None),
+                ("lt", None),
+                ("amp", None),
+                ("dé", None),
+            ]),
         ]
     })
 }
 
-/// Mostly of few definitions. Names come twice, parts overlap.
+/// Mostly of few definitions. Names come twice, parts overlap. Most are without external entities, so that the Rust can be asked.
 pub fn random_draft(random: &mut Random) -> Draft {
     let count = match random.below(32) {
         0..=3 => 0,
@@ -55,10 +65,12 @@ pub fn random_draft(random: &mut Random) -> Draft {
         29..=30 => random.below(40),
         _ => random.below(200),
     };
+    let has_external = random.below(4) == 0;
     let mut draft = Draft::default();
     for _ in 0..count {
         match random.below(8) {
-            0 if !draft.pool.is_empty() => refer_at_random(random, &mut draft),
+            0 if !draft.pool.is_empty() => refer_at_random(random, &mut draft, has_external),
+            1 | 2 if has_external => draft.declare_external(random.pick(&NAMES).as_bytes()),
             _ => {
                 let name = random.pick(&NAMES);
                 draft.define(name.as_bytes(), &random_replacement(random));
@@ -75,7 +87,7 @@ fn random_replacement(random: &mut Random) -> Vec<u8> {
 }
 
 /// Two parts of the pool that are UTF-8, since most are meant to be accepted.
-fn refer_at_random(random: &mut Random, draft: &mut Draft) {
+fn refer_at_random(random: &mut Random, draft: &mut Draft, has_external: bool) {
     let pool = std::str::from_utf8(&draft.pool).expect("names and texts are UTF-8");
     let mut part = |least: usize, most: usize| {
         let mut start = random.below(pool.len());
@@ -89,7 +101,10 @@ fn refer_at_random(random: &mut Random, draft: &mut Draft) {
         (start, end - start)
     };
     let (name, text) = (part(1, 4), part(0, 9));
-    draft.refer(name, text);
+    match has_external && random.below(2) == 0 {
+        true => draft.refer_external(name),
+        false => draft.refer(name, text),
+    }
 }
 
 /// The table alone.
@@ -103,6 +118,13 @@ pub fn limits(random: &mut Random, sink: &mut Sink) {
     assert_eq!(full.list.len(), LONGEST_LIST);
     assert_eq!(full.pool.len(), LONGEST_POOL);
     sink(given(&full));
+    let mut externals = most_externals();
+    assert_eq!(externals.list.len(), LONGEST_LIST);
+    sink(given(&externals));
+    externals.list.pop();
+    sink(given(&externals));
+    externals.refer_external((0, 1));
+    sink(given(&externals.ended()));
     let give = |list: &[u8], pool: &[u8], sink: &mut Sink| {
         sink(Arguments::of_table(Table { list, pool }));
     };
@@ -129,6 +151,15 @@ pub fn limits(random: &mut Random, sink: &mut Sink) {
         give(&[0], bytes, sink);
         give(bytes, bytes, sink);
     });
+}
+
+/// As many external entities as fit, of names of four digits.
+pub fn most_externals() -> Draft {
+    let mut draft = Draft::default();
+    for index in 0..(LONGEST_LIST - 1) / EXTERNAL_DECLARATION {
+        draft.declare_external(format!("{index:04}").as_bytes());
+    }
+    draft.ended()
 }
 
 /// As many definitions as fit, of 251-byte names that differ in their ends; the pool is full.

@@ -8,7 +8,7 @@ mod rows;
 use crate::call::Call;
 use crate::call::Parameter::{Choice, Depth, Limit, Output, Scratch, Table, Text};
 use crate::documented::{row, with, within, Outcome::Answered, Outcome::Made};
-use crate::faults::{memory::MEMORY, table::LOOKUP, walk::WALK};
+use crate::faults::{external, memory::MEMORY, table::LOOKUP, walk::WALK};
 use crate::inputs::attribute::{self, Attribute};
 use crate::inputs::{entities, woven};
 use crate::lent::Lent;
@@ -86,7 +86,15 @@ pub const CALL: Call = Call {
     stored: "\
 canonical_form TEXT VERSION DEPTH LIMIT LIST POOL SCRATCH ROOM = NUMBER FIRST SECOND VALUE OUTPUT
 # with SCRATCH for the scratch's length and VALUE for what it holds at its start after the call.",
-    faults: &[LOOKUP, WALK, MEMORY, faults::SCRATCH],
+    faults: &[
+        LOOKUP,
+        WALK,
+        MEMORY,
+        external::TABLE,
+        external::LOOKUP,
+        external::WALK,
+        faults::SCRATCH,
+    ],
     // SAFETY: everything that is lent is of the length stated.
     timed: || rows::timed(|lent| unsafe { run(lent) }),
     differences: || vec![],

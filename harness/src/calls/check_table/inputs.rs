@@ -5,23 +5,29 @@ use crate::draft::{Draft, Part};
 use crate::inputs::sequences::every_sequence;
 use crate::inputs::sizes::MEBIBYTE;
 use crate::inputs::spoiled::{every_spoiled, spoil, spoil_at_random, SPOILS};
-use crate::inputs::tables::{few, full_draft, given, random_draft};
+use crate::inputs::tables::{few, full_draft, given, most_externals, random_draft};
 use crate::inputs::text::{text, MIXES};
 use crate::random::Random;
-use crate::table::{Table, DEFINITION, LONGEST_NAME, LONGEST_POOL, LONGEST_REPLACEMENT};
+use crate::table::{Table, DEFINITION, EXTERNAL_DECLARATION};
+use crate::table::{LONGEST_NAME, LONGEST_POOL, LONGEST_REPLACEMENT};
 
 /// The document's conditions one by one, and what tells the order of its checks.
 pub fn seams(random: &mut Random, sink: &mut Sink) {
     every_short_list(sink);
     for (pool, parts) in SEAM_PARTS {
         for &(name, text) in parts {
-            let mut draft = Draft {
-                pool: pool.to_vec(),
-                ..Draft::default()
-            };
-            draft.refer(name, text);
-            sink(given(&draft));
-            sink(given(&draft.ended()));
+            for is_external in [false, true] {
+                let mut draft = Draft {
+                    pool: pool.to_vec(),
+                    ..Draft::default()
+                };
+                match is_external {
+                    true => draft.refer_external(name),
+                    false => draft.refer(name, text),
+                }
+                sink(given(&draft));
+                sink(given(&draft.ended()));
+            }
         }
     }
     for draft in few() {
@@ -93,12 +99,14 @@ fn every_short_list(sink: &mut Sink) {
     ] {
         give(list);
     }
-    let whole = Draft::of(&[("a", "b")]).list;
-    for cut in 1..whole.len() {
-        give(&whole[..cut]);
-    }
-    for after in [&[0u8] as &[u8], &[1], &[2], &[0, 0]] {
-        give(&[&whole, after].concat());
+    for entity in [("a", Some("b")), ("a", None)] {
+        let whole = Draft::of_entities([entity]).list;
+        for cut in 1..whole.len() {
+            give(&whole[..cut]);
+        }
+        for after in [&[0u8] as &[u8], &[1], &[2], &[0, 0]] {
+            give(&[&whole, after].concat());
+        }
     }
 }
 
@@ -107,14 +115,22 @@ fn seams_of_two_commands(sink: &mut Sink) {
     let parts: [Part; 4] = [(0, 1), (0, 0), (3, 1), (1, 1)];
     for first in parts {
         for second in parts {
-            let mut draft = Draft {
-                pool: b"a\xC3".to_vec(),
-                ..Draft::default()
-            };
-            draft.refer(first, (0, 1));
-            draft.refer((0, 1), second);
-            sink(given(&draft));
-            sink(given(&draft.ended()));
+            for kinds in [(false, false), (true, false), (false, true), (true, true)] {
+                let mut draft = Draft {
+                    pool: b"a\xC3".to_vec(),
+                    ..Draft::default()
+                };
+                match kinds.0 {
+                    true => draft.refer_external(first),
+                    false => draft.refer(first, (0, 1)),
+                }
+                match kinds.1 {
+                    true => draft.refer_external(second),
+                    false => draft.refer((0, 1), second),
+                }
+                sink(given(&draft));
+                sink(given(&draft.ended()));
+            }
         }
     }
 }
@@ -154,12 +170,27 @@ pub fn every_part(_: &mut Random, sink: &mut Sink) {
                 ..Draft::default()
             };
             draft.refer((parts[0], parts[1]), (parts[2], parts[3]));
-            for tail in [&[0u8] as &[u8], &[], &[1], &[2], &[0, 0]] {
-                draft.list.truncate(DEFINITION);
-                draft.list.extend_from_slice(tail);
-                sink(given(&draft));
-            }
+            with_each_end(draft, sink);
         });
+        every_sequence(&numbers, 2, &mut |part| {
+            let mut draft = Draft {
+                pool: pool.to_vec(),
+                ..Draft::default()
+            };
+            draft.refer_external((part[0], part[1]));
+            with_each_end(draft.clone(), sink);
+            draft.refer((0, 1), (0, 1));
+            with_each_end(draft, sink);
+        });
+    }
+}
+
+fn with_each_end(mut draft: Draft, sink: &mut Sink) {
+    let length = draft.list.len();
+    for end in [&[0u8] as &[u8], &[], &[1], &[2], &[0, 0]] {
+        draft.list.truncate(length);
+        draft.list.extend_from_slice(end);
+        sink(given(&draft));
     }
 }
 
@@ -173,6 +204,12 @@ pub fn every_edge(random: &mut Random, sink: &mut Sink) {
         // A long pool is copied for each input.
         let share = 1 + length / 20_000;
         for &name in &names {
+            let mut draft = Draft::default();
+            draft.refer_external(name);
+            sink(Arguments::of_table(Table {
+                list: &draft.ended().list,
+                pool: &pool,
+            }));
             for &text in texts.iter().filter(|_| random.below(share) == 0) {
                 let mut draft = Draft::default();
                 draft.refer(name, text);
@@ -224,6 +261,16 @@ pub fn long(random: &mut Random, sink: &mut Sink) {
                 sink(given(&draft));
                 draft.pool.clone_from(&sound.pool);
             }
+        }
+    }
+    let mut externals = most_externals();
+    let commands = externals.list.len() / EXTERNAL_DECLARATION;
+    for index in [0, 1, 4095, 4096, commands - 1] {
+        let sound = externals.list.clone();
+        for (offset, byte) in [(0, 0), (0, 1), (0, 3), (4, 0x10), (5, 0), (5, 5), (5, 255)] {
+            externals.list[index * EXTERNAL_DECLARATION + offset] = byte;
+            sink(given(&externals));
+            externals.list.clone_from(&sound);
         }
     }
     for length in LONGEST_REPLACEMENT - 2..=LONGEST_REPLACEMENT {

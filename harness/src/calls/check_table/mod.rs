@@ -5,11 +5,14 @@ mod rows;
 
 use crate::answer::{success, Answer};
 use crate::arguments::Arguments;
-use crate::call::Call;
 use crate::call::Parameter::Table;
+use crate::call::{Call, Faults};
+use crate::faults::external;
+use crate::faults::parts::table;
 use crate::inputs::tables;
-use crate::lent::Lent;
+use crate::lent::{Lent, Run};
 use crate::oracle::checks::defined_by;
+use crate::table::DECLARE_EXTERNAL;
 
 extern "C" {
     fn govlezna_check_table(
@@ -49,7 +52,7 @@ pub const CALL: Call = Call {
     ]],
     random: inputs::random,
     stored: "check_table LIST POOL = NUMBER FIRST SECOND",
-    faults: &[],
+    faults: &[external::TABLE, COUNT],
     // SAFETY: everything that is lent is of the length stated.
     timed: || rows::timed(|lent| unsafe { run(lent) }),
     differences: || vec![],
@@ -61,4 +64,18 @@ fn answer(arguments: &Arguments) -> Answer {
         Ok(definitions) => success(definitions.len() as u64),
         Err(refusal) => refusal,
     }
+}
+
+const COUNT: Faults = &[("external entities not counted", uncounted)];
+
+unsafe fn uncounted(lent: &Lent, real: Run) -> u32 {
+    let number = real(lent);
+    let commands = table(lent).commands().unwrap_or_default();
+    let external = commands
+        .iter()
+        .filter(|command| command[0] == DECLARE_EXTERNAL);
+    if number == 0 {
+        *lent.answer -= external.count() as u64;
+    }
+    number
 }

@@ -5,6 +5,7 @@ use crate::arguments::{Arguments, Room, Sink};
 use crate::calls::escape::answer::escape;
 use crate::draft::Draft;
 use crate::inputs::entities::{referring, with_some_table, NUMBERS, REFUSED_TABLES, SOUND};
+use crate::inputs::external;
 use crate::inputs::rooms::{each_room, random_room, some_room};
 use crate::inputs::sequences::every_sequence;
 use crate::inputs::sizes::{random_length, BLOCK_ENDS};
@@ -94,6 +95,7 @@ impl Subject for Unescape {
                 });
             }
         }
+        external::seams(sink);
         for text in ["", "&lt;", "a&e;b&a;", "&#x20AC;"] {
             each_room(&[0], with_plain_table(text.as_bytes()), sink);
         }

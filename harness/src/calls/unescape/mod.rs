@@ -7,8 +7,8 @@ mod rows;
 use crate::call::Call;
 use crate::call::Parameter::{Output, Table, Text};
 use crate::documented::{row, with, Documented, Outcome, Outcome::Answered, Outcome::Made};
-use crate::faults::table::LOOKUP;
-use crate::inputs::{entities, sizes, tables, woven};
+use crate::faults::{external as external_faults, table::LOOKUP};
+use crate::inputs::{entities, external, sizes, tables, woven};
 use crate::lent::Lent;
 use inputs::Unescape;
 
@@ -55,6 +55,8 @@ pub const CALL: Call = Call {
         entities::lookups,
         entities::similar_names,
         entities::first_binds,
+        external::every_order,
+        external::every_small_table,
         entities::repeated,
         inputs::longest_results,
         inputs::escaped_texts,
@@ -68,7 +70,7 @@ pub const CALL: Call = Call {
     ]],
     random: woven::random::<Unescape>,
     stored: "unescape TEXT LIST POOL ROOM = NUMBER FIRST SECOND OUTPUT",
-    faults: &[LOOKUP],
+    faults: &[LOOKUP, external_faults::TABLE, external_faults::LOOKUP],
     // SAFETY: everything that is lent is of the length stated.
     timed: || rows::timed(|lent| unsafe { run(lent) }),
     differences: || vec![rows::lookup(|lent| unsafe { run(lent) })],
