@@ -14,6 +14,8 @@ const LONGEST_TEXT: usize = 300;
 const HEAD: usize = 12;
 /// A definition whose starts and lengths have a byte each.
 const SHORT_DEFINITION: usize = 4;
+/// The same with the command before it.
+const SHORT_COMMAND: usize = 5;
 
 /// Gives the call that the first byte picks, its arguments, and the turn that picks addresses and fills.
 pub fn cut(bytes: &[u8], each: &mut dyn FnMut(&'static Call, Arguments, usize)) {
@@ -104,16 +106,26 @@ fn room_of(byte: u8) -> Room {
     }
 }
 
-/// The list as it is after a 1, or else of definitions of four bytes and an end: a fuzzer finds few
-/// tables in the long form.
+/// The list as it is after a 1, of commands of five bytes and an end after a 2, or else of definitions of four and an end: a fuzzer
+/// finds few tables in the long form.
 fn list_of(bytes: &[u8]) -> Vec<u8> {
-    if let [1, list @ ..] = bytes {
-        return list.to_vec();
-    }
     let mut draft = Draft::default();
-    for short in bytes.get(1..).unwrap_or(&[]).chunks_exact(SHORT_DEFINITION) {
-        let part = |at: usize| (short[at].into(), short[at + 1].into());
-        draft.refer(part(0), part(2));
+    let part = |short: &[u8]| (short[0].into(), short[1].into());
+    match bytes {
+        [1, list @ ..] => return list.to_vec(),
+        [2, shorts @ ..] => {
+            for short in shorts.chunks_exact(SHORT_COMMAND) {
+                match short[0] % 2 {
+                    0 => draft.refer_external(part(&short[1..])),
+                    _ => draft.refer(part(&short[1..]), part(&short[3..])),
+                }
+            }
+        }
+        _ => {
+            for short in bytes.get(1..).unwrap_or(&[]).chunks_exact(SHORT_DEFINITION) {
+                draft.refer(part(short), part(&short[2..]));
+            }
+        }
     }
     draft.ended().list
 }
