@@ -1,7 +1,7 @@
 //! The reading of table.rs beside ours.
 
 use crate::draft::Draft;
-use crate::inputs::entities::long_names;
+use crate::inputs::entities::{long_entities, long_names};
 use crate::rows::table::{ours, Ours, Tables, NAMES};
 use crate::timing::{row, Row};
 use std::hint::black_box;
@@ -17,6 +17,10 @@ pub fn timed(run: impl Ours) -> Vec<Row> {
     let inputs = [
         ("4 names", small),
         ("4,000 names of 255 bytes", long_names(NAMES)),
+        (
+            "4,000 names of 255 bytes, every other one external",
+            long_entities(NAMES, |index| index % 2 == 0),
+        ),
     ];
     let rows = inputs.into_iter().map(|(input, draft)| {
         let table = Tables::new(draft).lent;

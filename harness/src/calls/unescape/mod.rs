@@ -73,7 +73,12 @@ pub const CALL: Call = Call {
     faults: &[LOOKUP, external_faults::TABLE, external_faults::LOOKUP],
     // SAFETY: everything that is lent is of the length stated.
     timed: || rows::timed(|lent| unsafe { run(lent) }),
-    differences: || vec![rows::lookup(|lent| unsafe { run(lent) })],
+    differences: || {
+        vec![
+            rows::lookup(|lent| unsafe { run(lent) }),
+            rows::mixed_lookup(|lent| unsafe { run(lent) }),
+        ]
+    },
     counted: |_| {},
 };
 

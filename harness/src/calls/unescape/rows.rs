@@ -1,7 +1,7 @@
 //! The Rust's walk beside ours, and what a lookup takes.
 
 use crate::draft::Draft;
-use crate::inputs::entities::{long_names, long_reference};
+use crate::inputs::entities::{long_entities, long_names, long_reference};
 use crate::inputs::sizes::MEBIBYTE;
 use crate::rows::table::{table_row, Ours, References, Tables, NAMES};
 use crate::rust::escape::{self, EscapeError};
@@ -55,15 +55,33 @@ const REFERENCES: usize = 100;
 /// long, so their difference is what it takes to pass the names between, a hundred times; the check of the table, of a megabyte, is
 /// not in it.
 pub fn lookup(run: impl Ours) -> Difference {
-    let tables = Tables::new(long_names(NAMES));
+    let what = "One lookup that passes 3,999 names of 255 bytes";
+    passing(run, what, long_names(NAMES), [0, NAMES - 1])
+}
+
+/// The same where every other name is external. The Rust's loop passes those as it passes the others.
+pub fn mixed_lookup(run: impl Ours) -> Difference {
+    let what = "One lookup that passes 3,998 names of 255 bytes, every other one external";
+    let draft = long_entities(NAMES, |index| index % 2 == 0);
+    passing(run, what, draft, [1, NAMES - 1])
+}
+
+/// References to these two names.
+fn passing(
+    run: impl Ours,
+    what: &'static str,
+    draft: Draft,
+    [first, last]: [usize; 2],
+) -> Difference {
+    let tables = Tables::new(draft);
     let references = |input, index| {
         let text = long_reference(index).repeat(REFERENCES);
         table_row("unescape", input, &text, 0, tables, (run, rust_unescape))
     };
     Difference {
-        what: "One lookup that passes 3,999 names of 255 bytes",
+        what,
         times: REFERENCES,
-        without: references("the first name", 0),
-        with: references("the last name", NAMES - 1),
+        without: references("the first name", first),
+        with: references("the last name", last),
     }
 }
