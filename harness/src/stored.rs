@@ -12,12 +12,13 @@ use std::io::{Result, Write};
 const HEADER: &str = "\
 # What the Rust answers: std::str::from_utf8, and escape.rs and utils.rs of quick-xml 0.42.0, by
 # the numbers of document 01. The library has no part in it. The table's format, which the Rust has
-# not, is read as document 01 says. Made in harness/ by
+# not, is read as documents 01 and 02 say, and lists with external entities, which the Rust knows
+# nothing of, by the harness's own reading of the walks. Made in harness/ by
 #   cargo run --release --offline -- stored ../crates/replay/stdin
 # Bytes are in hexadecimal, with - for none; ROOM is the output's length, OUTPUT the result alone.
 ";
 
-/// The seams of each call and what a fuzzer found, each once.
+/// The seams of each call, the documents' rows and what a fuzzer found, each once.
 pub fn write(calls: &[&Call], out: &mut dyn Write) -> Result<()> {
     out.write_all(HEADER.as_bytes())?;
     for call in CALLS.iter().filter(|call| !call.stored.is_empty()) {
@@ -36,6 +37,7 @@ pub fn write(calls: &[&Call], out: &mut dyn Write) -> Result<()> {
             }
         };
         (call.seams)(&mut Random::new(DEFAULT_SEED), &mut store);
+        call.documented.iter().for_each(|row| row.give(&mut store));
         corpus::each(call, &mut store);
         for line in lines {
             writeln!(out, "{line}")?;
