@@ -67,7 +67,7 @@ cdataNextCall text cursor = cursorGuarded (textCheck text) cursor (cdataStep tex
 unfoldable pub checkTableCall : List ℕ → List ℕ → Called
 checkTableCall list pool = callOf (tableCheck list pool) []
 
--- document 01, unescaping: 1 and 5, 6 to 9, then 10 to 15 and 19, else the text unescaped
+-- document 01, unescaping: 1 and 5, 6 to 9, then 10 to 15, 27 (document 02, K9) and 19, else the text unescaped
 unfoldable pub unescapeCall : List ℕ → List ℕ → List ℕ → List ℕ → Called
 unescapeCall text list pool out =
     guarded (andThen (textCheck text) (tableCheck list pool)) (out ∷ []) (finished (unescape (binding list pool) text) out)
@@ -80,12 +80,12 @@ walkCheck text version depth limit list pool = andThen (argumentCheck text (sett
 abbrev pub walked : List ℕ → ℕ → ℕ → ℕ → List ℕ → List ℕ → Outcome
 walked text version depth limit list pool = normalize (readingOf (ruleOf version) list pool limit) depth text
 
--- document 01, attribute walk: 1 to 9, then 10 to 17 and 19, else the value and its openings
+-- document 01, attribute walk: 1 to 9, then 10 to 17, 27 (document 02, K9) and 19, else the value and its openings
 unfoldable pub normalizeAttributeValueCall : List ℕ → ℕ → ℕ → ℕ → List ℕ → List ℕ → List ℕ → Called
 normalizeAttributeValueCall text version depth limit list pool out =
     guarded (walkCheck text version depth limit list pool) (out ∷ []) (finished (walked text version depth limit list pool) out)
 
--- document 01, canonical form: 1 to 9, then 10 to 17, 18 and 19, else the form, and the value in the scratch
+-- document 01, canonical form: 1 to 9, then 10 to 17, 27 (document 02, K9), 18 and 19, else the form, and the value in the scratch
 unfoldable pub canonicalFormCall : List ℕ → ℕ → ℕ → ℕ → List ℕ → List ℕ → List ℕ → List ℕ → Called
 canonicalFormCall text version depth limit list pool scratch out =
     guarded (walkCheck text version depth limit list pool) (scratch ∷ out ∷ []) (formed (ruleOf version) (walked text version depth limit list pool) scratch out)
