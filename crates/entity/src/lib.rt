@@ -545,7 +545,12 @@ pub fn resolve_short(list: &[u8], pool: &[u8], name: &[u8]) -> Binding
     'commands: loop {
         if list[at] != 1 {
             if list[at] == 2 {
-                break 'commands binding_of(find_later(list, pool, name, at));
+                break 'commands binding_of(find_later(
+                    &list[..list.len()],
+                    &pool[..pool.len()],
+                    &name[..name.len()],
+                    at,
+                ));
             }
             break 'commands resolve_xml_entity(name);
         }

@@ -1,12 +1,14 @@
 -- `resolve_short`: as `resolve_entity`, with the bytes of a name compared from the first one on.
-use mathlib.Core.Path.{refl, _∙_}
+use mathlib.Core.Path.{refl, ap, sym, _∙_}
+use mathlib.Core.List.{List}
 use native.Mathlib.Omega.{arith}
 use borrow.Author.Needs.{needs}
 use lib.ListN.{length}
-use Prim.Native.Nat.{_+_, _-_, _≤_}
+use Prim.Native.Nat.{ℕ, _+_, _-_, _≤_}
 use Rattle.entity.specs.Table.{littleEndian}
+use Rattle.entity.specs.Commands.{Refers}
 use Rattle.entity.specs.Steps.{Agree, Here}
-use Rattle.entity.proofs.Lookup.{begin, in-list, over, other-declares, Command, command, on, hit, agree-none, agree-more, same-all, differ-length, differ-at}
+use Rattle.entity.proofs.Lookup.{whole-part, as-parts, of-parts, begin, in-list, over, other-declares, Command, command, on, hit, agree-none, agree-more, same-all, differ-length, differ-at}
 use Rattle.entity.proofs.resolve_short.Statement.{statement}
 use Rattle.entity.proofs.resolve_short.Tie as tie
 
@@ -67,9 +69,30 @@ shared-slice-read-if1 c = in-list (c .before .commands .inv)
 shared-slice-read-if2 : tie.Need-shared-slice-read-if2 Inv-bytes μ-bytes Inv-commands μ-commands
 shared-slice-read-if2 c = in-list (c .before .before .before .commands .inv)
 
--- a command of another kind
+-- a command of another kind: the lookup goes on from there, its three slices as parts
+slice-aggregate-find-later :
+    tie.Need-slice-aggregate-find-later Inv-bytes μ-bytes Inv-commands μ-commands
+slice-aggregate-find-later c =
+    let t = c .before .before .before .before .before in
+    ap length (sym (whole-part (t .before .before .before .before .args .list .now)))
+
+slice-aggregate-find-later-2 :
+    tie.Need-slice-aggregate-find-later-2 Inv-bytes μ-bytes Inv-commands μ-commands
+slice-aggregate-find-later-2 c =
+    let t = c .before .before .before .before .before .before in
+    ap length (sym (whole-part (t .before .before .before .before .args .pool .now)))
+
+slice-aggregate-find-later-3 :
+    tie.Need-slice-aggregate-find-later-3 Inv-bytes μ-bytes Inv-commands μ-commands
+slice-aggregate-find-later-3 c =
+    let t = c .before .before .before .before .before .before .before in
+    ap length (sym (whole-part (t .before .before .before .before .args .name .now)))
+
 find-later-requires : tie.Need-find-later-requires Inv-bytes μ-bytes Inv-commands μ-commands
-find-later-requires c κs = c .before .before .before .before .commands .inv
+find-later-requires c κs =
+    let t = c .before .before .before .before .before .before .before in
+    let asked = t .before .before .before .before .args in
+    as-parts (λ (l p n : List ℕ). Here l p n (t .commands .at)) (asked .list .now) (asked .pool .now) (asked .name .now) (t .commands .inv)
 
 binding-of-requires : tie.Need-binding-of-requires Inv-bytes μ-bytes Inv-commands μ-commands
 binding-of-requires c = search needs
@@ -161,8 +184,10 @@ commands-again-2 c =
 returns : tie.Need-returns Inv-bytes μ-bytes Inv-commands μ-commands
 returns c =
     let later = c .before in
-    let asked = later .before .before .before .before .before .before .before .before .before .args in
-    c .binding-of .ensures (asked .list .now) (asked .pool .now) (asked .name .now) (later .find-later .ensures)
+    let t = later .before .before .before .before .before .before .before .before in
+    let asked = t .before .before .before .before .args in
+    c .binding-of .ensures (asked .list .now) (asked .pool .now) (asked .name .now)
+    (of-parts (λ (l p n : List ℕ). Refers l p n (later .find-later .result)) (asked .list .now) (asked .pool .now) (asked .name .now) (later .find-later .ensures))
 
 -- no command has the name
 returns-2 : tie.Need-returns-2 Inv-bytes μ-bytes Inv-commands μ-commands
@@ -199,6 +224,9 @@ resolve-short-spec =
     commands-holds
     shared-slice-read-if1
     shared-slice-read-if2
+    slice-aggregate-find-later
+    slice-aggregate-find-later-2
+    slice-aggregate-find-later-3
     find-later-requires
     binding-of-requires
     resolve-xml-entity-requires
