@@ -13,7 +13,7 @@ use Rattle.text.specs.Version.{Rule, xml10, xml11}
 use Rattle.text.proofs.Bytes.{pick-by}
 use Rattle.output.proofs.Written.{Written, written-as, written-more, piece-room}
 use Rattle.eols.specs.Stops.{ruleFor}
-use Rattle.eols.proofs.LineEnds.{begins-fits}
+use Rattle.text.proofs.Patterns.{begins-fits}
 use Rattle.escape.specs.Escape.{Replacements, attribute, levelOf, levelSet, write, writeByte}
 use Rattle.escape.specs.Scan.{charsSet, levelChars}
 use Rattle.escape.specs.declared.EscapeChars.{EscapeChars}

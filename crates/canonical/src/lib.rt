@@ -9,17 +9,18 @@ ghost use Rattle.eols.specs.Stops.{ruleFor};
 ghost use Rattle.canonical.specs.Canonical.{canonical};
 ghost use Rattle.runs.specs.Specials.{special, Common};
 ghost use Rattle.canonical.specs.Runs.{specialReference};
+use text::pattern;
 
 // The width of the U+0085 or U+2028 at i, 0 where none is.
 fn special_width(value: &[u8], i: usize) -> usize
     requires { ⌜ i < length (now value) ⌝ }
     ensures { λ r. ⌜ r ≡ special xml11 (drop i (now (value .entry))) ⌝ }
 {
-    if eols::two_at(value, i, 0xc2, 0x85) {
+    if pattern::two_at(value, i, 0xc2, 0x85) {
         return 2;
     }
-    if eols::byte_at(value, i, 0xe2) {
-        if eols::two_at(value, i + 1, 0x80, 0xa8) {
+    if pattern::byte_at(value, i, 0xe2) {
+        if pattern::two_at(value, i + 1, 0x80, 0xa8) {
             return 3;
         }
     }

@@ -1,18 +1,18 @@
 -- Laws of line ends: the head of a text, runs, length. Assumes nothing.
 use mathlib.Core.Path.{_≡_, refl, sym, ap, _∙_}
-use mathlib.Core.Bool.{Bool, true, false, _&&_, _||_, true≢false}
+use mathlib.Core.Bool.{Bool, true, false, _&&_, _||_}
 use mathlib.Core.List.{List, [], _∷_}
-use Prim.Native.Nat.{ℕ, zero, suc, _+_, _≤_, _<_, zero-le, suc-le-suc}
+use Prim.Native.Nat.{ℕ, zero, suc, _+_, _≤_, _<_, zero-le}
 use native.Mathlib.Omega.{arith}
 use native.Mathlib.Nat.{le-refl}
-use native.Mathlib.Numerals.{add-one}
 use lib.Dec.{eqb, ltb}
-use lib.ListN.{length, drop, getD, length-drop, drop-of-length-le}
-use lib.Seq.{drop-cons, drop-drop}
+use lib.ListN.{length, drop, getD, length-drop}
+use lib.Seq.{drop-drop}
 use borrow.Author.Tests.{eqb-true, eqb-false, eq-eqb, ne-eqb, lt-ltb}
 use Rattle.text.specs.Bytes.{begins}
 use Rattle.text.specs.Version.{Rule, xml10, xml11, ruleOf}
-use Rattle.text.proofs.Bytes.{pick-by, and-right, or-left, or-right, and-true}
+use Rattle.text.proofs.Bytes.{pick-by, or-left, or-right}
+use Rattle.text.proofs.Patterns.{at-head, begins-fits}
 use Rattle.eols.specs.LineEnds.{lineEnds, widthOf, lineEnd, eolByte, eolSkip, eolsFrom}
 use Rattle.output.proofs.Writers.{Copies}
 use Rattle.runs.specs.RunEnds.{lineStop}
@@ -25,9 +25,6 @@ eols-skip r zero bs = refl
 eols-skip r (suc k) [] = refl
 eols-skip r (suc k) (b ∷ bs) = eols-skip r k bs
 
-pub at-head : (t : List ℕ) (i : ℕ) → i < length t → drop i t ≡ getD t i 0 ∷ drop (i + 1) t
-at-head t i h = rw (add-one i, drop-cons t i 0 h)
-
 -- the byte or line end at an index
 pub eols-at : (r : Rule) (t : List ℕ) (i : ℕ) → i < length t
     → eolsFrom r 0 (drop i t) ≡ eolByte (lineEnd r (drop i t)) (getD t i 0) ∷ eolsFrom r 0 (drop (i + 1 + eolSkip (lineEnd r (drop i t))) t)
@@ -37,12 +34,6 @@ eols-at r t i h =
     (ap (λ (l : List ℕ). eolByte (lineEnd r (getD t i 0 ∷ drop (i + 1) t)) (getD t i 0) ∷ l)
     (eols-skip r (eolSkip (lineEnd r (getD t i 0 ∷ drop (i + 1) t))) (drop (i + 1) t)
     ∙ ap (eolsFrom r 0) (drop-drop (eolSkip (lineEnd r (getD t i 0 ∷ drop (i + 1) t))) (i + 1) t)))
-
--- a pattern is no longer than the text that begins with it
-pub begins-fits : (p t : List ℕ) → begins p t ≡ true → length p ≤ length t
-begins-fits [] t e = zero-le
-begins-fits (p ∷ ps) [] e = absurd (true≢false (sym e))
-begins-fits (p ∷ ps) (b ∷ bs) e = suc-le-suc (begins-fits ps bs (and-right (eqb b p) (begins ps bs) e))
 
 width-fits : (ps : List (List ℕ)) (t : List ℕ) → widthOf ps t ≤ length t
 unfolding widthOf
@@ -107,32 +98,6 @@ module _ (b : ℕ) (bs : List ℕ) where
 -- the width at an index, from the byte there and those after it
 pub width-at : (r : Rule) (t : List ℕ) (i : ℕ) {w : ℕ} → i < length t → lineEnd r (getD t i 0 ∷ drop (i + 1) t) ≡ w → w ≡ lineEnd r (drop i t)
 width-at r t i h e = sym (ap (lineEnd r) (at-head t i h) ∙ e)
-
--- ---- patterns at an index
-
-pub begins-out : (p : ℕ) (ps t : List ℕ) (i : ℕ) → length t ≤ i → false ≡ begins (p ∷ ps) (drop i t)
-begins-out p ps t i h = sym (rw (drop-of-length-le t h))
-
-pub begins-one : (p : ℕ) (t : List ℕ) (i : ℕ) → i < length t → eqb (getD t i 0) p ≡ begins (p ∷ []) (drop i t)
-begins-one p t i h = sym (rw (at-head t i h) (and-true (eqb (getD t i 0) p)))
-
--- a pattern by its first byte
-begins-head : (p : ℕ) (ps l : List ℕ) → begins (p ∷ ps) l ≡ begins (p ∷ []) l && begins ps (drop 1 l)
-begins-head p ps [] = refl
-begins-head p ps (b ∷ bs) = ap (λ (t : Bool). t && begins ps bs) (sym (and-true (eqb b p)))
-
--- and at an index
-pub begins-cons : (p : ℕ) (ps t : List ℕ) (i : ℕ) → begins (p ∷ ps) (drop i t) ≡ begins (p ∷ []) (drop i t) && begins ps (drop (i + 1) t)
-begins-cons p ps t i =
-    begins-head p ps (drop i t) ∙ ap (λ (l : List ℕ). begins (p ∷ []) (drop i t) && begins ps l) (drop-drop 1 i t)
-
-pub begins-two : (a b : ℕ) (t : List ℕ) (i : ℕ) → begins (a ∷ []) (drop i t) ≡ true → begins (b ∷ []) (drop (i + 1) t) ≡ begins (a ∷ b ∷ []) (drop i t)
-begins-two a b t i e =
-    sym (begins-cons a (b ∷ []) t i ∙ ap (λ (u : Bool). u && begins (b ∷ []) (drop (i + 1) t)) e)
-
-pub begins-not : (a b : ℕ) (t : List ℕ) (i : ℕ) → begins (a ∷ []) (drop i t) ≡ false → false ≡ begins (a ∷ b ∷ []) (drop i t)
-begins-not a b t i e =
-    sym (begins-cons a (b ∷ []) t i ∙ ap (λ (u : Bool). u && begins (b ∷ []) (drop (i + 1) t)) e)
 
 -- ---- what is written for the byte or the line end at an index
 

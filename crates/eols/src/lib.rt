@@ -4,12 +4,12 @@ ghost use Prim.Native.Nat.{_+_, _<_, _≤_};
 ghost use mathlib.Core.Bool.{false};
 ghost use mathlib.Core.List.{[], _∷_};
 ghost use lib.ListN.{length, getD, drop};
-ghost use Rattle.text.specs.Bytes.{begins};
 ghost use Rattle.text.specs.Call.{callOf, finish, laid};
 ghost use Rattle.text.specs.Version.{ruleOf, xml11};
 ghost use Rattle.eols.specs.LineEnds.{lineEnd, eols};
 ghost use Rattle.eols.specs.Stops.{ruleFor, Stepped};
 use text::Answer;
+use text::pattern;
 use text::refusals;
 
 // A byte to write, and how many bytes of the text it stands for.
@@ -18,36 +18,17 @@ pub struct Step {
     pub width: usize,
 }
 
-pub fn byte_at(text: &[u8], i: usize, b: u8) -> bool
-    ensures { λ r. ⌜ r ≡ begins (b ∷ []) (drop i (now (text .entry))) ⌝ }
-{
-    if text.len() <= i {
-        return false;
-    }
-    text[i] == b
-}
-
-pub fn two_at(text: &[u8], i: usize, a: u8, b: u8) -> bool
-    requires { ⌜ i ≤ length (now text) ⌝ }
-    ensures { λ r. ⌜ r ≡ begins (a ∷ b ∷ []) (drop i (now (text .entry))) ⌝ }
-{
-    if byte_at(text, i, a) {
-        return byte_at(text, i + 1, b);
-    }
-    false
-}
-
 // The width of the line end that the CR at i starts.
 fn cr_width(text: &[u8], i: usize, newer: bool) -> usize
     requires { ⌜ i < length (now text) ⌝ }
     requires { ⌜ getD (now text) i 0 ≡ 13 ⌝ }
     ensures { λ r. ⌜ r ≡ lineEnd (ruleFor newer) (drop i (now (text .entry))) ⌝ }
 {
-    if byte_at(text, i + 1, 10) {
+    if pattern::byte_at(text, i + 1, 10) {
         return 2;
     }
     if newer {
-        if two_at(text, i + 1, 0xc2, 0x85) {
+        if pattern::two_at(text, i + 1, 0xc2, 0x85) {
             return 3;
         }
     }
@@ -61,13 +42,13 @@ fn newer_width(text: &[u8], i: usize) -> usize
     ensures { λ r. ⌜ r ≡ lineEnd xml11 (drop i (now (text .entry))) ⌝ }
 {
     if text[i] == 0xc2 {
-        if byte_at(text, i + 1, 0x85) {
+        if pattern::byte_at(text, i + 1, 0x85) {
             return 2;
         }
         return 0;
     }
     if text[i] == 0xe2 {
-        if two_at(text, i + 1, 0x80, 0xa8) {
+        if pattern::two_at(text, i + 1, 0x80, 0xa8) {
             return 3;
         }
     }

@@ -16,7 +16,8 @@ use Rattle.charref.specs.CharRef.{anyCharacter, encode}
 use Rattle.charref.proofs.Encoding.{encode-at-most}
 use Rattle.eols.specs.LineEnds.{lineEnd}
 use Rattle.eols.specs.Stops.{ruleFor}
-use Rattle.eols.proofs.LineEnds.{at-head, cr-lf, cr-nel, cr-alone10, cr-alone11}
+use Rattle.text.proofs.Patterns.{at-head}
+use Rattle.eols.proofs.LineEnds.{cr-lf, cr-nel, cr-alone10, cr-alone11}
 use Rattle.halts.specs.Halts.{halts, Smooth, blanksSpaced}
 use Rattle.text.specs.declared.Answer.the-variants.{Done, Refused}
 use Rattle.entity.specs.Table.{littleEndian, part, declarations, ValidTable}

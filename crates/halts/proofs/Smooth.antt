@@ -19,7 +19,7 @@ use Rattle.text.specs.Version.{xml11}
 use Rattle.text.proofs.Bytes.{and-left, and-right, and-true, or-left, or-right}
 use Rattle.text.proofs.Printable.{not-control, not-above, not-amp}
 use Rattle.eols.specs.LineEnds.{lineEnd}
-use Rattle.eols.proofs.LineEnds.{at-head}
+use Rattle.text.proofs.Patterns.{at-head}
 use Rattle.output.specs.Runs.{Plain, Ends, eitherByte}
 use Rattle.output.proofs.Runs.{plain-of, plain-none, plain-join, plain-byte, plain-both}
 use Rattle.halts.specs.Halts.{halts, Smooth, HaltAt, suspectByte, anyStop, stopByte}

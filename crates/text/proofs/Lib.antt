@@ -1,4 +1,5 @@
 pub mod Bytes
+pub mod Patterns
 pub mod Missed
 pub mod Utf8
 pub mod Longest

@@ -3,6 +3,7 @@ ghost use mathlib.Core.Path.{_≡_};
 ghost use Rattle.text.specs.Call.{lengthCheck, versionCheck, utf8Check, textCheck, argumentCheck};
 
 pub mod load;
+pub mod pattern;
 pub mod refusals;
 pub mod simple;
 pub mod validate;

@@ -3,7 +3,7 @@ use mathlib.Core.Path.{sym, _∙_}
 use lib.ListN.{drop}
 use mathlib.Core.List.{[], _∷_}
 use Rattle.runs.proofs.Specials.{special-nel, special-ls, special-none}
-use Rattle.eols.proofs.LineEnds.{begins-cons}
+use Rattle.text.proofs.Patterns.{begins-cons}
 use borrow.Author.Needs.{needs}
 use Rattle.canonical.proofs.special_width.Statement.{statement}
 use Rattle.canonical.proofs.special_width.Tie as tie

@@ -1,8 +1,8 @@
 use mathlib.Core.List.{[]}
-use Rattle.eols.proofs.LineEnds.{begins-out, begins-one}
+use Rattle.text.proofs.Patterns.{begins-out, begins-one}
 use borrow.Author.Needs.{needs}
-use Rattle.eols.proofs.byte_at.Statement.{statement}
-use Rattle.eols.proofs.byte_at.Tie as tie
+use Rattle.text.proofs.pattern.byte_at.Statement.{statement}
+use Rattle.text.proofs.pattern.byte_at.Tie as tie
 
 returns : tie.Need-returns
 returns c =

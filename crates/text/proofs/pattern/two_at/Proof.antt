@@ -1,8 +1,8 @@
 use mathlib.Core.Path.{sym, _∙_}
-use Rattle.eols.proofs.LineEnds.{begins-two, begins-not}
+use Rattle.text.proofs.Patterns.{begins-two, begins-not}
 use borrow.Author.Needs.{needs}
-use Rattle.eols.proofs.two_at.Statement.{statement}
-use Rattle.eols.proofs.two_at.Tie as tie
+use Rattle.text.proofs.pattern.two_at.Statement.{statement}
+use Rattle.text.proofs.pattern.two_at.Tie as tie
 
 byte-at-requires : tie.Need-byte-at-requires
 byte-at-requires c κs = search needs
