@@ -33,7 +33,7 @@ use Rattle.attribute.specs.Heads.{attributeHead}
 use Rattle.attribute.specs.Steps.{stopAnswer, Blank}
 use Rattle.attribute.proofs.Single.{stop-deeper, at-external, at-unknown, at-predefined, walk-predefined}
 use Rattle.attribute.proofs.Stops.{blank-line}
-use Rattle.memory.specs.Slots.{slotOf, Kept, Noted}
+use Rattle.memory.specs.Slots.{slotOf, Kept, Noted, Memory}
 use Rattle.memory.specs.Levels.{ruleBy, settingsOf, Level, levelOf, Adds, Came, Taken}
 use Rattle.memory.specs.declared.Reading.{Reading}
 use Rattle.memory.specs.declared.Place.{Place}
@@ -219,21 +219,21 @@ module _ (r : Reading) (t list pool : List ℕ) (p : Place) (deep : r .depth ≢
               (rw (f .no-amp, e)));
         }
 
-    -- a predefined name; that the table does not define it is kept
-    pub halt-predefined : {b : ℕ} → predefinedOf name ≡ predefined (b ∷ []) → binding list pool name ≡ predefined (b ∷ []) → {new after : List ℕ}
-        → new ≡ set old (p .len) b → Noted seen b after → HaltKeeps level (r .base) p old seen new after (Next (end + 1) 1 (p .openings))
+    -- a predefined name is its byte, where the memory that is left is one still
+    halt-byte : {b : ℕ} → binding list pool name ≡ predefined (b ∷ []) → {new after : List ℕ} → new ≡ set old (p .len) b → length after ≡ length seen
+        → ((v : List ℕ) → Memory reads list pool v seen → Memory reads list pool v after) → HaltKeeps level (r .base) p old seen new after (Next (end + 1) 1 (p .openings))
     unfolding boundTo
-    halt-predefined {b} plain e {new} {after} w noted =
+    halt-byte {b} e {new} {after} w size keeps =
         record {
           past = (omega (arith, f .ends .from), omega (arith, f .inside));
           buffer = adds .buffer;
-          words = noted-length noted;
+          words = size;
           goes = λ v whole begun x k.
               came-on level v whole begun k (b ∷ [])
               (left-done level (p .at) (p .openings) (end + 1) (p .openings) (b ∷ []) inside
               (next-named (eqb (r .how) 1) t (p .at) end (f .amp) (f .ends) (f .inside) (f .no-number)) (given (p .openings))) refl
               (adds .fits (k .value) whole (k .size) (k .fitted))
-              (memory-noted reads list pool (memory-more reads list pool (k .memory) (b ∷ [])) name (f .no-amp) plain e noted)
+              (keeps _ (memory-more reads list pool (k .memory) (b ∷ [])))
               (omega (arith, f .inside)) (le-refl _) (k .within) (omega (arith, f .ends .from));
         }
       where
@@ -249,6 +249,15 @@ module _ (r : Reading) (t list pool : List ℕ) (p : Place) (deep : r .depth ≢
         given n =
             at-predefined (eqb (r .how) 1) reads legal (r .depth) deep t (p .at) n end (f .amp) (f .ends) (f .inside) (f .no-number) (binding list pool name) bind pool b
             (rw (f .no-amp, e)) (λ x y. itself n)
+
+    -- that the table does not define it is kept, or was known
+    pub halt-predefined : {b : ℕ} → predefinedOf name ≡ predefined (b ∷ []) → binding list pool name ≡ predefined (b ∷ []) → {new after : List ℕ}
+        → new ≡ set old (p .len) b → Noted seen b after → HaltKeeps level (r .base) p old seen new after (Next (end + 1) 1 (p .openings))
+    halt-predefined plain e w noted = halt-byte e w (noted-length noted) (λ v m. memory-noted reads list pool m name (f .no-amp) plain e noted)
+
+    pub halt-plain : {b : ℕ} → binding list pool name ≡ predefined (b ∷ []) → {new : List ℕ} → new ≡ set old (p .len) b
+        → HaltKeeps level (r .base) p old seen new seen (Next (end + 1) 1 (p .openings))
+    halt-plain e w = halt-byte e w refl (λ v m. m)
 
 -- ---- line ends
 

@@ -1,4 +1,5 @@
--- What a reference means (`means-none`, `means-number`, `means-quick`, `means-amp`, `means-name`), by the places at which the code tells.
+-- What a reference means (`means-none`, `means-number`, `means-quick`, `means-amp`, `means-name`, `plain-two`), by the places at which the
+-- code tells.
 -- Assumes nothing.
 use mathlib.Core.Path.{_≡_, refl, sym, ap, subst, _∙_}
 use mathlib.Core.Logic.{_≢_, inl, inr}
@@ -14,7 +15,7 @@ use denote.Enum.Declared.{tagOf}
 use Rattle.text.specs.Bytes.{sameBytes}
 use Rattle.text.specs.Version.{xml10}
 use Rattle.charref.specs.CharRef.{charNumber, anyCharacter, numberAnswer}
-use Rattle.charref.specs.Reading.{Found}
+use Rattle.charref.specs.Reading.{Found, Closed}
 use Rattle.charref.specs.declared.Quick.{Quick}
 use Rattle.charref.specs.declared.CharNumber.{CharNumber}
 use Rattle.charref.specs.declared.CharNumber.the-variants.{Char, UnexpectedSign, InvalidNumber, InvalidCodepoint, IllegalCharacter}
@@ -22,18 +23,20 @@ use Rattle.charref.proofs.CharNumber.{the-type}
 use Rattle.charref.proofs.Encoding.{encode-1}
 use Rattle.charref.proofs.Numbers.{charNumber-character}
 use Rattle.eols.specs.Stops.{ruleFor}
-use Rattle.entity.specs.Binding.{Bound, boundTo}
+use Rattle.text.proofs.Patterns.{at-head}
+use Rattle.entity.specs.Binding.{Bound, predefined, predefinedOf, boundTo}
+use Rattle.entity.specs.Commands.{Unhidden}
 use Rattle.entity.specs.declared.Binding.the-variants.{Predefined}
 use Rattle.tokens.specs.Outcome.{done, numbered, numberOutcome}
 use Rattle.tokens.specs.Walking.{NameEnd, nextAt}
-use Rattle.tokens.proofs.Names.{closed-reference}
+use Rattle.tokens.proofs.Names.{closed-name, closed-reference}
 use Rattle.tokens.proofs.Numbers.{number-done}
 use Rattle.attribute.specs.Heads.{attributeHead}
 use Rattle.attribute.specs.Walk.{Settings, readingOf}
 use Rattle.attribute.specs.Steps.{ampOr}
 use Rattle.attribute.proofs.Single.{at-none, at-number, at-predefined, next-offset}
 use Rattle.memory.proofs.Readings.{call-legal}
-use Rattle.flat.specs.Between.{Answers, nameOf, Means, handedTo, NumberMeans}
+use Rattle.flat.specs.Between.{Answers, ForPlain, nameOf, Means, handedTo, NumberMeans}
 use Rattle.flat.specs.declared.Meaning.{Meaning}
 use Rattle.flat.specs.declared.Meaning.the-variants.{Refused, Name}
 use Rattle.flat.specs.declared.Meaning.the-variants.{Char as Character}
@@ -124,3 +127,41 @@ past-hash t from end e h b = go (eqb end from) refl
         let z : getD t from 0 ≡ 59 = subst (λ (k : ℕ). getD t k 0 ≡ 59) (eqb-true end from q) (e .semicolon h) in
         absurd (omega (arith, z, b))
     go false q = omega (arith, eqb-false end from q, e .from)
+
+-- ---- a predefined name of two bytes, the second `t`, by the bytes
+
+module _ (t list pool : List ℕ) (at : ℕ) (h : at + 4 ≤ length t) (amp : getD t at 0 ≡ 38) {x : ℕ} (first : getD t (at + 1) 0 ≡ x)
+    (second : getD t (at + 2) 0 ≡ 116) (third : getD t (at + 3) 0 ≡ 59) where
+  two-closed : x ≢ 59 → x ≢ 38 → Closed t (at + 1) (at + 3)
+  two-closed n m =
+      record { past = omega arith; inside = omega (arith, h); semicolon = third; none = λ k g l. go k (eqb k (at + 1)) refl g l }
+    where
+      go : (k : ℕ) (u : Bool) → eqb k (at + 1) ≡ u → at + 1 ≤ k → k < at + 3 → (getD t k 0 ≢ 59) × (getD t k 0 ≢ 38)
+      go k true q g l =
+          let z : k ≡ at + 1 = eqb-true k (at + 1) q in
+          rw z ((λ y. n (sym first ∙ y)), λ y. m (sym first ∙ y))
+      go k false q g l =
+          let z : k ≡ at + 2 = omega (arith, eqb-false k (at + 1) q, g, l) in
+          rw z ((λ y. absurd (omega (arith, second, y))), λ y. absurd (omega (arith, second, y)))
+
+  two-name : nameOf t at (at + 3) ≡ x ∷ 116 ∷ []
+  two-name =
+      let n : at + 3 - (at + 1) ≡ 2 = omega arith in
+      let q : at + 1 + 1 ≡ at + 2 = omega arith in
+      rw (n, at-head t (at + 1) (omega (arith, h)), q, at-head t (at + 2) (omega (arith, h)), first, second)
+
+  pub plain-two : x ≢ 59 → x ≢ 38 → x ≢ 35 → sameBytes (x ∷ 116 ∷ []) (97 ∷ 109 ∷ 112 ∷ []) ≡ false → {b : ℕ}
+      → predefinedOf (x ∷ 116 ∷ []) ≡ predefined (b ∷ []) → Unhidden list pool b → ForPlain t list pool at b
+  plain-two n m hash other is free =
+      let p = ap predefinedOf two-name ∙ is in
+      record {
+        name = record {
+          amp = amp;
+          ends = closed-name false t (two-closed n m);
+          inside = omega (arith, h);
+          no-number = λ z. hash (sym first ∙ z);
+          no-amp = rw two-name other;
+        };
+        is = p;
+        bound = free (nameOf t at (at + 3)) p;
+      }

@@ -11,6 +11,7 @@ use Rattle.text.specs.declared.Answer.the-variants.{Done}
 use Rattle.text.specs.declared.Answer.the-variants.{Refused as Refusal}
 use Rattle.charref.specs.CharRef.{anyCharacter, encode}
 use Rattle.eols.specs.Stops.{ruleFor}
+use Rattle.entity.specs.Binding.{predefined, predefinedOf, binding}
 use Rattle.entity.specs.Commands.{commandName, commandText, Defines}
 use Rattle.tokens.specs.Tokens.{named, stop, tokenOf}
 use Rattle.tokens.specs.Outcome.{Outcome, done, refused, numberOutcome}
@@ -52,6 +53,12 @@ pub record ForName (text : List ℕ) (at end : ℕ) : Type 0 where
   pub inside : end < length text
   pub no-number : getD text (at + 1) 0 ≢ 35
   pub no-amp : sameBytes (nameOf text at end) (97 ∷ 109 ∷ 112 ∷ []) ≡ false
+
+-- the `&` at an offset starts `&lt;` or `&gt;`, which stands for the byte: the table does not define it
+pub record ForPlain (text list pool : List ℕ) (at b : ℕ) : Type 0 where
+  pub name : ForName text at (at + 3)
+  pub is : predefinedOf (nameOf text at (at + 3)) ≡ predefined (b ∷ [])
+  pub bound : binding list pool (nameOf text at (at + 3)) ≡ predefined (b ∷ [])
 
 -- what a reference means besides a text
 abbrev pub Means : List ℕ → ℕ → Meaning → Type 0

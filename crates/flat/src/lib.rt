@@ -11,8 +11,9 @@ ghost use lib.ListN.{length, getD, take, drop};
 ghost use Rattle.charref.specs.CharRef.{encode};
 ghost use Rattle.halts.specs.Halts.{halts, Smooth, HaltAt, blanksSpaced};
 ghost use Rattle.entity.specs.Table.{ValidTable};
+ghost use Rattle.memory.specs.Slots.{Trusts};
 ghost use Rattle.memory.specs.Levels.{Adds, Bounds, Lent, FlatKeeps, levelOf};
-ghost use Rattle.flat.specs.Between.{Means, ForName, handedTo, NumberMeans, HaltKeeps, Referred};
+ghost use Rattle.flat.specs.Between.{Means, ForName, ForPlain, handedTo, NumberMeans, HaltKeeps, Referred};
 use charref::CharNumber;
 use entity::Referent;
 use memory::Had;
@@ -288,6 +289,36 @@ fn named_step(
     }
 }
 
+// The byte that `&lt;` or `&gt;` stands for, told by its bytes where the table is known not to define it; 0 says nothing.
+fn quick_plain(text: &[u8], at: usize, seen: &[u64], list: &[u8]) -> u8
+    requires { ⌜ (at < length (now text)) × (length (now text) ≤ 16777216) × (getD (now text) at 0 ≡ 38) ⌝ }
+    requires { ⌜ (length (now seen) ≢ 0 → length (now seen) ≡ 84) ⌝ }
+    ensures { λ r. ⌜ (r ≢ 0 → (pool : List ℕ) → ValidTable (now (list .entry)) pool → Trusts (now (list .entry)) pool (now (seen .entry)) → ForPlain (now (text .entry)) (now (list .entry)) pool at r) ⌝ }
+{
+    if text.len() - at < 4 {
+        return 0;
+    }
+    if text[at + 3] != b';' {
+        return 0;
+    }
+    if text[at + 2] != b't' {
+        return 0;
+    }
+    if text[at + 1] == b'l' {
+        if memory::is_plain(b'<', seen, list) {
+            return b'<';
+        }
+        return 0;
+    }
+    if text[at + 1] != b'g' {
+        return 0;
+    }
+    if memory::is_plain(b'>', seen, list) {
+        return b'>';
+    }
+    0
+}
+
 // The halt at a place. Without a memory the table is asked a few times, and a big one never.
 fn halt_step(
     text: &[u8],
@@ -312,6 +343,15 @@ fn halt_step(
         output::put_byte(32, len, out);
         return Halted::Next {
             at: at + width,
+            len: 1,
+            openings: place.openings,
+        };
+    }
+    let plain = quick_plain(text, at, seen, list);
+    if plain != 0 {
+        output::put_byte(plain, len, out);
+        return Halted::Next {
+            at: at + 4,
             len: 1,
             openings: place.openings,
         };

@@ -1,5 +1,5 @@
 -- Predefined names that the table does not define: what was found out of one name holds of every name that has its word
--- (`unhidden-word`). Assumes nothing.
+-- (`unhidden-word`), and a list without commands hides none (`bare-unhidden`). Assumes nothing.
 use mathlib.Core.Path.{_≡_, refl, sym, ap, subst, _∙_}
 use mathlib.Core.Logic.{_≢_}
 use mathlib.Core.Bool.{Bool, true, false, true≢false}
@@ -7,10 +7,13 @@ use mathlib.Core.List.{List, [], _∷_}
 use Prim.Native.Nat.{ℕ}
 use native.Mathlib.Omega.{arith}
 use lib.Dec.{eqb}
+use lib.ListN.{length}
 use Rattle.text.specs.Bytes.{pick, sameBytes}
 use Rattle.text.proofs.Bytes.{same-equal, equal-same}
 use Rattle.entity.specs.Binding.{Bound, predefined, unknown, predefinedOf, binding}
 use Rattle.entity.specs.Commands.{Unhidden}
+use Rattle.entity.specs.Table.{ValidTable}
+use Rattle.entity.proofs.Lookup.{begin, over, last-over}
 use Rattle.memory.specs.Slots.{plainWord}
 
 -- the byte that a word of the memory is for
@@ -69,3 +72,9 @@ pub not-amp : (name : List ℕ) (b : ℕ) → sameBytes name (97 ∷ 109 ∷ 112
 not-amp name b other p e =
     let is : name ≡ 97 ∷ 109 ∷ 112 ∷ [] = (named name b p) .is ∙ ap nameFor e in
     true≢false (sym (equal-same name) ∙ ap (sameBytes name) is ∙ other)
+
+-- a list of one byte has no command, and hides no predefined name
+pub bare-unhidden : (list pool : List ℕ) (b : ℕ) → ValidTable list pool → length list ≡ 1 → Unhidden list pool b
+bare-unhidden list pool b valid one name p =
+    let here = begin list pool name valid in
+    sym (over here (last-over here (omega (arith, one)))) ∙ p

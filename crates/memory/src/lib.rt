@@ -7,13 +7,13 @@
 // `Memory` (specs/Slots.antt); no definition of a call knows of it.
 ghost use mathlib.Core.Path.{_≡_};
 ghost use mathlib.Core.Logic.{_≢_};
-ghost use mathlib.Core.Bool.{false};
-ghost use mathlib.Core.List.{[], _∷_};
-ghost use Prim.Native.Nat.{_+_, _≤_, _<_};
+ghost use mathlib.Core.Bool.{true, false};
+ghost use mathlib.Core.List.{List, [], _∷_};
+ghost use Prim.Native.Nat.{ℕ, _+_, _≤_, _<_};
 ghost use lib.ListN.{length};
 ghost use Rattle.text.specs.Bytes.{sameBytes};
 ghost use Rattle.entity.specs.Table.{ValidTable};
-ghost use Rattle.entity.specs.Commands.{Refers};
+ghost use Rattle.entity.specs.Commands.{Refers, Unhidden};
 ghost use Rattle.memory.specs.Slots.{slotOf, plainWord, Noted, Trusts, Kept};
 ghost use Rattle.memory.specs.Levels.{Bounds, HadKeeps};
 use entity::Binding;
@@ -111,6 +111,20 @@ pub fn keep_plain(b: u8, seen: &mut [u64])
         return;
     }
     seen[plain_word(b)] = 1;
+}
+
+// Is the table known not to define the predefined name of the byte? Where it has no commands it defines none.
+pub fn is_plain(b: u8, seen: &[u64], list: &[u8]) -> bool
+    requires { ⌜ (length (now seen) ≢ 0 → length (now seen) ≡ 84) ⌝ }
+    ensures { λ r. ⌜ ((pool : List ℕ) → ValidTable (now (list .entry)) pool → Trusts (now (list .entry)) pool (now (seen .entry)) → b ≢ 38 → r ≡ true → Unhidden (now (list .entry)) pool b) ⌝ }
+{
+    if list.len() == 1 {
+        return true;
+    }
+    if seen.len() == 0 {
+        return false;
+    }
+    seen[plain_word(b)] != 0
 }
 
 // What a name other than `amp` refers to, by the memory or by the table. The table is lent as parts, which are made where it is asked:
