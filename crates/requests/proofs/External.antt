@@ -23,7 +23,7 @@ use Rattle.tokens.specs.Walking.{Copies}
 use Rattle.tokens.proofs.Progress.{prepend-none, prepend-prepend}
 use Rattle.halts.specs.Halts.{anyStop}
 use Rattle.unescape.specs.Unescape.{textHead, copied, replaced, unescapeFrom, unescape}
-use Rattle.unescape.specs.Steps.{isAmp}
+use Rattle.runs.specs.RunEnds.{isAmp}
 use Rattle.unescape.proofs.Stops.{others-copied}
 use Rattle.attribute.specs.Heads.{attributeHead}
 use Rattle.attribute.specs.Walk.{Settings, opened, answer, walk, normalize, reading, readingOf}
