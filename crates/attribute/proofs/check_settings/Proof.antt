@@ -18,7 +18,10 @@ check-version-requires c κs = search needs
 
 returns-3 : tie.Need-returns-3
 unfolding settingsCheck
-returns-3 c = c .check-version .ensures ∙ rw (le-ltb 128 (c .before .before .before .args .depth) (c .before .before .if1 .left), le-ltb 1000000 (c .before .before .before .args .limit) (c .before .if2 .left))
+returns-3 c =
+    let deep = c .before .before in
+    let a = deep .before .args in
+    c .check-version .ensures ∙ rw (le-ltb 128 (a .depth) (deep .if1 .left), le-ltb 1000000 (a .limit) (c .before .if2 .left))
 
 pub check-settings-spec : {M : Type 1} → statement M
 check-settings-spec = tie.close (tie.spec returns returns-2 check-version-requires returns-3)

@@ -29,8 +29,10 @@ judge-requires c κs = search needs
 
 returns-2 : tie.Need-returns-2
 returns-2 c =
+    let some = c .before .before .before .before .before in
+    let start = some .before .before in
     c .judge .ensures ∙ ap (judge anyCharacter) (c .before .from-str-radix .ensures)
-    ∙ char-hex anyCharacter (c .before .before .before .before .before .before .before .args .text .now) (c .before .before .before .before .before .if1 .left) (c .before .before .before .if2 .taken)
+    ∙ char-hex anyCharacter (start .args .text .now) (some .if1 .left) (c .before .before .before .if2 .taken)
 
 from-str-radix-requires-2 : tie.Need-from-str-radix-requires-2
 from-str-radix-requires-2 c κs = search needs

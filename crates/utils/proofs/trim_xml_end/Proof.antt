@@ -45,7 +45,8 @@ loop-again : tie.Need-loop-again Inv-loop μ-loop
 loop-again c =
     let l = c .before .before .before .before .loop in
     let t = c .before .before .before .before .before .before .before .args .text .now in
-    record { fits = omega (arith, l .inv .fits); same = sym (kept-on t (l .end) (omega arith) (l .inv .fits) (sym (c .before .is-whitespace .ensures) ∙ not-false _ (c .if1 .left))) ∙ l .inv .same }
+    let blank = sym (c .before .is-whitespace .ensures) ∙ not-false _ (c .if1 .left) in
+    record { fits = omega (arith, l .inv .fits); same = sym (kept-on t (l .end) (omega arith) (l .inv .fits) blank) ∙ l .inv .same }
 
 returns-2 : tie.Need-returns-2 Inv-loop μ-loop
 returns-2 c = end-at (c .before .before .before .before .args .text .now) 0 (omega (arith, c .before .loop .inv .same))

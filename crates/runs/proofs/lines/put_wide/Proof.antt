@@ -1,12 +1,14 @@
--- `put_wide` meets its contract: at each turn the first i bytes are a run, and are laid over the output, 32 more by two calls.
-use mathlib.Core.Path.{_≡_, _∙_}
-use Prim.Native.Nat.{_+_, _-_}
+-- `put_wide`: at each turn the first i bytes are a run, and are laid over the output (`Copied`); the next 32, a block without a stop, are copied by
+-- two calls (`half-copied`, `both-copied`).
+use mathlib.Core.List.{List}
+use Prim.Native.Nat.{ℕ, _+_, _-_}
 use native.Mathlib.Omega.{arith}
 use lib.ListN.{length}
-use Rattle.output.specs.Runs.{Copied, Room}
-use Rattle.output.proofs.Runs.{copied-none, copied-length, run-room, part-length, part-room}
+use borrow.Rule.Slice.PartMut.{putMid}
+use Rattle.output.specs.Runs.{Plain, Copied, Room}
+use Rattle.output.proofs.Runs.{copied-none, copied-length, run-room}
 use Rattle.runs.specs.RunEnds.{lineStop}
-use Rattle.runs.proofs.Copying.{first-half, second-half, half-copied, both-copied}
+use Rattle.runs.proofs.Copying.{copied-fits, first-half, second-half, half-copied, both-copied}
 use borrow.Author.Needs.{needs}
 use Rattle.runs.proofs.lines.put_wide.Statement.{statement}
 use Rattle.runs.proofs.lines.put_wide.Tie as tie
@@ -16,6 +18,35 @@ Inv-loop text newer out₀ i₀ out i = Copied (lineStop newer) text out₀ out 
 
 abbrev μ-loop : tie.MeasureT-loop
 μ-loop text newer out₀ i₀ out i = length text - i
+
+-- places: the turn, seen from a block without a stop; that block, seen from the first copy; this, seen from the second
+abbrev turn : tie.Else1 Inv-loop μ-loop → tie.At-loop Inv-loop μ-loop
+turn c = c .before .before .before
+
+abbrev clear : tie.After-put-block Inv-loop μ-loop → tie.Else1 Inv-loop μ-loop
+clear c = c .before .before .before
+
+abbrev first-copy : tie.After-put-block2 Inv-loop μ-loop → tie.After-put-block Inv-loop μ-loop
+first-copy c = c .before .before .before .before .before
+
+abbrev entry : tie.Else1 Inv-loop μ-loop → tie.Start Inv-loop μ-loop
+entry c = turn c .before .before .before
+
+-- the 32 bytes of this turn have no stop
+block : (c : tie.Else1 Inv-loop μ-loop) → Plain (lineStop (entry c .args .newer)) (entry c .args .text .now) (turn c .loop .i) (turn c .loop .i + 32)
+block c = c .before .any-stop .ensures (c .if1 .left)
+
+-- what the output holds after the first copy
+abbrev held : tie.After-put-block Inv-loop μ-loop → List ℕ
+held c =
+    let kept = turn (clear c) .loop in
+    putMid (kept .i) (length (kept .out) - kept .i) (kept .out) (c .put-block .last .1 .0)
+
+half : (c : tie.After-put-block Inv-loop μ-loop)
+    → Copied (lineStop (entry (clear c) .args .newer)) (entry (clear c) .args .text .now) (entry (clear c) .args .out .now) (held c) (turn (clear c) .loop .i + 16)
+half c =
+    let kept = turn (clear c) .loop in
+    half-copied _ _ _ (kept .inv .0) (kept .inv .1) (block (clear c)) (c .put-block .ensures)
 
 loop-holds : tie.Need-loop-holds Inv-loop μ-loop
 loop-holds c = (copied-none _ _ _, c .before .before .pre)
@@ -35,7 +66,7 @@ returns : tie.Need-returns Inv-loop μ-loop
 returns c = c .before .before .before .loop .inv .0
 
 add-half : tie.Need-add-half Inv-loop μ-loop
-add-half c = omega (arith, c .before .any-stop .ensures (c .if1 .left) .to)
+add-half c = omega (arith, block c .to)
 
 sub-put-block : tie.Need-sub-put-block Inv-loop μ-loop
 sub-put-block c = omega arith
@@ -44,30 +75,28 @@ part-put-block-start : tie.Need-part-put-block-start Inv-loop μ-loop
 part-put-block-start c = omega arith
 
 part-put-block-end : tie.Need-part-put-block-end Inv-loop μ-loop
-part-put-block-end c = first-half (c .before .any-stop .ensures (c .if1 .left)) .to
+part-put-block-end c = first-half (block c) .to
 
 sub-put-block-2 : tie.Need-sub-put-block-2 Inv-loop μ-loop
 sub-put-block-2 c =
-    let kept = c .before .before .before .before .loop in
-    omega (arith, run-room _ _ _ (kept .inv .0) (kept .inv .1) (c .before .before .any-stop .ensures (c .before .if1 .left)))
+    let kept = turn (c .before) .loop in
+    omega (arith, run-room _ _ _ (kept .inv .0) (kept .inv .1) (block (c .before)))
 
 part-put-block-start-2 : tie.Need-part-put-block-start-2 Inv-loop μ-loop
 part-put-block-start-2 c =
-    let kept = c .before .before .before .before .loop in
-    omega (arith, run-room _ _ _ (kept .inv .0) (kept .inv .1) (c .before .before .any-stop .ensures (c .before .if1 .left)))
+    let kept = turn (c .before) .loop in
+    omega (arith, run-room _ _ _ (kept .inv .0) (kept .inv .1) (block (c .before)))
 
 part-put-block-end-2 : tie.Need-part-put-block-end-2 Inv-loop μ-loop
 part-put-block-end-2 c = search needs
 
 put-block-requires : tie.Need-put-block-requires Inv-loop μ-loop
 put-block-requires c κs =
-    let kept = c .before .before .before .before .before .loop in
-    let p = first-half (c .before .before .before .any-stop .ensures (c .before .before .if1 .left)) in
-    let q : kept .i + 16 - kept .i ≡ 16 = omega arith in
-    (part-length _ _ _ (kept .inv .0) (kept .inv .1) p ∙ q, rw q at (part-room _ _ _ (kept .inv .0) (kept .inv .1) p))
+    let here = c .before .before in
+    copied-fits (turn here .loop .inv .0) (turn here .loop .inv .1) 16 (first-half (block here))
 
 add-put-block : tie.Need-add-put-block Inv-loop μ-loop
-add-put-block c = omega (arith, c .before .before .before .before .before .before .any-stop .ensures (c .before .before .before .before .before .if1 .left) .to)
+add-put-block c = omega (arith, block (clear (c .before .before)) .to)
 
 sub-put-block-3 : tie.Need-sub-put-block-3 Inv-loop μ-loop
 sub-put-block-3 c = omega arith
@@ -76,41 +105,42 @@ part-put-block-start-3 : tie.Need-part-put-block-start-3 Inv-loop μ-loop
 part-put-block-start-3 c = omega arith
 
 part-put-block-end-3 : tie.Need-part-put-block-end-3 Inv-loop μ-loop
-part-put-block-end-3 c = second-half (c .before .before .before .before .before .before .any-stop .ensures (c .before .before .before .before .before .if1 .left)) .to
+part-put-block-end-3 c = second-half (block (clear (c .before .before))) .to
 
 sub-put-block-4 : tie.Need-sub-put-block-4 Inv-loop μ-loop
 sub-put-block-4 c =
-    let kept = c .before .before .before .before .before .before .before .before .before .loop in
-    let p = c .before .before .before .before .before .before .before .any-stop .ensures (c .before .before .before .before .before .before .if1 .left) in
-    omega (arith, run-room _ _ _ (half-copied _ _ _ (kept .inv .0) (kept .inv .1) p (c .before .before .before .put-block .ensures)) (kept .inv .1) (second-half p))
+    let first = c .before .before .before in
+    let here = clear first in
+    omega (arith, run-room _ _ _ (half first) (turn here .loop .inv .1) (second-half (block here)))
 
 part-put-block-start-4 : tie.Need-part-put-block-start-4 Inv-loop μ-loop
 part-put-block-start-4 c =
-    let kept = c .before .before .before .before .before .before .before .before .before .loop in
-    let p = c .before .before .before .before .before .before .before .any-stop .ensures (c .before .before .before .before .before .before .if1 .left) in
-    omega (arith, run-room _ _ _ (half-copied _ _ _ (kept .inv .0) (kept .inv .1) p (c .before .before .before .put-block .ensures)) (kept .inv .1) (second-half p))
+    let first = c .before .before .before in
+    let here = clear first in
+    omega (arith, run-room _ _ _ (half first) (turn here .loop .inv .1) (second-half (block here)))
 
 part-put-block-end-4 : tie.Need-part-put-block-end-4 Inv-loop μ-loop
 part-put-block-end-4 c = search needs
 
 put-block-requires-2 : tie.Need-put-block-requires-2 Inv-loop μ-loop
 put-block-requires-2 c κs =
-    let kept = c .before .before .before .before .before .before .before .before .before .before .loop in
-    let p = c .before .before .before .before .before .before .before .before .any-stop .ensures (c .before .before .before .before .before .before .before .if1 .left) in
-    let w = half-copied _ _ _ (kept .inv .0) (kept .inv .1) p (c .before .before .before .before .put-block .ensures) in
-    let q : kept .i + 16 + 16 - (kept .i + 16) ≡ 16 = omega arith in
-    (part-length _ _ _ w (kept .inv .1) (second-half p) ∙ q, rw q at (part-room _ _ _ w (kept .inv .1) (second-half p)))
+    let first = c .before .before .before .before in
+    let here = clear first in
+    copied-fits (half first) (turn here .loop .inv .1) 16 (second-half (block here))
 
 add-i : tie.Need-add-i Inv-loop μ-loop
-add-i c = omega (arith, c .before .before .before .before .before .before .before .before .before .before .before .any-stop .ensures (c .before .before .before .before .before .before .before .before .before .before .if1 .left) .to)
+add-i c = omega (arith, block (clear (first-copy (c .before .before))) .to)
 
 loop-less : tie.Need-loop-less Inv-loop μ-loop
-loop-less c = omega (arith, c .before .before .before .before .before .before .before .before .before .before .before .any-stop .ensures (c .before .before .before .before .before .before .before .before .before .before .if1 .left) .to)
+loop-less c = omega (arith, block (clear (first-copy (c .before .before))) .to)
 
 loop-again : tie.Need-loop-again Inv-loop μ-loop
 loop-again c =
-    let kept = c .before .before .before .before .before .before .before .before .before .before .before .before .before .loop in
-    (both-copied _ _ _ (kept .inv .0) (kept .inv .1) (c .before .before .before .before .before .before .before .before .before .before .before .any-stop .ensures (c .before .before .before .before .before .before .before .before .before .before .if1 .left)) (c .before .before .before .before .before .before .before .put-block .ensures) (c .before .before .put-block2 .ensures), kept .inv .1)
+    let second = c .before .before in
+    let first = first-copy second in
+    let here = clear first in
+    let kept = turn here .loop in
+    (both-copied _ _ _ (kept .inv .0) (kept .inv .1) (block here) (first .put-block .ensures) (second .put-block2 .ensures), kept .inv .1)
 
 same-length-2 : tie.Need-same-length-2 Inv-loop μ-loop
 same-length-2 c = copied-length _ _ _ (c .before .loop .inv .0) (c .before .loop .inv .1)
