@@ -31,6 +31,11 @@ pub record Declaration : Type 0 where
   pub nameLength : ℕ
   pub body : Body
 
+-- document 02, K4: a list that starts with command 3 is marked: its texts are past line ends
+unfoldable pub marked : List ℕ → Bool
+marked [] = false
+marked (b ∷ bs) = eqb b 3
+
 -- Entity table and K9: commands 1 and 2 declare a name
 unfoldable pub declares : ℕ → Bool
 declares b = eqb b 1 || eqb b 2

@@ -9,7 +9,7 @@ ghost use Rattle.text.specs.Bytes.{sameBytes};
 ghost use Rattle.text.specs.Utf8.{wellFormed};
 ghost use Rattle.text.specs.Call.{passed};
 ghost use Rattle.text.specs.Blocks.{Ascii};
-ghost use Rattle.entity.specs.Table.{littleEndian, part, inside, declares, declarationCheck, tableCheck, ValidTable};
+ghost use Rattle.entity.specs.Table.{littleEndian, part, inside, marked, declares, declarationCheck, tableCheck, ValidTable};
 ghost use Rattle.entity.specs.Binding.{predefinedOf, binding, boundTo, Lies};
 ghost use Rattle.entity.specs.Commands.{commandName, Refers};
 ghost use Rattle.entity.specs.Steps.{commandSize, ReferentAt, commandCheck, lastCheck, TextAt, Agree, Standing, Here};
@@ -61,6 +61,16 @@ fn u32_at(bytes: &[u8], i: usize) -> usize
         + wide(bytes[i + 1]) * 0x100
         + wide(bytes[i + 2]) * 0x10000
         + wide(bytes[i + 3]) * 0x1000000
+}
+
+// Are the texts of the list past line ends?
+pub fn is_marked(list: &[u8]) -> bool
+    ensures { λ r. ⌜ r ≡ marked (now (list .entry)) ⌝ }
+{
+    if list.len() == 0 {
+        return false;
+    }
+    list[0] == 3
 }
 
 fn refused(number: u32, at: usize) -> Answer
