@@ -1,12 +1,14 @@
 -- Small attribute values and canonical forms, for both versions, by computation (document 01, Test seams and Refusals by place).
 -- Assumes nothing.
 use mathlib.Core.Path.{_≡_, refl}
+use mathlib.Core.Bool.{Bool, true, false}
 use mathlib.Core.List.{List, [], _∷_}
 use Prim.Native.Nat.{ℕ}
 use Rattle.text.specs.Version.{Rule, xml10, xml11}
 use Rattle.text.specs.Call.{called}
+use Rattle.entity.specs.Binding.{binding}
 use Rattle.tokens.specs.Outcome.{Outcome, done, refused}
-use Rattle.attribute.specs.Walk.{normalize, readingOf}
+use Rattle.attribute.specs.Walk.{normalize, reading, readingOf}
 use Rattle.attribute.specs.Form.{formed}
 
 -- e = `&lt;x`; amp = `X`
@@ -57,6 +59,36 @@ externals : (r : Rule) → Externals r
 unfolding Externals external-value normalize readingOf
 externals xml10 = (refl, refl, refl, refl)
 externals xml11 = (refl, refl, refl, refl)
+
+-- document 02, K4: d = CR LF, h = `½`, n = U+0085, in texts past line ends and in others
+abbrev lineTexts : List ℕ
+lineTexts =
+    1 ∷ 0 ∷ 0 ∷ 0 ∷ 0 ∷ 1 ∷ 1 ∷ 0 ∷ 0 ∷ 0 ∷ 2 ∷ 0
+    ∷ 1 ∷ 3 ∷ 0 ∷ 0 ∷ 0 ∷ 1 ∷ 4 ∷ 0 ∷ 0 ∷ 0 ∷ 2 ∷ 0
+    ∷ 1 ∷ 6 ∷ 0 ∷ 0 ∷ 0 ∷ 1 ∷ 7 ∷ 0 ∷ 0 ∷ 0 ∷ 2 ∷ 0
+    ∷ 0 ∷ []
+
+line-value : Rule → Bool → ℕ → List ℕ → Outcome
+line-value r past depth t = normalize (reading r past (binding lineTexts (100 ∷ 13 ∷ 10 ∷ 104 ∷ 0xC2 ∷ 0xBD ∷ 110 ∷ 0xC2 ∷ 0x85 ∷ [])) 1) depth t
+
+Past : Rule → Type 0
+Past r =
+    (line-value r true 2 (38 ∷ 100 ∷ 59 ∷ []) ≡ done (32 ∷ 32 ∷ []) 1)  -- &d;
+    × (line-value r true 1 (38 ∷ 100 ∷ 59 ∷ []) ≡ refused [] 1 16 0 0)  -- &d;, depth 1
+    × (line-value r true 1 (38 ∷ 104 ∷ 59 ∷ []) ≡ done (0xC2 ∷ 0xBD ∷ []) 1)  -- &h;, depth 1
+    × (line-value r true 2 (38 ∷ 110 ∷ 59 ∷ []) ≡ done (0xC2 ∷ 0x85 ∷ []) 1)  -- &n;
+    × (line-value r true 1 (13 ∷ 10 ∷ []) ≡ done (32 ∷ []) 0)  -- CR LF in the value itself
+
+past : (r : Rule) → Past r
+unfolding Past line-value normalize reading binding
+past xml10 = (refl, refl, refl, refl, refl)
+past xml11 = (refl, refl, refl, refl, refl)
+
+not-past : (line-value xml11 false 2 (38 ∷ 100 ∷ 59 ∷ []) ≡ done (32 ∷ []) 1)  -- &d;
+    × (line-value xml11 false 1 (38 ∷ 104 ∷ 59 ∷ []) ≡ refused [] 1 16 0 0)  -- &h;, depth 1
+    × (line-value xml11 false 2 (38 ∷ 110 ∷ 59 ∷ []) ≡ done (32 ∷ []) 1)  -- &n;
+unfolding line-value normalize reading binding
+not-past = (refl, refl, refl)
 
 -- the value `<`, whose form is `&lt;`: with room, with a short output, with a short scratch, and a refusal of the walk
 Forms : Rule → Type 0

@@ -2,9 +2,11 @@ pub mod Walked
 pub mod Heads
 pub mod Values
 pub mod Stops
+pub mod Blanks
 pub mod Single
 pub mod Reread
 pub mod Deeper
+pub mod Outer
 pub mod Checked
 pub mod Formed
 pub mod Shifted

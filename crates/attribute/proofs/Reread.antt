@@ -3,7 +3,7 @@
 use mathlib.Core.Path.{_≡_, refl, ap, sym, _∙_}
 use mathlib.Core.Logic.{_↔_}
 use Prim.Native.Nat.{ℕ, zero, suc}
-use mathlib.Core.Bool.{false}
+use mathlib.Core.Bool.{Bool, true, false}
 use mathlib.Core.List.{List, [], _∷_, _++_}
 use Rattle.text.specs.Bytes.{begins}
 use Rattle.text.specs.Version.{Rule, xml10, xml11}
@@ -11,10 +11,10 @@ use Rattle.charref.specs.declared.CharNumber.the-variants.{Char}
 use Rattle.escape.specs.Escape.{attribute, levelSet, writeByte}
 use Rattle.escape.proofs.View.{Kind, Other, is-lt, is-gt, is-amp, is-apos, is-quot, is-cr, is-lf, is-tab, is-other, kind}
 use Rattle.entity.specs.Binding.{Bound, predefined, binding}
-use Rattle.tokens.specs.Tokens.{head, copy, stop, kept, tokens}
+use Rattle.tokens.specs.Tokens.{head, copy, stop, kept, Heads, tokens}
 use Rattle.tokens.specs.Outcome.{Outcome, done, prepend, run}
 use Rattle.attribute.specs.Heads.{attributeHead}
-use Rattle.attribute.specs.Walk.{Settings, answer, walk, normalize, reading}
+use Rattle.attribute.specs.Walk.{Settings, answer, walk, normalize, innerHead, reading}
 use Rattle.canonical.specs.Canonical.{canonical}
 use Rattle.canonical.proofs.Canonical.{Plain, Piece, by-level, as-nel, as-ls, as-c2, as-e2, Pieces, none, more, canonical-pieces}
 
@@ -129,28 +129,27 @@ pub reread : (r : Rule) (st : Settings) (depth : ℕ) → Readable st → (value
 unfolding walk
 reread r st depth P value = pieces-read st depth P r value (canonical r value) (canonical-pieces r value) 0 0
 
-pub readable : (r : Rule) (bind : List ℕ → Bound) (limit : ℕ) → LeavesPredefined bind → Readable (reading r bind limit)
-unfolding reading attributeHead
-readable xml10 bind limit P =
+-- the four are copied in replacement texts
+abbrev Copied : Heads → Type 0
+Copied at = (at 0 60 [] ≡ head (copy 60) 0) × (at 0 62 [] ≡ head (copy 62) 0) × (at 0 39 [] ≡ head (copy 39) 0) × (at 0 34 [] ≡ head (copy 34) 0)
+
+copied : (r : Rule) (past : Bool) → Copied (innerHead past r)
+unfolding innerHead
+copied r true = (refl, refl, refl, refl)
+copied xml10 false = (refl, refl, refl, refl)
+copied xml11 false = (refl, refl, refl, refl)
+
+-- past line ends or not
+pub readable : (r : Rule) (past : Bool) (bind : List ℕ → Bound) (limit : ℕ) → LeavesPredefined bind → Readable (reading r past bind limit)
+unfolding reading
+readable r past bind limit P =
+    let four = copied r past in
     record {
       names = P;
-      lt-copied = refl;
-      gt-copied = refl;
-      apos-copied = refl;
-      quot-copied = refl;
-      cr-legal = refl;
-      lf-legal = refl;
-      tab-legal = refl;
-      nel-legal = refl;
-      ls-legal = refl;
-    }
-readable xml11 bind limit P =
-    record {
-      names = P;
-      lt-copied = refl;
-      gt-copied = refl;
-      apos-copied = refl;
-      quot-copied = refl;
+      lt-copied = four .0;
+      gt-copied = four .1;
+      apos-copied = four .2;
+      quot-copied = four .3;
       cr-legal = refl;
       lf-legal = refl;
       tab-legal = refl;
@@ -158,12 +157,12 @@ readable xml11 bind limit P =
       ls-legal = refl;
     }
 
--- A canonical form is read, with any limit, at any depth from 1 on and with any binding that leaves lt, gt, apos and quot predefined, as the
--- value it was written from, with no opening.
-pub normalize-canonical : (r : Rule) (bind : List ℕ → Bound) (limit depth : ℕ) → LeavesPredefined bind → (value : List ℕ)
-    → normalize (reading r bind limit) (suc depth) (canonical r value) ≡ done value 0
+-- A canonical form is read, with any limit, at any depth from 1 on and with any binding that leaves lt, gt, apos and quot predefined, past line
+-- ends or not, as the value it was written from, with no opening.
+pub normalize-canonical : (r : Rule) (past : Bool) (bind : List ℕ → Bound) (limit depth : ℕ) → LeavesPredefined bind → (value : List ℕ)
+    → normalize (reading r past bind limit) (suc depth) (canonical r value) ≡ done value 0
 unfolding normalize reading
-normalize-canonical r bind limit depth P value = reread r (reading r bind limit) depth (readable r bind limit P) value
+normalize-canonical r past bind limit depth P value = reread r (reading r past bind limit) depth (readable r past bind limit P) value
 
 no-table : LeavesPredefined (binding (0 ∷ []) [])
 unfolding binding
@@ -173,9 +172,9 @@ no-table = record { lt = refl; gt = refl; apos = refl; quot = refl }
 pub canonical-injective : (r : Rule) (a b : List ℕ) → canonical r a ≡ canonical r b → a ≡ b
 canonical-injective r a b e =
     let p : done a 0 ≡ done b 0 =
-    sym (normalize-canonical r (binding (0 ∷ []) []) 0 0 no-table a)
-    ∙ ap (λ (t : List ℕ). normalize (reading r (binding (0 ∷ []) []) 0) 1 t) e
-    ∙ normalize-canonical r (binding (0 ∷ []) []) 0 0 no-table b in
+    sym (normalize-canonical r false (binding (0 ∷ []) []) 0 0 no-table a)
+    ∙ ap (λ (t : List ℕ). normalize (reading r false (binding (0 ∷ []) []) 0) 1 t) e
+    ∙ normalize-canonical r false (binding (0 ∷ []) []) 0 0 no-table b in
     cc
 
 -- Values are equal exactly when their canonical forms are.

@@ -10,33 +10,30 @@ use lib.Dec.{eqb}
 use lib.ListN.{length, getD, take, drop}
 use borrow.Author.Tests.{eq-eqb, ne-eqb, eqb-true, eqb-false}
 use Rattle.text.specs.Bytes.{pick, sameBytes}
-use Rattle.text.specs.Version.{Rule}
 use Rattle.charref.specs.CharRef.{anyCharacter}
-use Rattle.eols.specs.Stops.{ruleFor}
 use Rattle.entity.specs.Table.{part}
 use Rattle.entity.specs.Binding.{Bound, text, external, predefined, unknown, predefinedOf, binding, boundTo}
 use Rattle.entity.specs.declared.Binding.the-variants.{Text, External, Predefined, Unknown}
 use Rattle.entity.proofs.Referents.{predefined-binding}
 use Rattle.output.specs.Runs.{Plain}
 use Rattle.output.proofs.Runs.{plain-byte}
-use Rattle.tokens.specs.Tokens.{Token, copy, stop, Head, tokenOf, skipOf, nameAt, referenceAt, tokens}
+use Rattle.tokens.specs.Tokens.{Token, copy, stop, Head, Heads, tokenOf, skipOf, nameAt, referenceAt, tokens}
 use Rattle.tokens.specs.Outcome.{Outcome, done, refused, run, numberOutcome}
 use Rattle.tokens.specs.Walking.{NameEnd, headAt, nextAt, outcomeOf}
 use Rattle.tokens.proofs.Progress.{run-whole}
 use Rattle.tokens.proofs.References.{reference-none, reference-number, reference-named, name-size}
-use Rattle.attribute.specs.Heads.{attributeHead}
 use Rattle.attribute.specs.Walk.{Settings, opened, answer, exhausted, walk}
 use Rattle.halts.specs.Halts.{stopByte}
-use Rattle.attribute.specs.Steps.{stopAnswer, outcomeAt, ampOr}
-use Rattle.attribute.proofs.Stops.{copies, IsStop, stop-head}
+use Rattle.attribute.specs.Steps.{headsBy, stopAnswer, outcomeAt, ampOr}
+use Rattle.attribute.proofs.Stops.{IsStop, heads-refer, heads-copy, heads-stop}
 
 -- ---- a stop at a depth
 
 module _ (s : Settings) where
-  pub walk-run : (r : Rule) (depth : ℕ) (t : List ℕ) (n : ℕ) → walk s (attributeHead r) depth t n ≡ run (stopAnswer s depth) (tokens (attributeHead r) 0 0 t) n
+  pub walk-run : (at : Heads) (depth : ℕ) (t : List ℕ) (n : ℕ) → walk s at depth t n ≡ run (stopAnswer s depth) (tokens at 0 0 t) n
   unfolding walk stopAnswer
-  walk-run r zero t n = refl
-  walk-run r (suc depth) t n = refl
+  walk-run at zero t n = refl
+  walk-run at (suc depth) t n = refl
 
   stop-zero : (depth : ℕ) → depth ≡ 0 → (t : Token) → IsStop t → (n : ℕ) → outcomeOf (stopAnswer s depth) t n ≡ refused [] n 16 0 0
   unfolding stopAnswer exhausted
@@ -49,14 +46,14 @@ module _ (s : Settings) where
   stop-deeper (suc depth) e t n = let q : suc depth - 1 ≡ depth = omega arith in rw q
 
   -- refusal 16
-  pub at-zero : (newer : Bool) (t : List ℕ) (at n depth : ℕ) → depth ≡ 0 → stopByte newer (getD t at 0) ≡ true
-      → outcomeAt s (ruleFor newer) depth t at n ≡ refused [] n 16 0 0
-  at-zero newer t at n depth e b = stop-zero depth e (tokenOf (headAt (attributeHead (ruleFor newer)) t at)) (stop-head newer at (getD t at 0) (drop (at + 1) t) b) n
+  pub at-zero : (how : ℕ) (t : List ℕ) (at n depth : ℕ) → depth ≡ 0 → stopByte (eqb how 1) (getD t at 0) ≡ true
+      → outcomeAt s (headsBy how) depth t at n ≡ refused [] n 16 0 0
+  at-zero how t at n depth e b = stop-zero depth e (tokenOf (headAt (headsBy how) t at)) (heads-stop how at (getD t at 0) (drop (at + 1) t) b) n
 
 -- a text without stops, walked, is itself at every depth
-pub walk-plain : (s : Settings) (newer : Bool) (depth : ℕ) (t : List ℕ) (n : ℕ) → Plain (stopByte newer) t 0 (length t) → walk s (attributeHead (ruleFor newer)) depth t n ≡ done t n
-walk-plain s newer depth t n p =
-    walk-run s (ruleFor newer) depth t n ∙ run-whole (attributeHead (ruleFor newer)) (stopAnswer s depth) t (stopByte newer) (copies newer) n p
+pub walk-plain : (s : Settings) (how depth : ℕ) (t : List ℕ) (n : ℕ) → Plain (stopByte (eqb how 1)) t 0 (length t) → walk s (headsBy how) depth t n ≡ done t n
+walk-plain s how depth t n p =
+    walk-run s (headsBy how) depth t n ∙ run-whole (headsBy how) (stopAnswer s depth) t (stopByte (eqb how 1)) (heads-copy how) n p
 
 -- ---- what a name is bound to, `amp` aside
 
@@ -81,38 +78,37 @@ module _ (name : List ℕ) (bound : Bound) where
 
 -- ---- a reference, whose `&` is at `at` and whose name ends at `end`
 
-module _ (newer : Bool) (s : Settings) (legal : s .legal ≡ anyCharacter) (depth : ℕ) (deep : depth ≢ 0) (t : List ℕ) (at n end : ℕ)
+module _ (how : ℕ) (s : Settings) (legal : s .legal ≡ anyCharacter) (depth : ℕ) (deep : depth ≢ 0) (t : List ℕ) (at n end : ℕ)
     (amp : getD t at 0 ≡ 38) (e : NameEnd false t (at + 1) end) where
   -- the walk over a replacement text
   abbrev below : List ℕ → ℕ → Outcome
   below u m = walk s (s .inner) (depth - 1) u m
 
-  head-reference : headAt (attributeHead (ruleFor newer)) t at ≡ referenceAt at (drop (at + 1) t) (nameAt false (drop (at + 1) t))
-  unfolding attributeHead
-  head-reference = rw (eq-eqb (getD t at 0) 38 amp)
+  head-reference : headAt (headsBy how) t at ≡ referenceAt at (drop (at + 1) t) (nameAt false (drop (at + 1) t))
+  head-reference = ap (λ (b : ℕ). headsBy how at b (drop (at + 1) t)) amp ∙ heads-refer how at (drop (at + 1) t)
 
-  by-head : (d : Head) → headAt (attributeHead (ruleFor newer)) t at ≡ d → outcomeAt s (ruleFor newer) depth t at n ≡ outcomeOf (answer s below) (tokenOf d) n
-  by-head d q = stop-deeper s depth deep (tokenOf (headAt (attributeHead (ruleFor newer)) t at)) n ∙ ap (λ (h : Head). outcomeOf (answer s below) (tokenOf h) n) q
+  by-head : (d : Head) → headAt (headsBy how) t at ≡ d → outcomeAt s (headsBy how) depth t at n ≡ outcomeOf (answer s below) (tokenOf d) n
+  by-head d q = stop-deeper s depth deep (tokenOf (headAt (headsBy how) t at)) n ∙ ap (λ (h : Head). outcomeOf (answer s below) (tokenOf h) n) q
 
   -- refusal 10
-  pub at-none : end ≡ length t → outcomeAt s (ruleFor newer) depth t at n ≡ refused [] n 10 at end
+  pub at-none : end ≡ length t → outcomeAt s (headsBy how) depth t at n ≡ refused [] n 10 at end
   unfolding answer
   at-none q = by-head _ (head-reference ∙ reference-none false t at end e q)
 
   module _ (h : end < length t) where
-    pub next-offset : nextAt (attributeHead (ruleFor newer)) t at ≡ end + 1
+    pub next-offset : nextAt (headsBy how) t at ≡ end + 1
     next-offset = go (eqb (getD t (at + 1) 0) 35) refl
       where
-        sized : (d : Head) → skipOf d ≡ end - at → headAt (attributeHead (ruleFor newer)) t at ≡ d → nextAt (attributeHead (ruleFor newer)) t at ≡ end + 1
+        sized : (d : Head) → skipOf d ≡ end - at → headAt (headsBy how) t at ≡ d → nextAt (headsBy how) t at ≡ end + 1
         sized d k q =
             let m : at + 1 + (end - at) ≡ end + 1 = omega (arith, e .from) in
             ap (λ (x : Head). at + 1 + skipOf x) q ∙ ap (λ (x : ℕ). at + 1 + x) k ∙ m
 
-        go : (x : Bool) → eqb (getD t (at + 1) 0) 35 ≡ x → nextAt (attributeHead (ruleFor newer)) t at ≡ end + 1
+        go : (x : Bool) → eqb (getD t (at + 1) 0) 35 ≡ x → nextAt (headsBy how) t at ≡ end + 1
         go true b = sized _ refl (head-reference ∙ reference-number false t at end e h (eqb-true (getD t (at + 1) 0) 35 b))
         go false b = sized _ refl (head-reference ∙ reference-named false t at end e h (eqb-false (getD t (at + 1) 0) 35 b))
 
-    pub at-number : getD t (at + 1) 0 ≡ 35 → outcomeAt s (ruleFor newer) depth t at n ≡ numberOutcome anyCharacter (take (end - (at + 1 + 1)) (drop (at + 1 + 1) t)) n
+    pub at-number : getD t (at + 1) 0 ≡ 35 → outcomeAt s (headsBy how) depth t at n ≡ numberOutcome anyCharacter (take (end - (at + 1 + 1)) (drop (at + 1 + 1) t)) n
     unfolding answer
     at-number b = by-head _ (head-reference ∙ reference-number false t at end e h b) ∙ rw legal
 
@@ -121,7 +117,7 @@ module _ (newer : Bool) (s : Settings) (legal : s .legal ≡ anyCharacter) (dept
       name = take (end - (at + 1)) (drop (at + 1) t)
 
       at-name : (x : Bool) → sameBytes name (97 ∷ 109 ∷ 112 ∷ []) ≡ x
-          → outcomeAt s (ruleFor newer) depth t at n ≡ pick x (done (38 ∷ []) n) (opened (s .limit) below at name bound n)
+          → outcomeAt s (headsBy how) depth t at n ≡ pick x (done (38 ∷ []) n) (opened (s .limit) below at name bound n)
       unfolding answer
       at-name x q = by-head _ (head-reference ∙ reference-named false t at end e h b) ∙ rw (q, is)
 
@@ -131,23 +127,23 @@ module _ (newer : Bool) (s : Settings) (legal : s .legal ≡ anyCharacter) (dept
         as-text = amp-other name bound (text (part pool a (z - a))) (λ q. let z : _≡_ {A = ℕ} 0 1 = cc in omega (arith, z)) (sym same)
 
         -- refusal 17
-        pub at-limit : n ≡ s .limit → outcomeAt s (ruleFor newer) depth t at n ≡ refused [] n 17 at 0
+        pub at-limit : n ≡ s .limit → outcomeAt s (headsBy how) depth t at n ≡ refused [] n 17 at 0
         unfolding opened
         at-limit q = at-name false (as-text .0) ∙ rw (as-text .1, eq-eqb n (s .limit) q)
 
-        pub at-text : n ≢ s .limit → outcomeAt s (ruleFor newer) depth t at n ≡ walk s (s .inner) (depth - 1) (take (z - a) (drop a pool)) (n + 1)
+        pub at-text : n ≢ s .limit → outcomeAt s (headsBy how) depth t at n ≡ walk s (s .inner) (depth - 1) (take (z - a) (drop a pool)) (n + 1)
         unfolding opened part
         at-text q = at-name false (as-text .0) ∙ rw (as-text .1, ne-eqb n (s .limit) q, add-one n)
 
       -- refusal 27
-      pub at-external : boundTo pool External ≡ ampOr name bound → outcomeAt s (ruleFor newer) depth t at n ≡ refused [] n 27 at 0
+      pub at-external : boundTo pool External ≡ ampOr name bound → outcomeAt s (headsBy how) depth t at n ≡ refused [] n 27 at 0
       unfolding boundTo opened
       at-external same =
           let k = amp-other name bound external (λ q. let z : _≡_ {A = ℕ} 0 1 = cc in omega (arith, z)) (sym same) in
           at-name false (k .0) ∙ rw (k .1)
 
       -- refusal 11
-      pub at-unknown : boundTo pool Unknown ≡ ampOr name bound → outcomeAt s (ruleFor newer) depth t at n ≡ refused [] n 11 (at + 1) end
+      pub at-unknown : boundTo pool Unknown ≡ ampOr name bound → outcomeAt s (headsBy how) depth t at n ≡ refused [] n 11 (at + 1) end
       unfolding boundTo opened
       at-unknown same =
           let k = amp-other name bound unknown (λ q. let z : _≡_ {A = ℕ} 0 1 = cc in omega (arith, z)) (sym same) in
@@ -156,7 +152,7 @@ module _ (newer : Bool) (s : Settings) (legal : s .legal ≡ anyCharacter) (dept
 
       pub at-predefined : (c : ℕ) → boundTo pool (Predefined c) ≡ ampOr name bound
           → (sameBytes name (97 ∷ 109 ∷ 112 ∷ []) ≡ false → bound ≡ predefined (c ∷ []) → walk s (s .inner) (depth - 1) (c ∷ []) n ≡ done (c ∷ []) n)
-          → outcomeAt s (ruleFor newer) depth t at n ≡ done (c ∷ []) n
+          → outcomeAt s (headsBy how) depth t at n ≡ done (c ∷ []) n
       unfolding boundTo opened
       at-predefined c same itself =
           amp-predefined name bound c (sym same) (λ x y. at-name true x ∙ rw y) (λ x y. at-name false x ∙ rw y (itself x y))
@@ -185,9 +181,9 @@ plain-predefined newer name c no-amp e =
     go false false false false false f k = let z : _≡_ {A = ℕ} 0 1 = cc in absurd (omega arith)
 
 -- such a text, walked, is itself
-pub walk-predefined : (s : Settings) (newer : Bool) (list pool name : List ℕ) (depth c n : ℕ) → sameBytes name (97 ∷ 109 ∷ 112 ∷ []) ≡ false
-    → binding list pool name ≡ predefined (c ∷ []) → walk s (attributeHead (ruleFor newer)) depth (c ∷ []) n ≡ done (c ∷ []) n
+pub walk-predefined : (s : Settings) (how : ℕ) (list pool name : List ℕ) (depth c n : ℕ) → sameBytes name (97 ∷ 109 ∷ 112 ∷ []) ≡ false
+    → binding list pool name ≡ predefined (c ∷ []) → walk s (headsBy how) depth (c ∷ []) n ≡ done (c ∷ []) n
 unfolding binding
-walk-predefined s newer list pool name depth c n no-amp e =
-    walk-plain s newer depth (c ∷ []) n
-    (plain-byte (stopByte newer) (c ∷ []) 0 (omega arith) (plain-predefined newer name c no-amp (predefined-binding list pool name (c ∷ []) e)))
+walk-predefined s how list pool name depth c n no-amp e =
+    walk-plain s how depth (c ∷ []) n
+    (plain-byte (stopByte (eqb how 1)) (c ∷ []) 0 (omega arith) (plain-predefined (eqb how 1) name c no-amp (predefined-binding list pool name (c ∷ []) e)))

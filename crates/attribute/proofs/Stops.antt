@@ -1,26 +1,24 @@
--- The stops of the attribute walk: which bytes are none, what stands for a blank, where a stop's token ends. Assumes nothing.
-use mathlib.Core.Path.{_≡_, refl, sym, ap, _∙_}
+-- The stops of the attribute walk, however a text is read (`by-how`): `&` starts a reference (`heads-refer`), which bytes are copied
+-- (`heads-copy`) and which are stops (`heads-stop`). Assumes nothing.
+use mathlib.Core.Path.{_≡_, refl, sym, subst}
 use mathlib.Core.Logic.{_≢_}
 use mathlib.Core.Bool.{Bool, true, false, _&&_, _||_, true≢false}
 use mathlib.Core.List.{List, [], _∷_}
-use Prim.Native.Nat.{ℕ, zero, suc, _+_, _≤_, _<_}
+use Prim.Native.Nat.{ℕ, zero, suc}
 use native.Mathlib.Omega.{arith}
-use native.Mathlib.Numerals.{add-one}
 use lib.Dec.{eqb}
-use lib.ListN.{length, drop, getD, length-drop}
-use lib.Seq.{drop-cons}
-use borrow.Author.Tests.{eqb-false, eq-eqb, ne-eqb}
+use lib.ListN.{length}
+use borrow.Author.Tests.{eqb-true, eqb-false, eq-eqb, ne-eqb}
 use Rattle.text.specs.Bytes.{pick, begins}
 use Rattle.text.proofs.Bytes.{pick-both, pick-by, or-left, or-right}
 use Rattle.eols.specs.LineEnds.{lineEnd}
 use Rattle.eols.specs.Stops.{ruleFor}
-use Rattle.eols.proofs.LineEnds.{none10, none11, lf-alone, line-end-fits}
-use Rattle.tokens.specs.Tokens.{kept, space, number, named, Token, copy, stop, Head, head, tokenOf, Name, ended, endless, nameAt, referenceTo, referenceAt}
-use Rattle.tokens.specs.Walking.{Copies, headAt}
-use Rattle.attribute.specs.Heads.{spaceOr, otherHead, attributeHead}
-use Rattle.attribute.specs.Walk.{answer}
+use Rattle.eols.proofs.LineEnds.{none10, none11, lf-alone}
+use Rattle.tokens.specs.Tokens.{kept, space, number, named, Token, copy, stop, Head, head, Heads, tokenOf, Name, ended, endless, nameAt, referenceTo, referenceAt}
+use Rattle.tokens.specs.Walking.{Copies}
+use Rattle.attribute.specs.Heads.{spaceOr, otherHead, attributeHead, pastHead}
 use Rattle.halts.specs.Halts.{stopByte}
-use Rattle.attribute.specs.Steps.{Blank}
+use Rattle.attribute.specs.Steps.{headsBy}
 
 -- ---- bytes that are copied
 
@@ -58,16 +56,22 @@ unfolding otherHead
 plain-other false b p = refl
 plain-other true b p = rw (p .no-lead)
 
-pub copies : (newer : Bool) → Copies (stopByte newer) (attributeHead (ruleFor newer))
+copies : (newer : Bool) → Copies (stopByte newer) (attributeHead (ruleFor newer))
 unfolding attributeHead spaceOr
 copies newer offset b bs e =
     let p = apart newer b e in
     rw (p .no-amp, p .no-tab, plain-line newer b bs p) (plain-other newer b p)
 
--- ---- blanks
+past-copies : Copies (stopByte false) pastHead
+unfolding pastHead
+past-copies offset b bs e =
+    let p = apart false b e in
+    rw (p .no-amp, p .no-tab, p .no-lf, p .no-cr)
+
+-- ---- line ends
 
 -- a CR or LF is a line end under both versions
-cr-some : (newer : Bool) (b : ℕ) (bs : List ℕ) → b ≡ 13 → lineEnd (ruleFor newer) (b ∷ bs) ≢ 0
+pub cr-some : (newer : Bool) (b : ℕ) (bs : List ℕ) → b ≡ 13 → lineEnd (ruleFor newer) (b ∷ bs) ≢ 0
 unfolding lineEnd
 cr-some false b bs e z =
     absurd (pick-both (λ (w : ℕ). w ≢ 0) (begins (10 ∷ []) bs) {a = 2} {b = 1} (λ q. omega (arith, q)) (λ q. omega (arith, q)) (rw (eq-eqb b 13 e) at z))
@@ -77,11 +81,11 @@ cr-some true b bs e z =
     (pick-both (λ (w : ℕ). w ≢ 0) (begins (0xC2 ∷ 0x85 ∷ []) bs) {a = 3} {b = 1} (λ q. omega (arith, q)) (λ q. omega (arith, q)))
     (rw (eq-eqb b 13 e) at z))
 
-lf-some : (newer : Bool) (b : ℕ) (bs : List ℕ) → b ≡ 10 → lineEnd (ruleFor newer) (b ∷ bs) ≢ 0
+pub lf-some : (newer : Bool) (b : ℕ) (bs : List ℕ) → b ≡ 10 → lineEnd (ruleFor newer) (b ∷ bs) ≢ 0
 lf-some newer b bs e z = omega (arith, lf-alone b bs newer e, z)
 
 -- a stop that is neither `&` nor TAB nor a line end is a C2 or E2 of 1.1
-kept-head : (newer : Bool) (b : ℕ) (bs : List ℕ) → b ≢ 38 → b ≢ 9 → stopByte newer b ≡ true → lineEnd (ruleFor newer) (b ∷ bs) ≡ 0
+pub kept-head : (newer : Bool) (b : ℕ) (bs : List ℕ) → b ≢ 38 → b ≢ 9 → stopByte newer b ≡ true → lineEnd (ruleFor newer) (b ∷ bs) ≡ 0
     → otherHead (ruleFor newer) b ≡ head (stop (kept b)) 0
 unfolding otherHead
 kept-head newer b bs amp tab e z = go newer (lead newer refl)
@@ -96,43 +100,6 @@ kept-head newer b bs amp tab e z = go newer (lead newer refl)
     go false k = absurd (true≢false (sym k))
     go true k = rw k
 
-module _ (newer : Bool) (text : List ℕ) (at : ℕ) (h : at < length text) where
-  here : drop at text ≡ getD text at 0 ∷ drop (at + 1) text
-  here = rw (add-one at) (drop-cons text at 0 h)
-
-  pub blank-tab : getD text at 0 ≡ 9 → Blank (ruleFor newer) text at (record { byte = 32; width = 1 })
-  unfolding attributeHead answer
-  blank-tab e =
-      let a = ne-eqb (getD text at 0) 38 (λ q. omega (arith, e, q)) in
-      let t = eq-eqb (getD text at 0) 9 e in
-      record { some = omega arith; inside = omega (arith, h); next = rw (a, t) (omega arith); stands-for = λ s walked n. rw (a, t) }
-
-  module _ (amp : getD text at 0 ≢ 38) (tab : getD text at 0 ≢ 9) where
-    head-line : headAt (attributeHead (ruleFor newer)) text at ≡ spaceOr (lineEnd (ruleFor newer) (drop at text)) (otherHead (ruleFor newer) (getD text at 0))
-    unfolding attributeHead
-    head-line = rw (ne-eqb (getD text at 0) 38 amp, ne-eqb (getD text at 0) 9 tab, here)
-
-    blank-of : (w : ℕ) → at + suc w ≤ length text → headAt (attributeHead (ruleFor newer)) text at ≡ head (stop space) w
-        → Blank (ruleFor newer) text at (record { byte = 32; width = suc w })
-    unfolding answer
-    blank-of w l e = record { some = omega arith; inside = l; next = rw e (omega arith); stands-for = λ s walked n. rw e }
-
-    pub blank-line : {w : ℕ} → w ≡ lineEnd (ruleFor newer) (drop at text) → w ≢ 0 → Blank (ruleFor newer) text at (record { byte = 32; width = w })
-    blank-line {w} e some = go w e some
-      where
-        go : (w : ℕ) → w ≡ lineEnd (ruleFor newer) (drop at text) → w ≢ 0 → Blank (ruleFor newer) text at (record { byte = 32; width = w })
-        go zero e some = absurd (some refl)
-        go (suc w) e some = blank-of w (omega (arith, e, line-end-fits (ruleFor newer) (drop at text), length-drop at text, h)) (unfold spaceOr in head-line ∙ ap (λ (k : ℕ). spaceOr k (otherHead (ruleFor newer) (getD text at 0))) (sym e))
-
-    pub blank-kept : stopByte newer (getD text at 0) ≡ true → lineEnd (ruleFor newer) (drop at text) ≡ 0
-        → Blank (ruleFor newer) text at (record { byte = getD text at 0; width = 1 })
-    unfolding answer spaceOr
-    blank-kept e z =
-        let k = kept-head newer (getD text at 0) (drop (at + 1) text) amp tab e (ap (lineEnd (ruleFor newer)) (sym here) ∙ z) in
-        let q : headAt (attributeHead (ruleFor newer)) text at ≡ head (stop (kept (getD text at 0))) 0 =
-        head-line ∙ ap (λ (w : ℕ). spaceOr w (otherHead (ruleFor newer) (getD text at 0))) z ∙ k in
-        record { some = omega arith; inside = omega (arith, h); next = rw q (omega arith); stands-for = λ s walked n. rw q }
-
 -- ---- every stop byte is a stop
 
 abbrev pub IsStop : Token → Type 0
@@ -146,7 +113,7 @@ reference-stop offset bs (ended (b ∷ name)) =
     pick-both (λ (d : Head). IsStop (tokenOf d)) (eqb b 35) {a = head (stop (number name)) (suc (suc (length name)))} {b = head (stop (named offset (b ∷ name))) (suc (suc (length name)))} tt tt
 reference-stop offset bs endless = tt
 
-pub stop-head : (newer : Bool) (offset b : ℕ) (bs : List ℕ) → stopByte newer b ≡ true → IsStop (tokenOf (attributeHead (ruleFor newer) offset b bs))
+stop-head : (newer : Bool) (offset b : ℕ) (bs : List ℕ) → stopByte newer b ≡ true → IsStop (tokenOf (attributeHead (ruleFor newer) offset b bs))
 unfolding attributeHead spaceOr
 stop-head newer offset b bs e =
     pick-by (λ (d : Head). IsStop (tokenOf d)) (eqb b 38) (λ a. reference-stop offset bs (nameAt false bs)) λ a.
@@ -156,3 +123,30 @@ stop-head newer offset b bs e =
     line : (w : ℕ) → lineEnd (ruleFor newer) (b ∷ bs) ≡ w → eqb b 38 ≡ false → eqb b 9 ≡ false → IsStop (tokenOf (spaceOr w (otherHead (ruleFor newer) b)))
     line zero z a t = rw (kept-head newer b bs (eqb-false b 38 a) (eqb-false b 9 t) e z) tt
     line (suc w) z a t = tt
+
+past-stop : (offset b : ℕ) (bs : List ℕ) → stopByte false b ≡ true → IsStop (tokenOf (pastHead offset b bs))
+unfolding pastHead
+past-stop offset b bs e =
+    pick-by (λ (d : Head). IsStop (tokenOf d)) (eqb b 38) (λ a. reference-stop offset bs (nameAt false bs)) λ a.
+    pick-by (λ (d : Head). IsStop (tokenOf d)) (eqb b 9 || eqb b 10 || eqb b 13) {a = head (stop space) 0} {b = head (copy b) 0} (λ t. tt)
+    (λ t. absurd (true≢false (sym (rw (a, t) at e))))
+
+-- ---- however a text is read
+
+-- past line ends the stop bytes are those of XML 1.0
+pub by-how : (how : ℕ) (P : Bool → Heads → Type 0) → P false pastHead → ((newer : Bool) → P newer (attributeHead (ruleFor newer))) → P (eqb how 1) (headsBy how)
+by-how how P past lines = go (eqb how 2) refl
+  where
+    go : (x : Bool) → eqb how 2 ≡ x → P (eqb how 1) (pick x pastHead (attributeHead (ruleFor (eqb how 1))))
+    go true e = subst (λ (n : Bool). P n pastHead) (sym (ne-eqb how 1 (λ q. omega (arith, eqb-true how 2 e, q)))) past
+    go false e = lines (eqb how 1)
+
+pub heads-refer : (how offset : ℕ) (bs : List ℕ) → headsBy how offset 38 bs ≡ referenceAt offset bs (nameAt false bs)
+unfolding attributeHead pastHead
+heads-refer how offset bs = by-how how (λ n h. h offset 38 bs ≡ referenceAt offset bs (nameAt false bs)) refl (λ newer. refl)
+
+pub heads-copy : (how : ℕ) → Copies (stopByte (eqb how 1)) (headsBy how)
+heads-copy how = by-how how (λ n h. Copies (stopByte n) h) past-copies copies
+
+pub heads-stop : (how offset b : ℕ) (bs : List ℕ) → stopByte (eqb how 1) b ≡ true → IsStop (tokenOf (headsBy how offset b bs))
+heads-stop how offset b bs = by-how how (λ n h. stopByte n b ≡ true → IsStop (tokenOf (h offset b bs))) (past-stop offset b bs) (λ newer. stop-head newer offset b bs)

@@ -1,6 +1,7 @@
 -- Normalized values: how long they are, that they are UTF-8, and how many openings they take. Assumes nothing.
 use mathlib.Core.Path.{_≡_, refl, subst}
 use mathlib.Core.Logic.{_≢_}
+use mathlib.Core.Bool.{Bool}
 use Prim.Native.Nat.{ℕ, suc, _+_, _*_, _≤_, _<_}
 use native.Mathlib.Omega.{arith}
 use native.Mathlib.Nat.{le-refl}
@@ -12,7 +13,7 @@ use Rattle.text.specs.Utf8.{State, between, WellFormed}
 use Rattle.text.proofs.Utf8.{ascii-well-formed}
 use Rattle.charref.specs.CharRef.{anyCharacter}
 use Rattle.charref.specs.declared.CharNumber.the-variants.{Char}
-use Rattle.entity.specs.Table.{ValidTable}
+use Rattle.entity.specs.Table.{marked, ValidTable}
 use Rattle.entity.specs.Binding.{Bound, binding, ShortBound, GoodBound}
 use Rattle.entity.proofs.Tables.{binding-good, binding-short}
 use Rattle.tokens.specs.Tokens.{Heads}
@@ -24,7 +25,7 @@ use Rattle.tokens.proofs.WellFormedness.{Brings, between-brings, utf8, any-own}
 use Rattle.attribute.specs.Heads.{attributeHead}
 use Rattle.attribute.specs.Walk.{Settings, walk, normalize, reading, readingOf}
 use Rattle.attribute.proofs.Walked.{Opening, walk-carried}
-use Rattle.attribute.proofs.Heads.{attribute-lengths, attribute-utf8}
+use Rattle.attribute.proofs.Heads.{attribute-lengths, inner-lengths, attribute-utf8, inner-utf8}
 
 -- ---- lengths
 
@@ -104,42 +105,42 @@ module _ (st : Settings) where
 
 -- ---- the reading of a call
 
-module _ (r : Rule) (bind : List ℕ → Bound) (limit depth : ℕ) (t : List ℕ) where
+module _ (r : Rule) (past : Bool) (bind : List ℕ → Bound) (limit depth : ℕ) (t : List ℕ) where
   pub walk-length : ((name : List ℕ) → ShortBound (bind name)) → (n : ℕ)
-      → length (produced (walk (reading r bind limit) (attributeHead r) depth t n)) + 65535 * n
-      ≤ length t + 65535 * openingsOf (walk (reading r bind limit) (attributeHead r) depth t n)
+      → length (produced (walk (reading r past bind limit) (attributeHead r) depth t n)) + 65535 * n
+      ≤ length t + 65535 * openingsOf (walk (reading r past bind limit) (attributeHead r) depth t n)
   unfolding reading
   walk-length short n =
-      walk-most (reading r bind limit) short (attribute-lengths anyCharacter r) (attributeHead r) (attribute-lengths anyCharacter r) depth t n
+      walk-most (reading r past bind limit) short (inner-lengths anyCharacter past r) (attributeHead r) (attribute-lengths anyCharacter r) depth t n
 
   pub produced-length : ((name : List ℕ) → ShortBound (bind name))
-      → length (produced (normalize (reading r bind limit) depth t)) ≤ length t + 65535 * openingsOf (normalize (reading r bind limit) depth t)
+      → length (produced (normalize (reading r past bind limit) depth t)) ≤ length t + 65535 * openingsOf (normalize (reading r past bind limit) depth t)
   unfolding normalize reading
   produced-length short = omega (arith, walk-length short 0)
 
   pub value-length : ((name : List ℕ) → ShortBound (bind name)) → (value : List ℕ) (openings : ℕ)
-      → normalize (reading r bind limit) depth t ≡ done value openings → length value ≤ length t + 65535 * openings
+      → normalize (reading r past bind limit) depth t ≡ done value openings → length value ≤ length t + 65535 * openings
   value-length short value openings e = rw e at (produced-length short)
 
   pub normalize-well-formed : ((name : List ℕ) → GoodBound (bind name)) → (value : List ℕ) (openings : ℕ)
-      → WellFormed t → normalize (reading r bind limit) depth t ≡ done value openings → WellFormed value
+      → WellFormed t → normalize (reading r past bind limit) depth t ≡ done value openings → WellFormed value
   unfolding normalize reading
   normalize-well-formed good =
-      walk-well-formed (reading r bind limit) any-own good (attribute-utf8 anyCharacter any-own r) (attributeHead r) (attribute-utf8 anyCharacter any-own r) depth t 0
+      walk-well-formed (reading r past bind limit) any-own good (inner-utf8 anyCharacter any-own past r) (attributeHead r) (attribute-utf8 anyCharacter any-own r) depth t 0
 
   -- An accepted value took at most as many openings as the limit.
-  pub openings-within : (value : List ℕ) (openings : ℕ) → normalize (reading r bind limit) depth t ≡ done value openings → openings ≤ limit
+  pub openings-within : (value : List ℕ) (openings : ℕ) → normalize (reading r past bind limit) depth t ≡ done value openings → openings ≤ limit
   unfolding normalize reading
-  openings-within value openings e = rw e at (walk-within (reading r bind limit) (attributeHead r) depth t 0 (omega arith))
+  openings-within value openings e = rw e at (walk-within (reading r past bind limit) (attributeHead r) depth t 0 (omega arith))
 
 -- with a table
 module _ (r : Rule) (list pool : List ℕ) (limit depth : ℕ) (t value : List ℕ) (openings : ℕ) (e : normalize (readingOf r list pool limit) depth t ≡ done value openings) where
   -- An accepted value is at most as long as its text and 65,535 bytes for each opening; of a list of bytes.
   pub table-length : ((k : ℕ) → getD list k 0 < 0x100) → length value ≤ length t + 65535 * openings
   unfolding readingOf
-  table-length small = value-length r (binding list pool) limit depth t (binding-short list pool small) value openings e
+  table-length small = value-length r (marked list) (binding list pool) limit depth t (binding-short list pool small) value openings e
 
   -- With a valid table, what a UTF-8 text is normalized to is UTF-8.
   pub table-well-formed : ValidTable list pool → WellFormed t → WellFormed value
   unfolding readingOf
-  table-well-formed valid h = normalize-well-formed r (binding list pool) limit depth t (binding-good list pool valid) value openings h e
+  table-well-formed valid h = normalize-well-formed r (marked list) (binding list pool) limit depth t (binding-good list pool valid) value openings h e

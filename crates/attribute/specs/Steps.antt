@@ -1,20 +1,21 @@
--- The terms in which the attribute walk's code is proved: stop bytes, blanks, a stop at a depth. Assumes nothing.
+-- The terms in which the attribute walk's code is proved: how a text is read, a stop at a depth, blanks. Assumes nothing.
 use Prim.Native.Nat.{ℕ, zero, suc, _+_, _-_, _≤_}
 use mathlib.Core.Path.{_≡_}
 use mathlib.Core.List.{List, [], _∷_}
+use lib.Dec.{eqb}
 use lib.ListN.{length}
 use Rattle.text.specs.Bytes.{pick, sameBytes}
-use Rattle.text.specs.Version.{Rule}
+use Rattle.eols.specs.Stops.{ruleFor}
 use Rattle.eols.specs.declared.Step.{Step}
 use Rattle.entity.specs.Binding.{Bound, predefined}
 use Rattle.text.specs.declared.Answer.{Answer}
 use Rattle.text.specs.declared.Answer.the-variants.{Done, Refused}
 use Rattle.tokens.specs.declared.Step.{Step as Onward}
 use Rattle.tokens.specs.declared.Step.the-variants.{Next, Stopped}
-use Rattle.tokens.specs.Tokens.{Stop, tokenOf}
+use Rattle.tokens.specs.Tokens.{Stop, Heads, tokenOf}
 use Rattle.tokens.specs.Outcome.{Outcome, done}
 use Rattle.tokens.specs.Walking.{headAt, nextAt, outcomeOf}
-use Rattle.attribute.specs.Heads.{attributeHead}
+use Rattle.attribute.specs.Heads.{attributeHead, pastHead}
 use Rattle.attribute.specs.Walk.{Settings, answer, exhausted, walk}
 
 -- Attribute walk: a stop at a depth
@@ -23,17 +24,21 @@ unfolding answer exhausted walk
 stopAnswer s zero = exhausted
 stopAnswer s (suc depth) = answer s (λ u n. walk s (s .inner) depth u n)
 
+-- how a text is read, by the code's number: 0 as XML 1.0, 1 as XML 1.1, 2 past line ends
+abbrev pub headsBy : ℕ → Heads
+headsBy how = pick (eqb how 2) pastHead (attributeHead (ruleFor (eqb how 1)))
+
 -- the stop at an offset of a text, at a depth
-abbrev pub outcomeAt : Settings → Rule → ℕ → List ℕ → ℕ → ℕ → Outcome
-outcomeAt s r depth text at openings = outcomeOf (stopAnswer s depth) (tokenOf (headAt (attributeHead r) text at)) openings
+abbrev pub outcomeAt : Settings → Heads → ℕ → List ℕ → ℕ → ℕ → Outcome
+outcomeAt s heads depth text at openings = outcomeOf (stopAnswer s depth) (tokenOf (headAt heads text at)) openings
 
 -- a stop other than `&`: the byte that stands for it, and how many bytes it takes up
-pub record Blank (r : Rule) (text : List ℕ) (at : ℕ) (step : Step) : Type 0 where
+pub record Blank (heads : Heads) (text : List ℕ) (at : ℕ) (step : Step) : Type 0 where
   pub some : 1 ≤ step .width
   pub inside : at + step .width ≤ length text
-  pub next : nextAt (attributeHead r) text at ≡ at + step .width
+  pub next : nextAt heads text at ≡ at + step .width
   pub stands-for : (s : Settings) (walked : List ℕ → ℕ → Outcome) (n : ℕ)
-      → outcomeOf (answer s walked) (tokenOf (headAt (attributeHead r) text at)) n ≡ done (step .byte ∷ []) n
+      → outcomeOf (answer s walked) (tokenOf (headAt heads text at)) n ≡ done (step .byte ∷ []) n
 
 -- Attribute walk: `amp` gives `&` without asking the table
 abbrev pub ampOr : List ℕ → Bound → Bound

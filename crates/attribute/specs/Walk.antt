@@ -1,16 +1,18 @@
--- The attribute walk (document 01, Attribute walk; XML 1.0 and 1.1, 3.3.3). Assumes nothing.
+-- The attribute walk (document 01, Attribute walk; document 02, K4 and K9; XML 1.0 and 1.1, 3.3.3). Assumes nothing.
 use Prim.Native.Nat.{ℕ, zero, suc, _+_}
 use mathlib.Core.List.{List, [], _∷_}
+use mathlib.Core.Bool.{Bool, true, false}
 use lib.ListN.{length}
 use lib.Dec.{eqb}
 use Rattle.text.specs.Bytes.{pick, sameBytes}
 use Rattle.text.specs.Version.{Rule}
 use Rattle.charref.specs.CharRef.{anyCharacter}
 use Rattle.charref.specs.declared.CharNumber.{CharNumber}
+use Rattle.entity.specs.Table.{marked}
 use Rattle.entity.specs.Binding.{Bound, text, external, predefined, unknown, binding}
 use Rattle.tokens.specs.Tokens.{Stop, kept, space, number, named, unterminated, Heads, tokens}
 use Rattle.tokens.specs.Outcome.{Outcome, done, refused, run, numberOutcome}
-use Rattle.attribute.specs.Heads.{attributeHead}
+use Rattle.attribute.specs.Heads.{attributeHead, pastHead}
 
 -- What a reading is set to: the heads of the outer text, those of replacement texts, what names are bound to, the opening limit,
 -- and what becomes of a character number
@@ -57,12 +59,18 @@ unfoldable pub normalize : Settings → ℕ → List ℕ → Outcome
 unfolding walk
 normalize s depth t = walk s (s .outer) depth t 0
 
--- line ends are joined inside each replacement text as in the outer value
-unfoldable pub reading : Rule → (List ℕ → Bound) → ℕ → Settings
-unfolding attributeHead
-reading r bind limit = record { outer = attributeHead r; inner = attributeHead r; bind = bind; limit = limit; legal = anyCharacter }
+-- line ends are joined inside each replacement text as in the outer value; K4: where `past` holds, replacement texts are past them
+unfoldable pub innerHead : Bool → Rule → Heads
+unfolding attributeHead pastHead
+innerHead false r = attributeHead r
+innerHead true r = pastHead
 
--- the reading of a call: version, table and limit
+unfoldable pub reading : Rule → Bool → (List ℕ → Bound) → ℕ → Settings
+unfolding attributeHead innerHead
+reading r past bind limit =
+    record { outer = attributeHead r; inner = innerHead past r; bind = bind; limit = limit; legal = anyCharacter }
+
+-- the reading of a call: version, table and limit; K4: the texts of a marked list are past line ends
 unfoldable pub readingOf : Rule → List ℕ → List ℕ → ℕ → Settings
-unfolding reading binding
-readingOf r list pool limit = reading r (binding list pool) limit
+unfolding reading binding marked
+readingOf r list pool limit = reading r (marked list) (binding list pool) limit

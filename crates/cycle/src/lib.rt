@@ -2,11 +2,10 @@
 // walked. All else that stops a walk is answered between two openings (crate flat), by functions that call neither.
 ghost use mathlib.Core.Path.{_≡_};
 ghost use lib.ListN.{length};
-ghost use Rattle.eols.specs.Stops.{ruleFor};
 ghost use Rattle.entity.specs.Table.{ValidTable};
 ghost use Rattle.entity.specs.Commands.{Defines};
-ghost use Rattle.attribute.specs.Heads.{attributeHead};
 ghost use Rattle.attribute.specs.Walk.{Settings, walk};
+ghost use Rattle.attribute.specs.Steps.{headsBy};
 ghost use Rattle.memory.specs.Levels.{settingsOf, levelOf, Lent, StepKeeps, StepsKeep};
 ghost use Rattle.cycle.specs.Cycle.{Bottom, Openable, LentInner, Walkable};
 use memory::Place;
@@ -17,10 +16,10 @@ use text::refusals;
 use tokens::Step;
 
 // A text at depth 0: refused where there is any stop, else its own value.
-fn bottom_step(text: &[u8], newer: bool, next: usize, openings: u64, out: &mut [u8]) -> Step
-    ensures { λ r. ⌜ ((s : Settings) → Bottom (walk s (attributeHead (ruleFor newer)) 0 (now (text .entry)) openings) next (now (out .entry)) (now (out .exit)) r) ⌝ }
+fn bottom_step(text: &[u8], how: u8, next: usize, openings: u64, out: &mut [u8]) -> Step
+    ensures { λ r. ⌜ ((s : Settings) → Bottom (walk s (headsBy how) 0 (now (text .entry)) openings) next (now (out .entry)) (now (out .exit)) r) ⌝ }
 {
-    if halts::has_stop(text, newer) {
+    if halts::has_stop(text, how == 1) {
         return Step::Stopped {
             number: refusals::TOO_DEEP,
             first: 0,
@@ -60,7 +59,7 @@ fn normalize_attr_step(
     let next = place.at;
     let openings = place.openings + 1;
     if depth == 1 {
-        return bottom_step(&pool[start..end], reading.inner == 1, next, openings, out);
+        return bottom_step(&pool[start..end], reading.inner, next, openings, out);
     }
     let begun = Place {
         at: 0,

@@ -8,16 +8,16 @@ use mathlib.Core.Option.{Option, none, some}
 use mathlib.Core.List.{List, [], _∷_, _++_}
 use lib.ListN.{length}
 use lib.Dec.{eqb, lit≤}
-use borrow.Author.Tests.{eqb-true, ne-eqb}
+use borrow.Author.Tests.{eqb-true, eqb-false, ne-eqb}
 use Rattle.text.specs.Version.{Rule, xml10, xml11}
 use Rattle.text.proofs.Bytes.{pick-by, contrary}
 use Rattle.charref.specs.CharRef.{encode}
 use Rattle.charref.proofs.Encoding.{encode-at-least}
 use Rattle.escape.proofs.View.{orElse}
 use Rattle.eols.specs.LineEnds.{lineEnd}
-use Rattle.tokens.specs.Tokens.{Stop, kept, space, unterminated, copy, stop, Head, head, tokenOf, skipOf, referenceAt, tokens}
+use Rattle.tokens.specs.Tokens.{Stop, kept, space, unterminated, copy, stop, Head, head, Heads, tokenOf, skipOf, nameAt, referenceAt, tokens}
 use Rattle.tokens.specs.Outcome.{Outcome, done, refused, prepend, followed, run}
-use Rattle.attribute.specs.Heads.{spaceOr, otherHead, attributeHead}
+use Rattle.attribute.specs.Heads.{spaceOr, otherHead, attributeHead, pastHead}
 use Rattle.demands.specs.Characters.{encodeAll}
 use Rattle.demands.specs.Standard.{pairEnds, alone, lineEndsOf, isWhite, both, valueOf, limited}
 use Rattle.demands.proofs.Lines.{AllPlain, Ending, is-cr, is-end, is-kept, ending, cr-width, ends-alone, cr-last, cr-pair, cr-single}
@@ -75,21 +75,25 @@ pub record Fits (f : Stop → ℕ → Outcome) (ref : List ℕ → Option (List 
   pub refers : (offset n : ℕ) (name : List ℕ) → Agree [] (f (stopOf offset name) n) (ref name)
   pub ends : (offset end n : ℕ) → Agree [] (f (unterminated offset end) n) none
 
--- ---- texts whose references hold no character that a line end changes
+-- ---- texts in pieces
 
+abbrev pub All : (ℕ → Type 0) → List ℕ → Type 0
+All S [] = Unit {0}
+All S (c ∷ cs) = S c × All S cs
+
+-- a character other than `&`; `&`, a name without `;` whose characters are all so, and `;`; or a `&` that no `;` follows
+pub data Clean (S : ℕ → Type 0) : List ℕ → Type 0 where
+  no-more : Clean S []
+  char : {c : ℕ} {cs : List ℕ} → eqb c 38 ≡ false → Clean S cs → Clean S (c ∷ cs)
+  refer : (name : List ℕ) {cs : List ℕ} → AllApart 59 name → All S name → Clean S cs → Clean S (38 ∷ name ++ 59 ∷ cs)
+  unended : {cs : List ℕ} → AllApart 59 cs → Clean S (38 ∷ cs)
+
+-- a character that no line end changes
 abbrev pub Steady : Rule → ℕ → Type 0
 Steady r c = (c ≢ 13) × (alone r c ≡ c)
 
-abbrev pub AllSteady : Rule → List ℕ → Type 0
-AllSteady r [] = Unit {0}
-AllSteady r (c ∷ cs) = Steady r c × AllSteady r cs
-
--- a text in pieces: a character other than `&`; `&`, a name without `;` and `;`; or a `&` that no `;` follows
-pub data Clean (r : Rule) : List ℕ → Type 0 where
-  no-more : Clean r []
-  char : {c : ℕ} {cs : List ℕ} → eqb c 38 ≡ false → Clean r cs → Clean r (c ∷ cs)
-  refer : (name : List ℕ) {cs : List ℕ} → AllApart 59 name → AllSteady r name → Clean r cs → Clean r (38 ∷ name ++ 59 ∷ cs)
-  unended : {cs : List ℕ} → AllApart 59 cs → Clean r (38 ∷ cs)
+abbrev pub Any : ℕ → Type 0
+Any c = Unit {0}
 
 amp-alone : (r : Rule) → alone r 38 ≡ 38
 unfolding alone
@@ -104,7 +108,7 @@ semi-alone xml11 = refl
 amp-steady : (r : Rule) (cs : List ℕ) → lineEndsOf r (38 ∷ cs) ≡ 38 ∷ lineEndsOf r cs
 amp-steady r cs = ends-alone r 38 cs (λ q. omega arith) ∙ ap (λ (c : ℕ). c ∷ lineEndsOf r cs) (amp-alone r)
 
-name-steady : (r : Rule) (name cs : List ℕ) → AllSteady r name → lineEndsOf r (name ++ 59 ∷ cs) ≡ name ++ 59 ∷ lineEndsOf r cs
+name-steady : (r : Rule) (name cs : List ℕ) → All (Steady r) name → lineEndsOf r (name ++ 59 ∷ cs) ≡ name ++ 59 ∷ lineEndsOf r cs
 name-steady r [] cs a = ends-alone r 59 cs (λ q. omega arith) ∙ ap (λ (c : ℕ). c ∷ lineEndsOf r cs) (semi-alone r)
 name-steady r (c ∷ ds) cs a =
     ends-alone r c (ds ++ 59 ∷ cs) (a .0 .0) ∙ rw (a .0 .1) (ap (λ (l : List ℕ). c ∷ l) (name-steady r ds cs (a .1)))
@@ -165,78 +169,96 @@ head-other : (r : Rule) (o b : ℕ) (bs : List ℕ) → eqb b 38 ≡ false → e
 unfolding attributeHead spaceOr
 head-other r o b bs e f g = rw (e, f, g)
 
-module _ (r : Rule) (f : Stop → ℕ → Outcome) (ref : List ℕ → Option (List ℕ)) (fits : Fits f ref) where
-  abbrev From : List ℕ → List ℕ → Option (List ℕ) → Type 0
-  From front bytes x = (o n : ℕ) → Agree front (run f (tokens (attributeHead r) o 0 bytes) n) x
+-- heads under which `&` starts a reference
+module _ (at : Heads) (amp : (o : ℕ) (bs : List ℕ) → at o 38 bs ≡ referenceAt o bs (nameAt false bs)) (f : Stop → ℕ → Outcome) (ref : List ℕ → Option (List ℕ))
+    (fits : Fits f ref) where
+  abbrev pub From : List ℕ → List ℕ → Option (List ℕ) → Type 0
+  From front bytes x = (o n : ℕ) → Agree front (run f (tokens at o 0 bytes) n) x
 
   copy-run : (b : ℕ) (front rest : List ℕ) (x : Option (List ℕ)) → From front rest x → (o n : ℕ)
-      → Agree (b ∷ front) (run f (copy b ∷ tokens (attributeHead r) (suc o) 0 rest) n) x
+      → Agree (b ∷ front) (run f (copy b ∷ tokens at (suc o) 0 rest) n) x
   unfolding run
-  copy-run b front rest x ih o n = agree-front b front (run f (tokens (attributeHead r) (suc o) 0 rest) n) x (ih (suc o) n)
+  copy-run b front rest x ih o n = agree-front b front (run f (tokens at (suc o) 0 rest) n) x (ih (suc o) n)
 
   kept-run : (b : ℕ) (front rest : List ℕ) (x : Option (List ℕ)) → From front rest x → (o n : ℕ)
-      → Agree (b ∷ front) (run f (stop (kept b) ∷ tokens (attributeHead r) (suc o) 0 rest) n) x
+      → Agree (b ∷ front) (run f (stop (kept b) ∷ tokens at (suc o) 0 rest) n) x
   unfolding run
-  kept-run b front rest x ih o n = agree-kept b (f (kept b) n) (fits .keeps b n) (λ m. run f (tokens (attributeHead r) (suc o) 0 rest) m) front x (λ m. ih (suc o) m)
+  kept-run b front rest x ih o n = agree-kept b (f (kept b) n) (fits .keeps b n) (λ m. run f (tokens at (suc o) 0 rest) m) front x (λ m. ih (suc o) m)
 
-  byte-run : (v : Rule) (b : ℕ) (front rest : List ℕ) (x : Option (List ℕ)) → From front rest x → (o n : ℕ)
-      → Agree (b ∷ front) (run f (tokenOf (otherHead v b) ∷ tokens (attributeHead r) (suc o) (skipOf (otherHead v b)) rest) n) x
+  space-run : (o n b : ℕ) (bs : List ℕ) (w : ℕ) (x : Option (List ℕ)) → at o b bs ≡ head (stop space) w
+      → ((m : ℕ) → Agree [] (run f (tokens at (suc o) w bs) m) x) → Agree [] (run f (tokens at o 0 (b ∷ bs)) n) (both (some (32 ∷ [])) x)
+  unfolding tokens run
+  space-run o n b bs w x h ih =
+      rw h (agree-then (f space n) (some (32 ∷ [])) (fits .spaces n) (λ m. run f (tokens at (suc o) w bs) m) x ih)
+
+  past-bytes : (w rest : List ℕ) (x : Option (List ℕ)) → From [] rest x → (o n : ℕ) → Agree [] (run f (tokens at o (length w) (w ++ rest)) n) x
+  unfolding tokens
+  past-bytes [] rest x ih o n = ih o n
+  past-bytes (b ∷ bs) rest x ih o n = past-bytes bs rest x ih (suc o) n
+
+  past-name : (w rest : List ℕ) (x : Option (List ℕ)) → From [] rest x → (o n : ℕ) → Agree [] (run f (tokens at o (suc (length w)) (w ++ 59 ∷ rest)) n) x
+  unfolding tokens
+  past-name [] rest x ih o n = ih (suc o) n
+  past-name (b ∷ bs) rest x ih o n = past-name bs rest x ih (suc o) n
+
+  refer-run : (name rest : List ℕ) (x : Option (List ℕ)) → AllApart 59 name → From [] rest x → From [] (38 ∷ encodeAll name ++ 59 ∷ rest) (both (ref name) x)
+  unfolding tokens run referenceAt
+  refer-run name rest x a ih o n =
+      rw (amp o (encodeAll name ++ 59 ∷ rest), name-ends (encodeAll name) rest (all-apart 59 name (lit≤ tt) a), refer-head o name)
+      (agree-then (f (stopOf o name) n) (ref name) (fits .refers o n name)
+      (λ m. run f (tokens at (suc o) (suc (length (encodeAll name))) (encodeAll name ++ 59 ∷ rest)) m) x
+      (λ m. past-name (encodeAll name) rest x ih (suc o) m))
+
+  open-run : (cs : List ℕ) → AllApart 59 cs → From [] (38 ∷ encodeAll cs) none
+  unfolding tokens run referenceAt
+  open-run cs a o n =
+      rw (amp o (encodeAll cs), name-endless (encodeAll cs) (all-apart 59 cs (lit≤ tt) a))
+      (agree-none (f (unterminated o (o + suc (length (encodeAll cs)))) n) (fits .ends o (o + suc (length (encodeAll cs))) n)
+      (λ m. run f (tokens at (suc o) 0 (encodeAll cs)) m))
+
+-- ---- line ends
+
+lines-amp : (r : Rule) (o : ℕ) (bs : List ℕ) → attributeHead r o 38 bs ≡ referenceAt o bs (nameAt false bs)
+unfolding attributeHead
+lines-amp r o bs = refl
+
+module _ (r : Rule) (f : Stop → ℕ → Outcome) (ref : List ℕ → Option (List ℕ)) (fits : Fits f ref) where
+  abbrev at : Heads
+  at = attributeHead r
+
+  abbrev amp : (o : ℕ) (bs : List ℕ) → attributeHead r o 38 bs ≡ referenceAt o bs (nameAt false bs)
+  amp = lines-amp r
+
+  abbrev Read : List ℕ → List ℕ → Option (List ℕ) → Type 0
+  Read = From (attributeHead r) (lines-amp r) f ref fits
+
+  byte-run : (v : Rule) (b : ℕ) (front rest : List ℕ) (x : Option (List ℕ)) → Read front rest x → (o n : ℕ)
+      → Agree (b ∷ front) (run f (tokenOf (otherHead v b) ∷ tokens at (suc o) (skipOf (otherHead v b)) rest) n) x
   unfolding otherHead
-  byte-run xml10 b front rest x ih o n = copy-run b front rest x ih o n
+  byte-run xml10 b front rest x ih o n = copy-run at amp f ref fits b front rest x ih o n
   byte-run xml11 b front rest x ih o n =
-      pick-by (λ (h : Head). Agree (b ∷ front) (run f (tokenOf h ∷ tokens (attributeHead r) (suc o) (skipOf h) rest) n) x) (eqb b 0xC2 || eqb b 0xE2)
-      {a = head (stop (kept b)) 0} {b = head (copy b) 0} (λ e. kept-run b front rest x ih o n) (λ e. copy-run b front rest x ih o n)
+      pick-by (λ (h : Head). Agree (b ∷ front) (run f (tokenOf h ∷ tokens at (suc o) (skipOf h) rest) n) x) (eqb b 0xC2 || eqb b 0xE2)
+      {a = head (stop (kept b)) 0} {b = head (copy b) 0} (λ e. kept-run at amp f ref fits b front rest x ih o n) (λ e. copy-run at amp f ref fits b front rest x ih o n)
 
   -- the bytes of a character that is kept
-  plain-run : (w rest : List ℕ) (x : Option (List ℕ)) → AllPlain r w → AllApart 38 w → AllApart 9 w → From [] rest x → From w (w ++ rest) x
+  plain-run : (w rest : List ℕ) (x : Option (List ℕ)) → AllPlain r w → AllApart 38 w → AllApart 9 w → Read [] rest x → Read w (w ++ rest) x
   unfolding tokens
   plain-run [] rest x q a t ih o n = ih o n
   plain-run (b ∷ bs) rest x q a t ih o n =
       rw (head-other r o b (bs ++ rest) (a .0) (t .0) (q .0 rest))
       (byte-run r b bs (bs ++ rest) x (plain-run bs rest x (q .1) (a .1) (t .1) ih) o n)
 
-  space-run : (o n b : ℕ) (bs : List ℕ) (w : ℕ) (x : Option (List ℕ)) → attributeHead r o b bs ≡ head (stop space) w
-      → ((m : ℕ) → Agree [] (run f (tokens (attributeHead r) (suc o) w bs) m) x) → Agree [] (run f (tokens (attributeHead r) o 0 (b ∷ bs)) n) (both (some (32 ∷ [])) x)
-  unfolding tokens run
-  space-run o n b bs w x h ih =
-      rw h (agree-then (f space n) (some (32 ∷ [])) (fits .spaces n) (λ m. run f (tokens (attributeHead r) (suc o) w bs) m) x ih)
-
-  past-bytes : (w rest : List ℕ) (x : Option (List ℕ)) → From [] rest x → (o n : ℕ) → Agree [] (run f (tokens (attributeHead r) o (length w) (w ++ rest)) n) x
-  unfolding tokens
-  past-bytes [] rest x ih o n = ih o n
-  past-bytes (b ∷ bs) rest x ih o n = past-bytes bs rest x ih (suc o) n
-
   -- the bytes of a character that ends a line
-  end-run : (w rest : List ℕ) (x : Option (List ℕ)) → 1 ≤ length w → AllApart 38 w → AllApart 9 w → lineEnd r (w ++ rest) ≡ length w → From [] rest x
-      → From [] (w ++ rest) (both (some (32 ∷ [])) x)
+  end-run : (w rest : List ℕ) (x : Option (List ℕ)) → 1 ≤ length w → AllApart 38 w → AllApart 9 w → lineEnd r (w ++ rest) ≡ length w → Read [] rest x
+      → Read [] (w ++ rest) (both (some (32 ∷ [])) x)
   end-run [] rest x l a t e ih o n = absurd (omega arith)
   end-run (b ∷ bs) rest x l a t e ih o n =
-      space-run o n b (bs ++ rest) (length bs) x (head-space r o b (bs ++ rest) (length bs) (a .0) (t .0) e) (λ m. past-bytes bs rest x ih (suc o) m)
-
-  past-name : (w rest : List ℕ) (x : Option (List ℕ)) → From [] rest x → (o n : ℕ) → Agree [] (run f (tokens (attributeHead r) o (suc (length w)) (w ++ 59 ∷ rest)) n) x
-  unfolding tokens
-  past-name [] rest x ih o n = ih (suc o) n
-  past-name (b ∷ bs) rest x ih o n = past-name bs rest x ih (suc o) n
-
-  refer-run : (name rest : List ℕ) (x : Option (List ℕ)) → AllApart 59 name → From [] rest x → From [] (38 ∷ encodeAll name ++ 59 ∷ rest) (both (ref name) x)
-  unfolding tokens run attributeHead referenceAt
-  refer-run name rest x a ih o n =
-      rw (name-ends (encodeAll name) rest (all-apart 59 name (lit≤ tt) a), refer-head o name)
-      (agree-then (f (stopOf o name) n) (ref name) (fits .refers o n name)
-      (λ m. run f (tokens (attributeHead r) (suc o) (suc (length (encodeAll name))) (encodeAll name ++ 59 ∷ rest)) m) x
-      (λ m. past-name (encodeAll name) rest x ih (suc o) m))
-
-  open-run : (cs : List ℕ) → AllApart 59 cs → From [] (38 ∷ encodeAll cs) none
-  unfolding tokens run attributeHead referenceAt
-  open-run cs a o n =
-      rw (name-endless (encodeAll cs) (all-apart 59 cs (lit≤ tt) a))
-      (agree-none (f (unterminated o (o + suc (length (encodeAll cs)))) n) (fits .ends o (o + suc (length (encodeAll cs))) n)
-      (λ m. run f (tokens (attributeHead r) (suc o) 0 (encodeAll cs)) m))
+      space-run at amp f ref fits o n b (bs ++ rest) (length bs) x (head-space r o b (bs ++ rest) (length bs) (a .0) (t .0) e) (λ m. past-bytes at amp f ref fits bs rest x ih (suc o) m)
 
   -- ---- character by character
 
   abbrev Reads : List ℕ → Type 0
-  Reads cs = From [] (encodeAll cs) (valueOf ref 0 (lineEndsOf r cs))
+  Reads cs = Read [] (encodeAll cs) (valueOf ref 0 (lineEndsOf r cs))
 
   -- what is after the first character, where that makes one line end with a CR before it
   abbrev TailReads : List ℕ → Type 0
@@ -252,7 +274,7 @@ module _ (r : Rule) (f : Stop → ℕ → Outcome) (ref : List ℕ → Option (L
   unfolding encodeAll isWhite
   tab-step cs ih o n =
       rw (ends-alone r 9 cs (λ q. omega arith), tab-alone r, value-white ref 9 (lineEndsOf r cs) refl refl)
-      (space-run o n 9 (encodeAll cs) 0 (valueOf ref 0 (lineEndsOf r cs)) (unfold attributeHead in refl) (λ m. ih (suc o) m))
+      (space-run at amp f ref fits o n 9 (encodeAll cs) 0 (valueOf ref 0 (lineEndsOf r cs)) (unfold attributeHead in refl) (λ m. ih (suc o) m))
 
   end-step : (c : ℕ) (cs : List ℕ) → c ≢ 13 → alone r c ≡ 10 → ((rest : List ℕ) → lineEnd r (encode c ++ rest) ≡ length (encode c))
       → eqb c 38 ≡ false → eqb c 9 ≡ false → Reads cs → Reads (c ∷ cs)
@@ -265,7 +287,7 @@ module _ (r : Rule) (f : Stop → ℕ → Outcome) (ref : List ℕ → Option (L
   unfolding encodeAll
   kept-step c cs m l a p amp tab ih o n =
       rw (ends-alone r c cs m, a, value-plain ref c (lineEndsOf r cs) amp m l tab)
-      (agree-char c (run f (tokens (attributeHead r) o 0 (encode c ++ encodeAll cs)) n) (valueOf ref 0 (lineEndsOf r cs))
+      (agree-char c (run f (tokens at o 0 (encode c ++ encodeAll cs)) n) (valueOf ref 0 (lineEndsOf r cs))
       (plain-run (encode c) (encodeAll cs) (valueOf ref 0 (lineEndsOf r cs)) p (encode-apart 38 c (lit≤ tt) amp) (encode-apart 9 c (lit≤ tt) tab) ih o n))
 
   last-width : (v : Rule) → lineEnd v (13 ∷ []) ≡ 1
@@ -277,12 +299,12 @@ module _ (r : Rule) (f : Stop → ℕ → Outcome) (ref : List ℕ → Option (L
   unfolding encodeAll
   cr-pair-step d ds ih tail true e o n =
       rw (cr-pair r d ds e, value-lf ref (lineEndsOf r ds))
-      (space-run o n 13 (encodeAll (d ∷ ds)) (length (encode d)) (valueOf ref 0 (lineEndsOf r ds))
+      (space-run at amp f ref fits o n 13 (encodeAll (d ∷ ds)) (length (encode d)) (valueOf ref 0 (lineEndsOf r ds))
       (head-space r o 13 (encodeAll (d ∷ ds)) (length (encode d)) refl refl (cr-width d (encodeAll ds) r ∙ rw e))
-      (λ m. past-bytes (encode d) (encodeAll ds) (valueOf ref 0 (lineEndsOf r ds)) (tail e) (suc o) m))
+      (λ m. past-bytes at amp f ref fits (encode d) (encodeAll ds) (valueOf ref 0 (lineEndsOf r ds)) (tail e) (suc o) m))
   cr-pair-step d ds ih tail false e o n =
       rw (cr-single r d ds e, value-lf ref (lineEndsOf r (d ∷ ds)))
-      (space-run o n 13 (encodeAll (d ∷ ds)) 0 (valueOf ref 0 (lineEndsOf r (d ∷ ds)))
+      (space-run at amp f ref fits o n 13 (encodeAll (d ∷ ds)) 0 (valueOf ref 0 (lineEndsOf r (d ∷ ds)))
       (head-space r o 13 (encodeAll (d ∷ ds)) 0 refl refl (cr-width d (encodeAll ds) r ∙ rw e))
       (λ m. ih (suc o) m))
 
@@ -290,7 +312,7 @@ module _ (r : Rule) (f : Stop → ℕ → Outcome) (ref : List ℕ → Option (L
   unfolding encodeAll
   cr-step [] ih tail o n =
       rw (cr-last r, value-lf ref [])
-      (space-run o n 13 [] 0 (valueOf ref 0 []) (head-space r o 13 [] 0 refl refl (last-width r)) (λ m. unfold lineEndsOf in ih (suc o) m))
+      (space-run at amp f ref fits o n 13 [] 0 (valueOf ref 0 []) (head-space r o 13 [] 0 refl refl (last-width r)) (λ m. unfold lineEndsOf in ih (suc o) m))
   cr-step (d ∷ ds) ih tail o n = cr-pair-step d ds ih tail (pairEnds r 13 d) refl o n
 
   step : (c : ℕ) (cs : List ℕ) → Ending r c → eqb c 38 ≡ false → Reads cs → TailReads cs → Reads (c ∷ cs)
@@ -298,26 +320,81 @@ module _ (r : Rule) (f : Stop → ℕ → Outcome) (ref : List ℕ → Option (L
   step c cs (is-end m a e) amp ih tail = orElse (λ (x : ℕ). Reads (x ∷ cs)) c 9 (tab-step cs ih) (λ tab. end-step c cs m a e amp tab ih)
   step c cs (is-kept m l a p) amp ih tail = orElse (λ (x : ℕ). Reads (x ∷ cs)) c 9 (tab-step cs ih) (λ tab. kept-step c cs m l a p amp tab ih)
 
-  refer-step : (name cs : List ℕ) → AllApart 59 name → AllSteady r name → Reads cs → Reads (38 ∷ name ++ 59 ∷ cs)
+  refer-step : (name cs : List ℕ) → AllApart 59 name → All (Steady r) name → Reads cs → Reads (38 ∷ name ++ 59 ∷ cs)
   unfolding encodeAll
   refer-step name cs a s ih o n =
       rw (amp-steady r (name ++ 59 ∷ cs), name-steady r name cs s, value-refers ref name (lineEndsOf r cs) a, encode-append name (59 ∷ cs))
-      (refer-run name (encodeAll cs) (valueOf ref 0 (lineEndsOf r cs)) a ih o n)
+      (refer-run at amp f ref fits name (encodeAll cs) (valueOf ref 0 (lineEndsOf r cs)) a ih o n)
 
   unended-step : (cs : List ℕ) → AllApart 59 cs → Reads (38 ∷ cs)
   unfolding encodeAll
-  unended-step cs a o n = rw (amp-steady r cs, value-open ref (lineEndsOf r cs) (ends-apart r cs a)) (open-run cs a o n)
+  unended-step cs a o n = rw (amp-steady r cs, value-open ref (lineEndsOf r cs) (ends-apart r cs a)) (open-run at amp f ref fits cs a o n)
 
   no-pair : (v : Rule) → pairEnds v 13 38 ≡ false
   unfolding pairEnds
   no-pair xml10 = refl
   no-pair xml11 = refl
 
-  clean-both : (cs : List ℕ) → Clean r cs → Reads cs × TailReads cs
+  clean-both : (cs : List ℕ) → Clean (Steady r) cs → Reads cs × TailReads cs
   clean-both cs no-more = (λ o n. unfold encodeAll in unfold tokens in unfold run in unfold valueOf in unfold lineEndsOf in refl, tt)
   clean-both cs (char {c = c} {cs = ds} e d) = let ih = clean-both ds d in (step c ds (ending r c) e (ih .0) (ih .1), λ h. ih .0)
   clean-both cs (refer name {cs = ds} a s d) = (refer-step name ds a s (clean-both ds d .0), λ h. contrary h (no-pair r))
   clean-both cs (unended {cs = ds} a) = (unended-step ds a, λ h. contrary h (no-pair r))
 
-  pub clean-reads : (cs : List ℕ) → Clean r cs → (o n : ℕ) → Agree [] (run f (tokens (attributeHead r) o 0 (encodeAll cs)) n) (valueOf ref 0 (lineEndsOf r cs))
+  pub clean-reads : (cs : List ℕ) → Clean (Steady r) cs → (o n : ℕ) → Agree [] (run f (tokens at o 0 (encodeAll cs)) n) (valueOf ref 0 (lineEndsOf r cs))
   clean-reads cs d = clean-both cs d .0
+
+-- ---- past line ends
+
+past-amp : (o : ℕ) (bs : List ℕ) → pastHead o 38 bs ≡ referenceAt o bs (nameAt false bs)
+unfolding pastHead
+past-amp o bs = refl
+
+past-copy : (o b : ℕ) (bs : List ℕ) → eqb b 38 ≡ false → eqb b 9 ≡ false → eqb b 10 ≡ false → eqb b 13 ≡ false → pastHead o b bs ≡ head (copy b) 0
+unfolding pastHead
+past-copy o b bs amp tab lf cr = rw (amp, tab, lf, cr)
+
+module _ (f : Stop → ℕ → Outcome) (ref : List ℕ → Option (List ℕ)) (fits : Fits f ref) where
+  abbrev PastRead : List ℕ → List ℕ → Option (List ℕ) → Type 0
+  PastRead = From pastHead past-amp f ref fits
+
+  -- the bytes of a character that is copied
+  copied-run : (w rest : List ℕ) (x : Option (List ℕ)) → AllApart 38 w → AllApart 9 w → AllApart 10 w → AllApart 13 w → PastRead [] rest x → PastRead w (w ++ rest) x
+  unfolding tokens
+  copied-run [] rest x a t l c ih o n = ih o n
+  copied-run (b ∷ bs) rest x a t l c ih o n =
+      rw (past-copy o b (bs ++ rest) (a .0) (t .0) (l .0) (c .0))
+      (copy-run pastHead past-amp f ref fits b bs (bs ++ rest) x (copied-run bs rest x (a .1) (t .1) (l .1) (c .1) ih) o n)
+
+  abbrev PastReads : List ℕ → Type 0
+  PastReads cs = PastRead [] (encodeAll cs) (valueOf ref 0 cs)
+
+  white-step : (c : ℕ) (cs : List ℕ) → encode c ≡ c ∷ [] → eqb c 38 ≡ false → isWhite c ≡ true → ((o : ℕ) (bs : List ℕ) → pastHead o c bs ≡ head (stop space) 0)
+      → PastReads cs → PastReads (c ∷ cs)
+  unfolding encodeAll
+  white-step c cs one other white blank ih o n =
+      rw (one, value-white ref c cs other white) (space-run pastHead past-amp f ref fits o n c (encodeAll cs) 0 (valueOf ref 0 cs) (blank o (encodeAll cs)) (λ m. ih (suc o) m))
+
+  copied-step : (c : ℕ) (cs : List ℕ) → eqb c 38 ≡ false → eqb c 9 ≡ false → eqb c 10 ≡ false → eqb c 13 ≡ false → PastReads cs → PastReads (c ∷ cs)
+  unfolding encodeAll
+  copied-step c cs other tab lf cr ih o n =
+      rw (value-plain ref c cs other (eqb-false c 13 cr) (eqb-false c 10 lf) tab)
+      (agree-char c (run f (tokens pastHead o 0 (encode c ++ encodeAll cs)) n) (valueOf ref 0 cs)
+      (copied-run (encode c) (encodeAll cs) (valueOf ref 0 cs) (encode-apart 38 c (lit≤ tt) other) (encode-apart 9 c (lit≤ tt) tab)
+      (encode-apart 10 c (lit≤ tt) lf) (encode-apart 13 c (lit≤ tt) cr) ih o n))
+
+  past-step : (c : ℕ) (cs : List ℕ) → eqb c 38 ≡ false → PastReads cs → PastReads (c ∷ cs)
+  unfolding isWhite pastHead encode
+  past-step c cs other ih =
+      orElse (λ (x : ℕ). PastReads (x ∷ cs)) c 9 (white-step 9 cs refl refl refl (λ o bs. refl) ih)
+      (λ tab. orElse (λ (x : ℕ). PastReads (x ∷ cs)) c 10 (white-step 10 cs refl refl refl (λ o bs. refl) ih)
+      (λ lf. orElse (λ (x : ℕ). PastReads (x ∷ cs)) c 13 (white-step 13 cs refl refl refl (λ o bs. refl) ih) (λ cr. copied-step c cs other tab lf cr ih)))
+
+  -- nothing is done to such a text first
+  pub past-reads : (cs : List ℕ) → Clean Any cs → (o n : ℕ) → Agree [] (run f (tokens pastHead o 0 (encodeAll cs)) n) (valueOf ref 0 cs)
+  unfolding encodeAll
+  past-reads cs no-more o n = unfold tokens in unfold run in unfold valueOf in refl
+  past-reads cs (char {c = c} {cs = ds} e d) o n = past-step c ds e (λ i m. past-reads ds d i m) o n
+  past-reads cs (refer name {cs = ds} a s d) o n =
+      rw (value-refers ref name ds a, encode-append name (59 ∷ ds)) (refer-run pastHead past-amp f ref fits name (encodeAll ds) (valueOf ref 0 ds) a (λ i m. past-reads ds d i m) o n)
+  past-reads cs (unended {cs = ds} a) o n = rw (value-open ref ds a) (open-run pastHead past-amp f ref fits ds a o n)

@@ -11,7 +11,7 @@ use Rattle.text.specs.Utf8.{WellFormed}
 use Rattle.text.proofs.Bytes.{same-equal}
 use Rattle.escape.specs.Escape.{levelOf}
 use Rattle.escape.proofs.Levels.{escape-well-formed}
-use Rattle.entity.specs.Table.{Declaration, nameOf, declarations}
+use Rattle.entity.specs.Table.{Declaration, nameOf, marked, declarations}
 use Rattle.entity.specs.Binding.{predefinedOf, binding}
 use Rattle.entity.proofs.Tables.{Undeclared, undeclared-binds}
 use Rattle.tokens.specs.Outcome.{done}
@@ -67,7 +67,7 @@ reads-again : (r : Rule) (list pool : List ℕ) → DefinesNone list pool → (l
     → normalize (readingOf r list pool limit) depth (canonical r value) ≡ done value 0
 unfolding readingOf
 reads-again r list pool h limit zero s value = absurd (omega arith)
-reads-again r list pool h limit (suc depth) s value = normalize-canonical r (binding list pool) limit depth (leaves-predefined list pool h) value
+reads-again r list pool h limit (suc depth) s value = normalize-canonical r (marked list) (binding list pool) limit depth (leaves-predefined list pool h) value
 
 -- Demand 3, second half, of the definitions: a canonical form is accepted again, gives the value it was written from with no opening, and
 -- is its own canonical form.

@@ -95,12 +95,18 @@ referenceValue legal lookup step [] = entityValue lookup step []
 referenceValue legal lookup step (c ∷ cs) = pick (eqb c 35) (characterValue (charNumber legal cs)) (entityValue lookup step (c ∷ cs))
 
 -- 3.3.3: the normalized value of a text after its line ends; the depth is fuel, and at 0 no reference has a value.
--- Departure: `lines` is what is done to a replacement text first; the standard's is nothing, document 01's the version's line ends
+-- Departure: `lines` is what is done to a replacement text first; the standard's is nothing, that of documents 01 and 02 `linesOf`
 unfoldable pub standard : (ℕ → CharNumber) → (List ℕ → Option (List ℕ)) → (List ℕ → List ℕ) → ℕ → List ℕ → Option (List ℕ)
 unfolding valueOf referenceValue
 standard legal lookup lines zero cs = valueOf (λ name. none) 0 cs
 standard legal lookup lines (suc depth) cs =
     valueOf (referenceValue legal lookup (λ t. standard legal lookup lines depth (lines t))) 0 cs
+
+-- Departure: documents 01 and 02 join the line ends of a replacement text first; K4: not where its list is marked, `past`, as the standard
+unfoldable pub linesOf : Bool → Rule → List ℕ → List ℕ
+unfolding lineEndsOf
+linesOf false r t = lineEndsOf r t
+linesOf true r t = t
 
 -- ---- what the walk on bytes is compared by
 
@@ -135,11 +141,13 @@ steadyRefs r true (c ∷ cs) =
 abbrev pub SteadyText : Rule → List ℕ → Type 0
 SteadyText r t = steadyRefs r false (decode t) ≡ true
 
-abbrev pub SteadyBound : Rule → Bound → Type 0
-SteadyBound r (text t) = SteadyText r t
-SteadyBound r external = Unit {0}
-SteadyBound r (predefined t) = SteadyText r t
-SteadyBound r unknown = Unit {0}
+-- K4: of texts past line ends nothing is asked
+abbrev pub SteadyBound : Bool → Rule → Bound → Type 0
+SteadyBound true r b = Unit {0}
+SteadyBound false r (text t) = SteadyText r t
+SteadyBound false r external = Unit {0}
+SteadyBound false r (predefined t) = SteadyText r t
+SteadyBound false r unknown = Unit {0}
 
 -- the standard's value is those characters, of which the bytes are the UTF-8
 pub record FromStandard (x : Option (List ℕ)) (value : List ℕ) : Type 0 where

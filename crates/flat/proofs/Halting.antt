@@ -11,14 +11,9 @@ use lib.Dec.{eqb, ltb}
 use lib.ListN.{length, getD, set, take, drop, length-take}
 use lib.Seq.{take-all}
 use borrow.Author.Tests.{eq-eqb, eqb-true, ne-eqb, ltb-true, ltb-false}
-use Rattle.text.specs.Bytes.{pick, begins}
 use Rattle.charref.specs.CharRef.{anyCharacter, encode}
 use Rattle.charref.proofs.Encoding.{encode-at-most}
-use Rattle.eols.specs.LineEnds.{lineEnd}
-use Rattle.eols.specs.Stops.{ruleFor}
-use Rattle.text.proofs.Patterns.{at-head}
-use Rattle.eols.proofs.LineEnds.{cr-lf, cr-nel, cr-alone10, cr-alone11}
-use Rattle.halts.specs.Halts.{halts, Smooth, blanksSpaced}
+use Rattle.halts.specs.Halts.{Smooth, blanksSpaced}
 use Rattle.text.specs.declared.Answer.the-variants.{Done, Refused}
 use Rattle.entity.specs.Table.{littleEndian, part, declarations, ValidTable}
 use Rattle.entity.proofs.Commands.{long-list}
@@ -29,18 +24,16 @@ use Rattle.tokens.specs.Tokens.{named, stop, Token, Heads, tokenOf}
 use Rattle.tokens.specs.Outcome.{done, refused}
 use Rattle.tokens.specs.Walking.{headAt, outcomeOf}
 use Rattle.attribute.specs.Walk.{Settings, answer, opened, walk}
-use Rattle.attribute.specs.Heads.{attributeHead}
-use Rattle.attribute.specs.Steps.{stopAnswer, Blank}
+use Rattle.attribute.specs.Steps.{headsBy, stopAnswer, Blank}
 use Rattle.attribute.proofs.Single.{stop-deeper, at-external, at-unknown, at-predefined, walk-predefined}
-use Rattle.attribute.proofs.Stops.{blank-line}
 use Rattle.memory.specs.Slots.{slotOf, Kept, Noted, Memory}
-use Rattle.memory.specs.Levels.{ruleBy, settingsOf, Level, levelOf, Adds, Came, Taken}
+use Rattle.memory.specs.Levels.{settingsOf, Level, levelOf, Adds, Came, Taken}
 use Rattle.memory.specs.declared.Reading.{Reading}
 use Rattle.memory.specs.declared.Place.{Place}
 use Rattle.memory.proofs.Fitted.{adds-byte}
 use Rattle.memory.proofs.Levels.{left-done, came-on, came-stop, came-token}
 use Rattle.memory.proofs.Keeping.{memory-more, kept-length, noted-length, memory-noted}
-use Rattle.memory.proofs.Readings.{call-bind, call-inner, call-limit, call-legal, token-named, next-named, read-opens, read-taken, came-leaf, came-blank}
+use Rattle.memory.proofs.Readings.{by-bind, by-inner, by-limit, by-legal, token-named, next-named, read-opens, read-taken, came-leaf, came-blank}
 use Rattle.flat.specs.Between.{ForChar, ForName, nameOf, Answers, HaltKeeps, Referred}
 use Rattle.flat.specs.declared.Halted.the-variants.{Next, Opening, Stopped}
 
@@ -54,12 +47,12 @@ module _ (r : Reading) (t list pool : List ℕ) (p : Place) {command next : ℕ}
   S = settingsOf r list pool
 
   limit-is : S .limit ≡ r .limit
-  limit-is = call-limit (ruleBy (r .inner)) list pool (r .limit)
+  limit-is = by-limit (r .inner) list pool (r .limit)
 
   bound : S .bind (k .name) ≡ text (commandText list pool command)
-  bound = call-bind (ruleBy (r .inner)) list pool (r .limit) (k .name) ∙ defines-binding (k .defines) (k .name) (k .same)
+  bound = by-bind (r .inner) list pool (r .limit) (k .name) ∙ defines-binding (k .defines) (k .name) (k .same)
 
-  at-limit : p .openings ≡ r .limit → outcomeOf (stopAnswer S (r .depth)) (tokenOf (headAt (attributeHead (ruleBy (r .how))) t (p .at))) (p .openings) ≡ refused [] (p .openings) 17 (p .at) 0
+  at-limit : p .openings ≡ r .limit → outcomeOf (stopAnswer S (r .depth)) (tokenOf (headAt (headsBy (r .how)) t (p .at))) (p .openings) ≡ refused [] (p .openings) 17 (p .at) 0
   unfolding answer opened
   at-limit q =
       ap (λ (x : Token). outcomeOf (stopAnswer S (r .depth)) x (p .openings)) (k .is)
@@ -137,8 +130,8 @@ referred r t list pool p {end} {command} {start} {last} deep bytes f k =
       inside = omega (arith, f .ends .from, f .inside);
       on = omega (arith, f .ends .from);
       to = omega (arith, f .inside);
-      next-is = next-named (eqb (r .how) 1) t (p .at) end (f .amp) (f .ends) (f .inside) (f .no-number);
-      is = token-named (eqb (r .how) 1) t (p .at) end (f .amp) (f .ends) (f .inside) (f .no-number);
+      next-is = next-named (r .how) t (p .at) end (f .amp) (f .ends) (f .inside) (f .no-number);
+      is = token-named (r .how) t (p .at) end (f .amp) (f .ends) (f .inside) (f .no-number);
       no-amp = f .no-amp;
       defines = k .defines;
       same = k .same;
@@ -153,7 +146,7 @@ module _ (r : Reading) (t list pool : List ℕ) (p : Place) (deep : r .depth ≢
   reads = settingsOf r list pool
 
   legal : reads .legal ≡ anyCharacter
-  legal = call-legal (ruleBy (r .inner)) list pool (r .limit)
+  legal = by-legal (r .inner) list pool (r .limit)
 
   -- a reference that stands for a character
   pub halt-char : {c next more : ℕ} → ForChar t (p .at) c next → {new : List ℕ} → more ≡ length (encode c) → Adds (encode c) (p .len) old new
@@ -165,8 +158,8 @@ module _ (r : Reading) (t list pool : List ℕ) (p : Place) (deep : r .depth ≢
         words = refl;
         goes = λ v whole begun e k.
             subst (λ (m : ℕ). Came level v whole begun new seen next (p .len + m) (p .openings)) (sym n)
-            (came-token level v whole begun k (encode c) (omega (arith, f .on, f .to)) (f .next-is (eqb (r .how) 1)) (f .to)
-            (f .given (eqb (r .how) 1) reads legal (r .depth) deep (p .openings)) (omega (arith, encode-at-most c, f .on))
+            (came-token level v whole begun k (encode c) (omega (arith, f .on, f .to)) (f .next-is (r .how)) (f .to)
+            (f .given (r .how) reads legal (r .depth) deep (p .openings)) (omega (arith, encode-at-most c, f .on))
             adds);
       }
 
@@ -178,7 +171,7 @@ module _ (r : Reading) (t list pool : List ℕ) (p : Place) (deep : r .depth ≢
         past = tt;
         buffer = refl;
         words = refl;
-        goes = λ v whole begun e k. came-stop level v whole begun k [] (p .openings) inside (f (eqb (r .how) 1) reads legal (r .depth) deep (p .openings));
+        goes = λ v whole begun e k. came-stop level v whole begun k [] (p .openings) inside (f (r .how) reads legal (r .depth) deep (p .openings));
       }
 
   module _ {end : ℕ} (f : ForName t (p .at) end) where
@@ -189,7 +182,7 @@ module _ (r : Reading) (t list pool : List ℕ) (p : Place) (deep : r .depth ≢
     inside = omega (arith, f .ends .from, f .inside)
 
     bind : reads .bind name ≡ binding list pool name
-    bind = call-bind (ruleBy (r .inner)) list pool (r .limit) name
+    bind = by-bind (r .inner) list pool (r .limit) name
 
     -- refusal 27, whatever the openings so far
     pub halt-external : binding list pool name ≡ external → HaltKeeps level (r .base) p old seen old seen (Stopped 27 (p .at) 0)
@@ -201,7 +194,7 @@ module _ (r : Reading) (t list pool : List ℕ) (p : Place) (deep : r .depth ≢
           words = refl;
           goes = λ v whole begun b k.
               came-stop level v whole begun k [] (p .openings) inside
-              (at-external (eqb (r .how) 1) reads legal (r .depth) deep t (p .at) (p .openings) end (f .amp) (f .ends) (f .inside) (f .no-number) (binding list pool name) bind pool
+              (at-external (r .how) reads legal (r .depth) deep t (p .at) (p .openings) end (f .amp) (f .ends) (f .inside) (f .no-number) (binding list pool name) bind pool
               (rw (f .no-amp, e)));
         }
 
@@ -215,7 +208,7 @@ module _ (r : Reading) (t list pool : List ℕ) (p : Place) (deep : r .depth ≢
           words = refl;
           goes = λ v whole begun b k.
               came-stop level v whole begun k [] (p .openings) inside
-              (at-unknown (eqb (r .how) 1) reads legal (r .depth) deep t (p .at) (p .openings) end (f .amp) (f .ends) (f .inside) (f .no-number) (binding list pool name) bind pool
+              (at-unknown (r .how) reads legal (r .depth) deep t (p .at) (p .openings) end (f .amp) (f .ends) (f .inside) (f .no-number) (binding list pool name) bind pool
               (rw (f .no-amp, e)));
         }
 
@@ -231,7 +224,7 @@ module _ (r : Reading) (t list pool : List ℕ) (p : Place) (deep : r .depth ≢
           goes = λ v whole begun x k.
               came-on level v whole begun k (b ∷ [])
               (left-done level (p .at) (p .openings) (end + 1) (p .openings) (b ∷ []) inside
-              (next-named (eqb (r .how) 1) t (p .at) end (f .amp) (f .ends) (f .inside) (f .no-number)) (given (p .openings))) refl
+              (next-named (r .how) t (p .at) end (f .amp) (f .ends) (f .inside) (f .no-number)) (given (p .openings))) refl
               (adds .fits (k .value) whole (k .size) (k .fitted))
               (keeps _ (memory-more reads list pool (k .memory) (b ∷ [])))
               (omega (arith, f .inside)) (le-refl _) (k .within) (omega (arith, f .ends .from));
@@ -242,12 +235,12 @@ module _ (r : Reading) (t list pool : List ℕ) (p : Place) (deep : r .depth ≢
 
         itself : (n : ℕ) → walk reads (reads .inner) (r .depth - 1) (b ∷ []) n ≡ done (b ∷ []) n
         itself n =
-            ap (λ (h : Heads). walk reads h (r .depth - 1) (b ∷ []) n) (call-inner (ruleBy (r .inner)) list pool (r .limit))
-            ∙ walk-predefined reads (eqb (r .inner) 1) list pool name (r .depth - 1) b n (f .no-amp) e
+            ap (λ (h : Heads). walk reads h (r .depth - 1) (b ∷ []) n) (by-inner (r .inner) list pool (r .limit))
+            ∙ walk-predefined reads (r .inner) list pool name (r .depth - 1) b n (f .no-amp) e
 
-        given : (n : ℕ) → outcomeOf (stopAnswer reads (r .depth)) (tokenOf (headAt (attributeHead (ruleBy (r .how))) t (p .at))) n ≡ done (b ∷ []) n
+        given : (n : ℕ) → outcomeOf (stopAnswer reads (r .depth)) (tokenOf (headAt (headsBy (r .how)) t (p .at))) n ≡ done (b ∷ []) n
         given n =
-            at-predefined (eqb (r .how) 1) reads legal (r .depth) deep t (p .at) n end (f .amp) (f .ends) (f .inside) (f .no-number) (binding list pool name) bind pool b
+            at-predefined (r .how) reads legal (r .depth) deep t (p .at) n end (f .amp) (f .ends) (f .inside) (f .no-number) (binding list pool name) bind pool b
             (rw (f .no-amp, e)) (λ x y. itself n)
 
     -- that the table does not define it is kept, or was known
@@ -259,67 +252,19 @@ module _ (r : Reading) (t list pool : List ℕ) (p : Place) (deep : r .depth ≢
         → HaltKeeps level (r .base) p old seen new seen (Next (end + 1) 1 (p .openings))
     halt-plain e w = halt-byte e w refl (λ v m. m)
 
--- ---- line ends
+-- ---- a space, for a line end or a blank
 
--- a CR is a line end
-line-cr : (newer : Bool) (b : ℕ) (bs : List ℕ) → b ≡ 13 → lineEnd (ruleFor newer) (b ∷ bs) ≢ 0
-line-cr newer b bs e z = go newer (begins (10 ∷ []) bs) refl (begins (0xC2 ∷ 0x85 ∷ []) bs) refl z
-  where
-    go : (n x : Bool) → begins (10 ∷ []) bs ≡ x → (y : Bool) → begins (0xC2 ∷ 0x85 ∷ []) bs ≡ y → lineEnd (ruleFor n) (b ∷ bs) ≡ 0 → ⊥
-    go n true p y q k = omega (arith, k, cr-lf b bs n e p)
-    go false false p y q k = omega (arith, k, cr-alone10 b bs e p)
-    go true false p true q k = omega (arith, k, cr-nel b bs e p q)
-    go true false p false q k = omega (arith, k, cr-alone11 b bs e p q)
-
-some-of : (a b c d e f : Bool) → (e || f) ≡ true → _≢_ {A = ℕ} (pick a 2 (pick b 3 (pick c 1 (pick d 1 (pick e 2 (pick f 3 0)))))) 0
-some-of true b c d e f h z = omega (arith, z)
-some-of false true c d e f h z = omega (arith, z)
-some-of false false true d e f h z = omega (arith, z)
-some-of false false false true e f h z = omega (arith, z)
-some-of false false false false true f h z = omega (arith, z)
-some-of false false false false false true h z = omega (arith, z)
-some-of false false false false false false h z = true≢false (sym h)
-
--- a halt other than `&` is one
-halt-line : (newer : Bool) (b : ℕ) (bs : List ℕ) → halts newer (b ∷ bs) ≡ true → b ≢ 38 → lineEnd (ruleFor newer) (b ∷ bs) ≢ 0
-unfolding lineEnd
-halt-line newer b bs h amp = go newer (eqb b 13) refl (rw (ne-eqb b 38 amp) at h)
-  where
-    go : (n x : Bool) → eqb b 13 ≡ x → (x || (n && (begins (0xC2 ∷ 0x85 ∷ []) (b ∷ bs) || begins (0xE2 ∷ 0x80 ∷ 0xA8 ∷ []) (b ∷ bs)))) ≡ true → lineEnd (ruleFor n) (b ∷ bs) ≢ 0
-    go n true e k = line-cr n b bs (eqb-true b 13 e)
-    go false false e k = absurd (true≢false (sym k))
-    go true false e k =
-        some-of (begins (13 ∷ 10 ∷ []) (b ∷ bs)) (begins (13 ∷ 0xC2 ∷ 0x85 ∷ []) (b ∷ bs)) (begins (13 ∷ []) (b ∷ bs)) (begins (10 ∷ []) (b ∷ bs))
-        (begins (0xC2 ∷ 0x85 ∷ []) (b ∷ bs)) (begins (0xE2 ∷ 0x80 ∷ 0xA8 ∷ []) (b ∷ bs)) k
-
--- and no TAB
-halt-no-tab : (newer : Bool) (b : ℕ) (bs : List ℕ) → halts newer (b ∷ bs) ≡ true → b ≢ 9
-halt-no-tab newer b bs h e = go newer (subst (λ (x : ℕ). halts newer (x ∷ bs) ≡ true) e h)
-  where
-    go : (n : Bool) → halts n (9 ∷ bs) ≡ true → ⊥
-    go true k = true≢false (sym k)
-    go false k = true≢false (sym k)
-
-module _ (r : Reading) (t list pool : List ℕ) (p : Place) (deep : r .depth ≢ 0) (old seen : List ℕ) (inside : p .at < length t)
-    (h : halts (eqb (r .how) 1) (drop (p .at) t) ≡ true) (amp : getD t (p .at) 0 ≢ 38) {w : ℕ} (e : w ≡ lineEnd (ruleFor (eqb (r .how) 1)) (drop (p .at) t)) where
-  here : halts (eqb (r .how) 1) (getD t (p .at) 0 ∷ drop (p .at + 1) t) ≡ true
-  here = subst (λ (x : List ℕ). halts (eqb (r .how) 1) x ≡ true) (at-head t (p .at) inside) h
-
-  pub halt-width : Blank (ruleBy (r .how)) t (p .at) (record { byte = 32; width = w })
-  halt-width =
-      blank-line (eqb (r .how) 1) t (p .at) inside amp (halt-no-tab (eqb (r .how) 1) (getD t (p .at) 0) (drop (p .at + 1) t) here) e
-      (λ z. halt-line (eqb (r .how) 1) (getD t (p .at) 0) (drop (p .at + 1) t) here amp (sym (ap (lineEnd (ruleFor (eqb (r .how) 1))) (at-head t (p .at) inside)) ∙ sym e ∙ z))
-
-  -- a space for it
-  pub halt-blank : {new : List ℕ} → new ≡ set old (p .len) 32 → HaltKeeps (levelOf r list pool t) (r .base) p old seen new seen (Next (p .at + w) 1 (p .openings))
-  halt-blank {new} q =
-      let adds = subst (Adds (32 ∷ []) (p .len) old) (sym q) (adds-byte 32 (p .len) old) in
-      record {
-        past = (omega (arith, halt-width .some), halt-width .inside);
-        buffer = adds .buffer;
-        words = refl;
-        goes = λ v whole begun b c. came-blank r list pool t deep v whole begun c (record { byte = 32; width = w }) inside halt-width adds;
-      }
+pub halt-blank : (r : Reading) (t list pool : List ℕ) (p : Place) → r .depth ≢ 0 → (old seen : List ℕ) → p .at < length t → {w : ℕ}
+    → Blank (headsBy (r .how)) t (p .at) (record { byte = 32; width = w }) → {new : List ℕ} → new ≡ set old (p .len) 32
+    → HaltKeeps (levelOf r list pool t) (r .base) p old seen new seen (Next (p .at + w) 1 (p .openings))
+halt-blank r t list pool p deep old seen inside {w} blank {new} q =
+    let adds = subst (Adds (32 ∷ []) (p .len) old) (sym q) (adds-byte 32 (p .len) old) in
+    record {
+      past = (omega (arith, blank .some), blank .inside);
+      buffer = adds .buffer;
+      words = refl;
+      goes = λ v whole begun b c. came-blank r list pool t deep v whole begun c (record { byte = 32; width = w }) inside blank adds;
+    }
 
 -- ---- a table
 

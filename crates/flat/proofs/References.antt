@@ -13,7 +13,6 @@ use borrow.Author.Tests.{eqb-true, eqb-false}
 use types.Run.{OneOf}
 use denote.Enum.Declared.{tagOf}
 use Rattle.text.specs.Bytes.{sameBytes}
-use Rattle.text.specs.Version.{xml10}
 use Rattle.charref.specs.CharRef.{charNumber, anyCharacter, numberAnswer}
 use Rattle.charref.specs.Reading.{Found, Closed}
 use Rattle.charref.specs.declared.Quick.{Quick}
@@ -22,7 +21,6 @@ use Rattle.charref.specs.declared.CharNumber.the-variants.{Char, UnexpectedSign
 use Rattle.charref.proofs.CharNumber.{the-type}
 use Rattle.charref.proofs.Encoding.{encode-1}
 use Rattle.charref.proofs.Numbers.{charNumber-character}
-use Rattle.eols.specs.Stops.{ruleFor}
 use Rattle.text.proofs.Patterns.{at-head}
 use Rattle.entity.specs.Binding.{Bound, predefined, predefinedOf, boundTo}
 use Rattle.entity.specs.Commands.{Unhidden}
@@ -31,11 +29,11 @@ use Rattle.tokens.specs.Outcome.{done, numbered, numberOutcome}
 use Rattle.tokens.specs.Walking.{NameEnd, nextAt}
 use Rattle.tokens.proofs.Names.{closed-name, closed-reference}
 use Rattle.tokens.proofs.Numbers.{number-done}
-use Rattle.attribute.specs.Heads.{attributeHead}
-use Rattle.attribute.specs.Walk.{Settings, readingOf}
-use Rattle.attribute.specs.Steps.{ampOr}
+use Rattle.attribute.specs.Walk.{Settings}
+use Rattle.attribute.specs.Steps.{headsBy, ampOr}
 use Rattle.attribute.proofs.Single.{at-none, at-number, at-predefined, next-offset}
-use Rattle.memory.proofs.Readings.{call-legal}
+use Rattle.memory.specs.Levels.{settingsBy}
+use Rattle.memory.proofs.Readings.{by-legal}
 use Rattle.flat.specs.Between.{Answers, ForPlain, nameOf, Means, handedTo, NumberMeans}
 use Rattle.flat.specs.declared.Meaning.{Meaning}
 use Rattle.flat.specs.declared.Meaning.the-variants.{Refused, Name}
@@ -67,13 +65,13 @@ number-refused digits next {n} e k q = rw q (handed-on n k digits next e)
 
 module _ (t : List ℕ) (at : ℕ) (amp : getD t at 0 ≡ 38) {end : ℕ} (e : NameEnd false t (at + 1) end) where
   pub means-none : end ≡ length t → Means t at (Refused 10 at end)
-  means-none q = λ newer s legal depth deep n. at-none newer s legal depth deep t at n end amp e q
+  means-none q = λ how s legal depth deep n. at-none how s legal depth deep t at n end amp e q
 
   module _ (h : end < length t) where
-    goes-to : (newer : Bool) → nextAt (attributeHead (ruleFor newer)) t at ≡ end + 1
-    goes-to newer =
-        let s : Settings = readingOf xml10 [] [] 0 in
-        next-offset newer s (call-legal xml10 [] [] 0) 1 (λ z. omega (arith, z)) t at 0 end amp e h
+    goes-to : (how : ℕ) → nextAt (headsBy how) t at ≡ end + 1
+    goes-to how =
+        let s : Settings = settingsBy 0 [] [] 0 in
+        next-offset how s (by-legal 0 [] [] 0) 1 (λ z. omega (arith, z)) t at 0 end amp e h
 
     pub means-number : getD t (at + 1) 0 ≡ 35 → (r : Meaning) → NumberMeans (take (end - (at + 1 + 1)) (drop (at + 1 + 1) t)) (end + 1) r → Means t at r
     means-number b (Character c after) m =
@@ -82,11 +80,11 @@ module _ (t : List ℕ) (at : ℕ) (amp : getD t at 0 ≡ 38) {end : ℕ} (e : N
           small = m .1;
           on = omega (arith, to, e .from);
           to = omega (arith, to, h);
-          next-is = λ newer. goes-to newer ∙ sym to;
-          given = λ newer s legal depth deep n. at-number newer s legal depth deep t at n end amp e h b ∙ m .2 n;
+          next-is = λ how. goes-to how ∙ sym to;
+          given = λ how s legal depth deep n. at-number how s legal depth deep t at n end amp e h b ∙ m .2 n;
         }
     means-number b (Name x) m = absurd m
-    means-number b (Refused number first second) m = λ newer s legal depth deep n. at-number newer s legal depth deep t at n end amp e h b ∙ m n
+    means-number b (Refused number first second) m = λ how s legal depth deep n. at-number how s legal depth deep t at n end amp e h b ∙ m n
 
     module _ (b : getD t (at + 1) 0 ≢ 35) where
       pub means-amp : sameBytes (nameOf t at end) (97 ∷ 109 ∷ 112 ∷ []) ≡ true → Means t at (Character 38 (end + 1))
@@ -97,15 +95,15 @@ module _ (t : List ℕ) (at : ℕ) (amp : getD t at 0 ≡ 38) {end : ℕ} (e : N
             on = omega (arith, e .from);
             to = omega (arith, h);
             next-is = goes-to;
-            given = λ newer s legal depth deep n. given-amp newer s legal depth deep n ∙ ap (λ (x : List ℕ). done x n) (sym (encode-1 38 (omega arith)));
+            given = λ how s legal depth deep n. given-amp how s legal depth deep n ∙ ap (λ (x : List ℕ). done x n) (sym (encode-1 38 (omega arith)));
           }
         where
           is-amp : (bound : Bound) → boundTo [] (Predefined 38) ≡ ampOr (nameOf t at end) bound
           is-amp bound = rw q
 
           given-amp : Answers t at (λ n. done (38 ∷ []) n)
-          given-amp newer s legal depth deep n =
-              at-predefined newer s legal depth deep t at n end amp e h b (s .bind (nameOf t at end)) refl [] 38 (is-amp (s .bind (nameOf t at end)))
+          given-amp how s legal depth deep n =
+              at-predefined how s legal depth deep t at n end amp e h b (s .bind (nameOf t at end)) refl [] 38 (is-amp (s .bind (nameOf t at end)))
               (λ f g. absurd (true≢false (sym q ∙ f)))
 
       pub means-name : sameBytes (nameOf t at end) (97 ∷ 109 ∷ 112 ∷ []) ≡ false → Means t at (Name end)

@@ -10,16 +10,14 @@ use Rattle.text.specs.declared.Answer.{Answer}
 use Rattle.text.specs.declared.Answer.the-variants.{Done}
 use Rattle.text.specs.declared.Answer.the-variants.{Refused as Refusal}
 use Rattle.charref.specs.CharRef.{anyCharacter, encode}
-use Rattle.eols.specs.Stops.{ruleFor}
 use Rattle.entity.specs.Binding.{predefined, predefinedOf, binding}
 use Rattle.entity.specs.Commands.{commandName, commandText, Defines}
 use Rattle.tokens.specs.Tokens.{named, stop, tokenOf}
 use Rattle.tokens.specs.Outcome.{Outcome, done, refused, numberOutcome}
 use Rattle.tokens.specs.Walking.{NameEnd, headAt, nextAt}
-use Rattle.attribute.specs.Heads.{attributeHead}
 use Rattle.attribute.specs.Walk.{Settings}
-use Rattle.attribute.specs.Steps.{outcomeAt}
-use Rattle.memory.specs.Levels.{ruleBy, Level, Came, Refuses, Opens}
+use Rattle.attribute.specs.Steps.{headsBy, outcomeAt}
+use Rattle.memory.specs.Levels.{Level, Came, Refuses, Opens}
 use Rattle.memory.specs.declared.Reading.{Reading}
 use Rattle.memory.specs.declared.Place.{Place}
 use Rattle.flat.specs.declared.Meaning.{Meaning}
@@ -29,17 +27,17 @@ use Rattle.flat.specs.declared.Halted.the-variants.{Next, Opening, Pause
 
 -- ---- references
 
--- the outcome of the `&` at an offset, under any rule, in every lenient reading and at every depth that is not used up
+-- the outcome of the `&` at an offset, however the text is read, in every lenient reading and at every depth that is not used up
 abbrev pub Answers : List ℕ → ℕ → (ℕ → Outcome) → Type 0
 Answers text at outcome =
-    (newer : Bool) (s : Settings) → s .legal ≡ anyCharacter → (depth : ℕ) → depth ≢ 0 → (n : ℕ) → outcomeAt s (ruleFor newer) depth text at n ≡ outcome n
+    (how : ℕ) (s : Settings) → s .legal ≡ anyCharacter → (depth : ℕ) → depth ≢ 0 → (n : ℕ) → outcomeAt s (headsBy how) depth text at n ≡ outcome n
 
 -- the `&` at an offset stands for a character; what comes after it starts at `next`
 pub record ForChar (text : List ℕ) (at c next : ℕ) : Type 0 where
   pub small : c ≤ 1114111
   pub on : at + 2 ≤ next
   pub to : next ≤ length text
-  pub next-is : (newer : Bool) → nextAt (attributeHead (ruleFor newer)) text at ≡ next
+  pub next-is : (how : ℕ) → nextAt (headsBy how) text at ≡ next
   pub given : Answers text at (λ n. done (encode c) n)
 
 -- the name between `&` and `;`
@@ -108,8 +106,8 @@ pub record Referred (r : Reading) (text list pool : List ℕ) (p : Place) (comma
   pub inside : p .at < length text
   pub on : p .at < next
   pub to : next ≤ length text
-  pub next-is : nextAt (attributeHead (ruleBy (r .how))) text (p .at) ≡ next
-  pub is : tokenOf (headAt (attributeHead (ruleBy (r .how))) text (p .at)) ≡ stop (named (p .at) name)
+  pub next-is : nextAt (headsBy (r .how)) text (p .at) ≡ next
+  pub is : tokenOf (headAt (headsBy (r .how)) text (p .at)) ≡ stop (named (p .at) name)
   pub no-amp : sameBytes name (97 ∷ 109 ∷ 112 ∷ []) ≡ false
   pub defines : Defines list pool command
   pub same : sameBytes (commandName list pool command) name ≡ true

@@ -11,6 +11,7 @@ ghost use lib.ListN.{length, getD, take, drop};
 ghost use Rattle.charref.specs.CharRef.{encode};
 ghost use Rattle.halts.specs.Halts.{halts, Smooth, HaltAt, blanksSpaced};
 ghost use Rattle.entity.specs.Table.{ValidTable};
+ghost use Rattle.attribute.specs.Steps.{headsBy, Blank};
 ghost use Rattle.memory.specs.Slots.{Trusts};
 ghost use Rattle.memory.specs.Levels.{Adds, Bounds, Lent, FlatKeeps, levelOf};
 ghost use Rattle.flat.specs.Between.{Means, ForName, ForPlain, handedTo, NumberMeans, HaltKeeps, Referred};
@@ -319,6 +320,18 @@ fn quick_plain(text: &[u8], at: usize, seen: &[u64], list: &[u8]) -> u8
     0
 }
 
+// How many bytes the one space stands for that is written at a halt other than `&`: a line end, or past line ends a CR alone.
+fn blank_width(text: &[u8], at: usize, how: u8) -> usize
+    requires { ⌜ (at < length (now text)) × (length (now text) ≤ 16777216) ⌝ }
+    requires { ⌜ (halts (eqb how 1) (drop at (now text)) ≡ true) × (getD (now text) at 0 ≢ 38) ⌝ }
+    ensures { λ r. ⌜ Blank (headsBy how) (now (text .entry)) at (record { byte = 32; width = r }) ⌝ }
+{
+    if how == 2 {
+        return 1;
+    }
+    eols::eol_width(text, at, how == 1)
+}
+
 // The halt at a place. Without a memory the table is asked a few times, and a big one never.
 fn halt_step(
     text: &[u8],
@@ -339,7 +352,7 @@ fn halt_step(
     let at = place.at;
     let len = place.len;
     if text[at] != b'&' {
-        let width = eols::eol_width(text, at, reading.how == 1);
+        let width = blank_width(text, at, reading.how);
         output::put_byte(32, len, out);
         return Halted::Next {
             at: at + width,

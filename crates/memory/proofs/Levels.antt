@@ -28,6 +28,7 @@ use Rattle.tokens.proofs.Openings.{openingsOf}
 use Rattle.tokens.proofs.Progress.{run-at, run-over, prepend-none, prepend-prepend, went, halted}
 use Rattle.attribute.specs.Walk.{Settings, walk}
 use Rattle.attribute.specs.Steps.{stopAnswer, stepFrom}
+use Rattle.attribute.proofs.Single.{walk-run}
 use Rattle.memory.specs.Slots.{opening, Slot, Stands, slotAt, Memory, Kept, Noted}
 use Rattle.memory.specs.Levels.{Level, innerLevel, left, Fitted, Adds, Came, Whole, Refuses, Opens, Finishes, Opened, Taken, Lent}
 use Rattle.memory.specs.declared.Reading.{Reading}
@@ -80,13 +81,8 @@ taken-again place count len base {old} {new} h room size says v value whole b n 
 
 -- ---- a level
 
-walk-run-any : (s : Settings) (at : Heads) (depth : ℕ) (t : List ℕ) (n : ℕ) → walk s at depth t n ≡ run (stopAnswer s depth) (tokens at 0 0 t) n
-unfolding walk stopAnswer
-walk-run-any s at zero t n = refl
-walk-run-any s at (suc depth) t n = refl
-
 pub walk-left : (l : Level) (n : ℕ) → walk (l .settings) (l .at) (l .depth) (l .text) n ≡ left l 0 n
-walk-left l n = walk-run-any (l .settings) (l .at) (l .depth) (l .text) n
+walk-left l n = walk-run (l .settings) (l .at) (l .depth) (l .text) n
 
 -- a place, by its numbers
 abbrev pub placeOf : ℕ → ℕ → ℕ → Place

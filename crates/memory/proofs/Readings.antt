@@ -1,9 +1,9 @@
--- The reading of a call (`call-brief`, `call-limit`), what its levels ask of calls (`lent-bounds`, `lent-trusts`), and how they go on between two
+-- The settings of a walk (`by-brief`, `by-limit`), what its levels ask of calls (`lent-bounds`, `lent-trusts`), and how they go on between two
 -- openings: runs and line ends (`came-run`, `came-blank`), references to a name (`token-named`, `next-named`), and to the text of a command
 -- (`read-opens`, `read-taken`, `came-leaf`). Assumes nothing.
 use mathlib.Core.Path.{_≡_, refl, sym, ap, subst, _∙_}
 use mathlib.Core.Logic.{_≢_}
-use mathlib.Core.Bool.{Bool, true, false}
+use mathlib.Core.Bool.{true, false}
 use mathlib.Core.List.{List, [], _∷_, _++_}
 use Prim.Native.Nat.{ℕ, _+_, _-_, _*_, _≤_, _<_}
 use native.Mathlib.Omega.{arith}
@@ -11,9 +11,7 @@ use native.Mathlib.Nat.{le-refl}
 use lib.Dec.{eqb}
 use lib.ListN.{length, getD, take, drop, length-drop, length-append}
 use lib.Seq.{length-take-le}
-use borrow.Author.Tests.{eq-eqb}
 use Rattle.text.specs.Bytes.{sameBytes}
-use Rattle.text.specs.Version.{Rule}
 use Rattle.charref.specs.CharRef.{anyCharacter}
 use Rattle.eols.specs.Stops.{ruleFor}
 use Rattle.eols.specs.declared.Step.{Step}
@@ -24,13 +22,16 @@ use Rattle.entity.specs.Commands.{commandName, commandText, Defines}
 use Rattle.entity.proofs.Tables.{binding-short}
 use Rattle.tokens.specs.Tokens.{named, stop, Head, Heads, head, tokenOf, skipOf}
 use Rattle.tokens.specs.Walking.{NameEnd, headAt, nextAt}
+use Rattle.tokens.proofs.Carried.{Moving}
+use Rattle.tokens.proofs.Lengths.{lengths}
 use Rattle.tokens.proofs.References.{reference-named}
-use Rattle.attribute.specs.Heads.{attributeHead}
-use Rattle.attribute.specs.Walk.{Settings, reading, readingOf}
-use Rattle.attribute.specs.Steps.{Blank}
-use Rattle.attribute.proofs.Values.{walk-length}
+use Rattle.attribute.specs.Walk.{Settings}
+use Rattle.attribute.specs.Steps.{headsBy, Blank}
+use Rattle.attribute.proofs.Heads.{attribute-lengths, past-lengths}
+use Rattle.attribute.proofs.Stops.{by-how, heads-refer}
+use Rattle.attribute.proofs.Values.{walk-most}
 use Rattle.memory.specs.Slots.{slotOf, Stands, Trusts, Kept}
-use Rattle.memory.specs.Levels.{ruleBy, settingsOf, Level, levelOf, innerLevel, Adds, Came, Opens, Lent, Taken, Bounds}
+use Rattle.memory.specs.Levels.{settingsBy, settingsOf, Level, levelOf, innerLevel, Adds, Came, Opens, Lent, Taken, Bounds}
 use Rattle.memory.specs.declared.Reading.{Reading}
 use Rattle.memory.specs.declared.Place.{Place}
 use Rattle.memory.proofs.Keeping.{memory-more, memory-kept, memory-trusts}
@@ -38,40 +39,41 @@ use Rattle.memory.proofs.Stretches.{run-blank, smooth-run, leaf-opening
 use Rattle.memory.proofs.Levels.{Brief, came-past, came-opens, came-taken, came-kept, came-room}
 use Rattle.memory.proofs.Hits.{memory-bounds}
 
--- ---- the reading of a call
+-- ---- the settings of a walk
 
-module _ (r : Rule) (list pool : List ℕ) (limit : ℕ) where
-  pub call-brief : ((k : ℕ) → getD list k 0 < 0x100) → Brief (readingOf r list pool limit)
-  unfolding readingOf reading
-  call-brief bytes depth n t = walk-length r (binding list pool) limit depth t (binding-short list pool bytes) n
+module _ (inner : ℕ) (list pool : List ℕ) (limit : ℕ) where
+  pub by-brief : ((k : ℕ) → getD list k 0 < 0x100) → Brief (settingsBy inner list pool limit)
+  unfolding settingsBy
+  by-brief bytes depth n t =
+      let moving = by-how inner (λ newer at. Moving (lengths anyCharacter) at) (past-lengths anyCharacter) (λ newer. attribute-lengths anyCharacter (ruleFor newer)) in
+      walk-most (settingsBy inner list pool limit) (binding-short list pool bytes) moving (headsBy inner) moving depth t n
 
-  pub call-inner : readingOf r list pool limit .inner ≡ attributeHead r
-  unfolding readingOf reading
-  call-inner = refl
+  pub by-inner : settingsBy inner list pool limit .inner ≡ headsBy inner
+  unfolding settingsBy
+  by-inner = refl
 
-  pub call-bind : (name : List ℕ) → readingOf r list pool limit .bind name ≡ binding list pool name
-  unfolding readingOf reading
-  call-bind name = refl
+  pub by-bind : (name : List ℕ) → settingsBy inner list pool limit .bind name ≡ binding list pool name
+  unfolding settingsBy
+  by-bind name = refl
 
-  pub call-limit : readingOf r list pool limit .limit ≡ limit
-  unfolding readingOf reading
-  call-limit = refl
+  pub by-limit : settingsBy inner list pool limit .limit ≡ limit
+  unfolding settingsBy
+  by-limit = refl
 
-  pub call-legal : readingOf r list pool limit .legal ≡ anyCharacter
-  unfolding readingOf reading
-  call-legal = refl
+  pub by-legal : settingsBy inner list pool limit .legal ≡ anyCharacter
+  unfolding settingsBy
+  by-legal = refl
 
 -- ---- the token of a reference to a name
 
-module _ (newer : Bool) (t : List ℕ) (at end : ℕ) (amp : getD t at 0 ≡ 38) (e : NameEnd false t (at + 1) end) (h : end < length t) (b : getD t (at + 1) 0 ≢ 35) where
-  head-named : headAt (attributeHead (ruleFor newer)) t at ≡ head (stop (named at (take (end - (at + 1)) (drop (at + 1) t)))) (end - at)
-  unfolding attributeHead
-  head-named = rw (eq-eqb (getD t at 0) 38 amp) (reference-named false t at end e h b)
+module _ (how : ℕ) (t : List ℕ) (at end : ℕ) (amp : getD t at 0 ≡ 38) (e : NameEnd false t (at + 1) end) (h : end < length t) (b : getD t (at + 1) 0 ≢ 35) where
+  head-named : headAt (headsBy how) t at ≡ head (stop (named at (take (end - (at + 1)) (drop (at + 1) t)))) (end - at)
+  head-named = ap (λ (x : ℕ). headsBy how at x (drop (at + 1) t)) amp ∙ heads-refer how at (drop (at + 1) t) ∙ reference-named false t at end e h b
 
-  pub token-named : tokenOf (headAt (attributeHead (ruleFor newer)) t at) ≡ stop (named at (take (end - (at + 1)) (drop (at + 1) t)))
+  pub token-named : tokenOf (headAt (headsBy how) t at) ≡ stop (named at (take (end - (at + 1)) (drop (at + 1) t)))
   token-named = ap tokenOf head-named
 
-  pub next-named : nextAt (attributeHead (ruleFor newer)) t at ≡ end + 1
+  pub next-named : nextAt (headsBy how) t at ≡ end + 1
   next-named =
       let m : at + 1 + (end - at) ≡ end + 1 = omega (arith, e .from) in
       ap (λ (x : Head). at + 1 + skipOf x) head-named ∙ m
@@ -86,7 +88,7 @@ module _ (r : Reading) (list pool t : List ℕ) where
   S = settingsOf r list pool
 
   limit-is : r .limit ≡ S .limit
-  limit-is = sym (call-limit (ruleBy (r .inner)) list pool (r .limit))
+  limit-is = sym (by-limit (r .inner) list pool (r .limit))
 
   -- what is asked of a level gives what its calls ask
   module _ {base : ℕ} {out words : List ℕ} {p : Place} (n : Lent level base out words p) where
@@ -114,26 +116,26 @@ module _ (r : Reading) (list pool t : List ℕ) where
     came-run {e} {new} p f =
         let n : length (blanksSpaced (take (e - i) (drop i t))) ≡ e - i =
         spaced-length (take (e - i) (drop i t)) ∙ length-take-le (e - i) (drop i t) (rw length-drop (omega (arith, p .from, p .to))) in
-        came-past level v whole begun c (blanksSpaced (take (e - i) (drop i t))) (smooth-run S (eqb (r .how) 1) (r .depth) deep t made p) n
+        came-past level v whole begun c (blanksSpaced (take (e - i) (drop i t))) (smooth-run S (r .how) (r .depth) deep t made p) n
         (f .fits (c .value) whole (c .size) (c .fitted)) (p .to) (le-refl _) (c .within) (omega (arith, p .from))
 
     -- a line end
-    pub came-blank : (x : Step) {new : List ℕ} → i < length t → Blank (ruleBy (r .how)) t i x → Adds (x .byte ∷ []) len out new
+    pub came-blank : (x : Step) {new : List ℕ} → i < length t → Blank (headsBy (r .how)) t i x → Adds (x .byte ∷ []) len out new
         → Came level v whole begun new words (i + x .width) (len + 1) made
     came-blank x h b f =
-        came-past level v whole begun c (x .byte ∷ []) (run-blank S (eqb (r .how) 1) (r .depth) deep t i made x h b) refl
+        came-past level v whole begun c (x .byte ∷ []) (run-blank S (r .how) (r .depth) deep t i made x h b) refl
         (f .fits (c .value) whole (c .size) (c .fitted)) (b .inside) (le-refl _) (c .within) (omega (arith, b .some))
 
     -- a reference to the text of a command
     module _ (bytes : (k : ℕ) → getD list k 0 < 0x100) (at-base : length v ≡ r .base) {command : ℕ} (name : List ℕ) {j : ℕ}
-        (inside : i < length t) (on : i < j) (to : j ≤ length t) (next : nextAt (attributeHead (ruleBy (r .how))) t i ≡ j)
-        (is : tokenOf (headAt (attributeHead (ruleBy (r .how))) t i) ≡ stop (named i name)) (amp : sameBytes name (97 ∷ 109 ∷ 112 ∷ []) ≡ false)
+        (inside : i < length t) (on : i < j) (to : j ≤ length t) (next : nextAt (headsBy (r .how)) t i ≡ j)
+        (is : tokenOf (headAt (headsBy (r .how)) t i) ≡ stop (named i name)) (amp : sameBytes name (97 ∷ 109 ∷ 112 ∷ []) ≡ false)
         (d : Defines list pool command) (same : sameBytes (commandName list pool command) name ≡ true) where
       brief : Brief (settingsOf r list pool)
-      brief = call-brief (ruleBy (r .inner)) list pool (r .limit) bytes
+      brief = by-brief (r .inner) list pool (r .limit) bytes
 
       bind : (settingsOf r list pool) .bind name ≡ binding list pool name
-      bind = call-bind (ruleBy (r .inner)) list pool (r .limit) name
+      bind = by-bind (r .inner) list pool (r .limit) name
 
       -- refusal 17 aside it is opened
       pub read-opens : {slot : ℕ} → slot < 16 → made ≢ r .limit → Opens level v whole begun out words i j command slot len made
@@ -155,14 +157,14 @@ module _ (r : Reading) (list pool t : List ℕ) where
           let x = commandText list pool command in
           let y = blanksSpaced x in
           let n : length y ≡ length x = spaced-length x in
-          let inner = call-inner (ruleBy (r .inner)) list pool (r .limit) in
+          let inner = by-inner (r .inner) list pool (r .limit) in
           let q : length (v ++ c .value) ≡ r .base + len = rw (length-append, at-base, c .size) in
           let st = subst (λ (k : ℕ). Stands S x ((v ++ c .value) ++ y) (slotOf 2 k (length y) 1)) q
-          (leaf-stands S (eqb (r .inner) 1) inner x p (v ++ c .value) (omega (arith, room, limit-is))) in
+          (leaf-stands S (r .inner) inner x p (v ++ c .value) (omega (arith, room, limit-is))) in
           let st2 = subst (λ (k : ℕ). Stands S x ((v ++ c .value) ++ y) (slotOf 2 (r .base + len) k 1)) n st in
           subst (λ (k : ℕ). Came level v whole begun new after j (len + k) (made + 1)) n
           (came-kept level v whole begun c deep name inside on to next is amp bind d same brief y (made + 1) (omega (arith, room, limit-is))
-          (leaf-opening S (eqb (r .inner) 1) inner x p (r .depth) made (omega (arith, deep, two))) (f .fits (c .value) whole (c .size) (c .fitted))
+          (leaf-opening S (r .inner) inner x p (r .depth) made (omega (arith, deep, two))) (f .fits (c .value) whole (c .size) (c .fitted))
           (memory-kept S list pool (memory-more S list pool (c .memory) y) k d st2 kept))
 
 -- the level of an opened text, as a level of a reading
@@ -170,7 +172,7 @@ pub inner-level : (r : Reading) (list pool : List ℕ) (command base : ℕ)
     → innerLevel (settingsOf r list pool) list pool (r .depth) command
     ≡ levelOf (record { how = r .inner; inner = r .inner; depth = r .depth - 1; limit = r .limit; base = base }) list pool (commandText list pool command)
 inner-level r list pool command base =
-    ap (λ (h : Heads). the-level h) (call-inner (ruleBy (r .inner)) list pool (r .limit))
+    ap (λ (h : Heads). the-level h) (by-inner (r .inner) list pool (r .limit))
   where
     the-level : Heads → Level
     the-level h =

@@ -7,7 +7,6 @@ use native.Mathlib.Omega.{arith}
 use lib.Dec.{ltb}
 use lib.ListN.{length, getD, drop, replicate}
 use borrow.Author.Tests.{ltb-true}
-use Rattle.text.specs.Version.{xml10}
 use Rattle.text.proofs.Bytes.{and-left, and-right}
 use Rattle.entity.specs.Binding.{text, binding}
 use Rattle.entity.specs.Table.{part, littleEndian}
@@ -16,17 +15,17 @@ use Rattle.halts.specs.Halts.{halts, Smooth}
 use Rattle.text.specs.declared.Answer.the-variants.{Done}
 use Rattle.tokens.specs.Tokens.{named}
 use Rattle.tokens.specs.Outcome.{done, refused}
-use Rattle.attribute.specs.Walk.{Settings, walk, readingOf}
+use Rattle.attribute.specs.Walk.{Settings, walk}
 use Rattle.tokens.specs.declared.Step.the-variants.{Next}
 use Rattle.attribute.specs.Heads.{attributeHead}
 use Rattle.attribute.specs.Steps.{stopAnswer}
 use Rattle.memory.specs.Slots.{opening, slotOf, plainWord, Memory, keptIn}
-use Rattle.memory.specs.Levels.{Level, levelOf, Came, Opens, Finishes, Opened}
+use Rattle.memory.specs.Levels.{settingsBy, Level, levelOf, Came, Opens, Finishes, Opened}
 use Rattle.memory.proofs.Keeping.{memory-start}
 use Rattle.memory.specs.declared.Reading.{Reading}
 use Rattle.memory.proofs.Fitted.{adds-none}
 use Rattle.memory.proofs.Levels.{placeOf, came-start, came-end, taken-full, opened-walked, opened-next, finishes-end}
-use Rattle.memory.proofs.Readings.{call-brief, inner-level, read-opens, read-taken, came-leaf}
+use Rattle.memory.proofs.Readings.{by-brief, inner-level, read-opens, read-taken, came-leaf}
 
 -- ---- a name that is hidden by an earlier command: e = `x`, e = `y`
 
@@ -68,32 +67,32 @@ pool = 101 ∷ 9 ∷ 102 ∷ 38 ∷ 101 ∷ 59 ∷ 97 ∷ 109 ∷ 112 ∷ 88 ∷
 
 -- with limit 2
 s : Settings
-s = readingOf xml10 list pool 2
+s = settingsBy 0 list pool 2
 
 -- a leaf with a blank is refused at depth 1 and stands at depth 2: the 2 is needed
 leaf-depth : (opening s 1 (9 ∷ []) 0 ≡ refused [] 1 16 0 0) × (opening s 2 (9 ∷ []) 0 ≡ done (32 ∷ []) 1)
-unfolding s readingOf walk
+unfolding s settingsBy attributeHead walk
 leaf-depth = (refl, refl)
 
 -- f takes two openings and depth 3; after one opening the limit refuses, so m + o ≤ limit is needed, and a refusal is no fact of the text
 limits : (opening s 2 (38 ∷ 101 ∷ 59 ∷ []) 0 ≡ refused [] 2 16 0 0) × (opening s 3 (38 ∷ 101 ∷ 59 ∷ []) 0 ≡ done (32 ∷ []) 2)
     × (opening s 3 (38 ∷ 101 ∷ 59 ∷ []) 1 ≡ refused [] 2 17 0 0)
-unfolding s readingOf walk
+unfolding s settingsBy attributeHead walk
 limits = (refl, refl, refl)
 
 -- at the limit `opening` itself says nothing of the reference, which is refused before: the openings of a slot are at least 1
 at-limit : (opening s 2 (9 ∷ []) 2 ≡ done (32 ∷ []) 3) × (stopAnswer s 2 (named 0 (101 ∷ [])) 2 ≡ refused [] 2 17 0 0)
-unfolding s readingOf walk stopAnswer
+unfolding s settingsBy attributeHead walk stopAnswer
 at-limit = (refl, refl)
 
 -- at depth 0 every stop is refused, whatever `opening` says there: a slot is not asked at depth 0
 at-zero : (opening s 0 (120 ∷ []) 0 ≡ done (120 ∷ []) 1) × (stopAnswer s 0 (named 0 (101 ∷ [])) 0 ≡ refused [] 0 16 0 0)
-unfolding s readingOf walk stopAnswer
+unfolding s settingsBy attributeHead walk stopAnswer
 at-zero = (refl, refl)
 
 -- the table's `amp` is never opened
 amp-aside : (binding list pool (97 ∷ 109 ∷ 112 ∷ []) ≡ text (88 ∷ [])) × (stopAnswer s 2 (named 0 (97 ∷ 109 ∷ 112 ∷ [])) 0 ≡ done (38 ∷ []) 0)
-unfolding s readingOf walk stopAnswer binding
+unfolding s settingsBy attributeHead walk stopAnswer binding
 amp-aside = (refl, refl)
 
 -- and would share the word of `quot`
@@ -125,7 +124,7 @@ abbrev outer : ℕ → List ℕ → Level
 outer depth t = levelOf (rd depth) list pool t
 
 abbrev S : Settings
-S = readingOf xml10 list pool 2
+S = settingsBy 0 list pool 2
 
 abbrev bytesOnly : List ℕ → Bool
 bytesOnly [] = true
@@ -144,7 +143,7 @@ abbrev keptE : List ℕ → ℕ → List ℕ
 keptE words n = keptIn words 5 0 (slotOf 2 n 1 1)
 
 begun : Came (outer 2 ee) [] [] 0 [] (replicate 84 0) 0 0 0
-unfolding readingOf
+unfolding settingsBy
 begun = came-start (outer 2 ee) [] [] 0 (memory-start S list pool []) (omega arith)
 
 after-leaf : Came (outer 2 ee) [] [] 0 [] (keptE (replicate 84 0) 0) 3 1 1
@@ -178,7 +177,7 @@ defines-f = record { fits = omega arith; name = omega arith; inside = omega arit
 
 module _ (v : List ℕ) (none : length v ≡ 0) (m : Memory S list pool v (replicate 84 0)) where
   inner-begun : Came (outer 2 toE) v [] 1 [] (replicate 84 0) 0 0 1
-  unfolding readingOf
+  unfolding settingsBy
   inner-begun = came-start (outer 2 toE) v [] 1 m (omega arith)
 
   inner-leaf : Came (outer 2 toE) v [] 1 [] (keptE (replicate 84 0) 0) 3 1 2
@@ -198,7 +197,7 @@ module _ (v : List ℕ) (none : length v ≡ 0) (m : Memory S list pool v (repli
       (subst (λ (l : Level). Finishes l v [] 1 [] (keptE (replicate 84 0) 0) (Done 1 2)) (sym (inner-level (rd 3) list pool 12 0)) inner-whole)
 
 f-begun : Came (outer 3 toF) [] [] 0 [] (replicate 84 0) 0 0 0
-unfolding readingOf
+unfolding settingsBy
 f-begun = came-start (outer 3 toF) [] [] 0 (memory-start S list pool []) (omega arith)
 
 f-opens : Opens (outer 3 toF) [] [] 0 [] (replicate 84 0) 0 3 12 7 0 0
@@ -210,6 +209,6 @@ f-opens =
 -- after it both e and f are kept
 f-opened : Came (outer 3 toF) [] [] 0 [] (keptIn (keptE (replicate 84 0) 0) 7 12 (slotOf 3 0 1 2)) 3 1 2
 f-opened =
-    opened-next (outer 3 toF) [] [] 0 f-opens refl {w = 0} {part = []} refl (call-brief xml10 list pool 2 bytes)
+    opened-next (outer 3 toF) [] [] 0 f-opens refl {w = 0} {part = []} refl (by-brief 0 list pool 2 bytes)
     (inner-walked (f-opens .came .value) (f-opens .came .size) (f-opens .came .memory))
     (record { none = λ q. absurd (omega (arith, q)); enters = λ q. refl }) .1

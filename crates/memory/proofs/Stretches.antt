@@ -10,101 +10,58 @@ use native.Mathlib.Numerals.{add-one}
 use lib.Dec.{eqb}
 use lib.ListN.{length, getD, take, drop}
 use lib.Seq.{drop-cons, take-all}
-use borrow.Author.Tests.{eqb-true, eqb-false, ne-eqb}
-use Rattle.text.specs.Bytes.{begins}
-use Rattle.text.proofs.Bytes.{or-left, or-right}
-use Rattle.eols.specs.LineEnds.{lineEnd}
-use Rattle.eols.specs.Stops.{ruleFor}
+use Rattle.text.proofs.Bytes.{or-left}
 use Rattle.eols.specs.declared.Step.{Step}
-use Rattle.eols.proofs.LineEnds.{none10, lf-alone}
 use Rattle.halts.specs.Halts.{halts, Smooth, spaced, blanksSpaced, stopByte}
 use Rattle.tokens.specs.Tokens.{Head, Heads, tokenOf, skipOf}
 use Rattle.tokens.specs.Outcome.{Outcome, done, prepend, followed}
 use Rattle.tokens.specs.Walking.{headAt, nextAt, outcomeOf}
 use Rattle.tokens.proofs.Progress.{fromOn, run-at, run-over, prepend-none, prepend-prepend}
-use Rattle.attribute.specs.Heads.{attributeHead}
 use Rattle.attribute.specs.Walk.{Settings, walk}
-use Rattle.attribute.specs.Steps.{stopAnswer, Blank}
-use Rattle.attribute.proofs.Stops.{copies, blank-tab, blank-line, blank-kept}
+use Rattle.attribute.specs.Steps.{headsBy, stopAnswer, Blank}
+use Rattle.attribute.proofs.Stops.{heads-copy}
+use Rattle.attribute.proofs.Blanks.{smooth-blank}
 use Rattle.attribute.proofs.Single.{stop-deeper, walk-run}
 use Rattle.memory.specs.Slots.{opening, Stands}
 use Rattle.memory.proofs.Slots.{stands-made}
 
--- ---- a byte at which no halt starts
+-- a byte that is no stop is written as it is
+plain-spaced : (newer : Bool) (b : ℕ) → stopByte newer b ≡ false → spaced b ≡ b
+plain-spaced newer b e =
+    let four = or-left (eqb b 9 || eqb b 10 || eqb b 13 || eqb b 38) (newer && (eqb b 0xC2 || eqb b 0xE2)) e in
+    let three = or-left (eqb b 9 || eqb b 10 || eqb b 13) (eqb b 38) four in
+    let two = or-left (eqb b 9 || eqb b 10) (eqb b 13) three in
+    rw two
 
-module _ (newer : Bool) (b : ℕ) (bs : List ℕ) (h : halts newer (b ∷ bs) ≡ false) where
-  abbrev lines : Bool
-  lines = newer && (begins (0xC2 ∷ 0x85 ∷ []) (b ∷ bs) || begins (0xE2 ∷ 0x80 ∷ 0xA8 ∷ []) (b ∷ bs))
-
-  no-amp : eqb b 38 ≡ false
-  no-amp = or-left (eqb b 38) (eqb b 13) (or-left (eqb b 38 || eqb b 13) lines h)
-
-  no-cr : eqb b 13 ≡ false
-  no-cr = or-right (eqb b 38) (eqb b 13) (or-left (eqb b 38 || eqb b 13) lines h)
-
-  no-line : lines ≡ false
-  no-line = or-right (eqb b 38 || eqb b 13) lines h
-
--- it starts no line end but LF
-smooth-line : (newer : Bool) (b : ℕ) (bs : List ℕ) → halts newer (b ∷ bs) ≡ false → b ≢ 10 → lineEnd (ruleFor newer) (b ∷ bs) ≡ 0
-unfolding lineEnd
-smooth-line false b bs h lf = none10 b bs (eqb-false b 13 (no-cr false b bs h)) lf
-smooth-line true b bs h lf =
-    let two = begins (0xC2 ∷ 0x85 ∷ []) (b ∷ bs) in
-    let three = begins (0xE2 ∷ 0x80 ∷ 0xA8 ∷ []) (b ∷ bs) in
-    let n = no-line true b bs h in
-    rw (no-cr true b bs h, ne-eqb b 10 lf, or-left two three n, or-right two three n)
-
-module _ (s : Settings) (newer : Bool) (depth : ℕ) (deep : depth ≢ 0) (text : List ℕ) where
+module _ (s : Settings) (how depth : ℕ) (deep : depth ≢ 0) (text : List ℕ) where
   abbrev on : ℕ → ℕ → Outcome
-  on i n = fromOn (attributeHead (ruleFor newer)) (stopAnswer s depth) text i n
+  on i n = fromOn (headsBy how) (stopAnswer s depth) text i n
 
   -- a blank, or a C2 or E2 that is kept
-  pub run-blank : (i n : ℕ) (x : Step) → i < length text → Blank (ruleFor newer) text i x → on i n ≡ prepend (x .byte ∷ []) (on (i + x .width) n)
+  pub run-blank : (i n : ℕ) (x : Step) → i < length text → Blank (headsBy how) text i x → on i n ≡ prepend (x .byte ∷ []) (on (i + x .width) n)
   run-blank i n x h blank =
-      let at = attributeHead (ruleFor newer) in
+      let at = headsBy how in
       run-at at (stopAnswer s depth) text i n h
       ∙ ap (λ (o : Outcome). followed o (λ m. on (nextAt at text i) m))
       (stop-deeper s depth deep (tokenOf (headAt at text i)) n ∙ blank .stands-for s (λ u m. walk s (s .inner) (depth - 1) u m) n)
       ∙ ap (λ (k : ℕ). prepend (x .byte ∷ []) (on k n)) (blank .next)
 
-  run-copy : (i n : ℕ) → i < length text → stopByte newer (getD text i 0) ≡ false → on i n ≡ prepend (getD text i 0 ∷ []) (on (i + 1) n)
+  run-copy : (i n : ℕ) → i < length text → stopByte (eqb how 1) (getD text i 0) ≡ false → on i n ≡ prepend (getD text i 0 ∷ []) (on (i + 1) n)
   run-copy i n h e =
-      let at = attributeHead (ruleFor newer) in
+      let at = headsBy how in
       let q : i + 1 + 0 ≡ i + 1 = omega arith in
       run-at at (stopAnswer s depth) text i n h
-      ∙ ap (λ (d : Head). followed (outcomeOf (stopAnswer s depth) (tokenOf d) n) (λ m. on (i + 1 + skipOf d) m)) (copies newer i (getD text i 0) (drop (i + 1) text) e)
+      ∙ ap (λ (d : Head). followed (outcomeOf (stopAnswer s depth) (tokenOf d) n) (λ m. on (i + 1 + skipOf d) m)) (heads-copy how i (getD text i 0) (drop (i + 1) text) e)
       ∙ ap (λ (k : ℕ). prepend (getD text i 0 ∷ []) (on k n)) q
 
-  smooth-byte : (i n : ℕ) → i < length text → halts newer (drop i text) ≡ false → on i n ≡ prepend (spaced (getD text i 0) ∷ []) (on (i + 1) n)
-  smooth-byte i n h e = go (eqb b 9) refl (eqb b 10) refl (stopByte newer b) refl
+  smooth-byte : (i n : ℕ) → i < length text → halts (eqb how 1) (drop i text) ≡ false → on i n ≡ prepend (spaced (getD text i 0) ∷ []) (on (i + 1) n)
+  smooth-byte i n h e = go (stopByte (eqb how 1) (getD text i 0)) refl
     where
-      b : ℕ
-      b = getD text i 0
+      go : (c : Bool) → stopByte (eqb how 1) (getD text i 0) ≡ c → on i n ≡ prepend (spaced (getD text i 0) ∷ []) (on (i + 1) n)
+      go true z = run-blank i n (record { byte = spaced (getD text i 0); width = 1 }) h (smooth-blank text i h how e z)
+      go false z = run-copy i n h z ∙ ap (λ (b : ℕ). prepend (b ∷ []) (on (i + 1) n)) (sym (plain-spaced (eqb how 1) (getD text i 0) z))
 
-      here : drop i text ≡ getD text i 0 ∷ drop (i + 1) text
-      here = rw (add-one i) (drop-cons text i 0 h)
-
-      smooth : halts newer (getD text i 0 ∷ drop (i + 1) text) ≡ false
-      smooth = ap (halts newer) (sym here) ∙ e
-
-      amp : getD text i 0 ≢ 38
-      amp = eqb-false (getD text i 0) 38 (no-amp newer (getD text i 0) (drop (i + 1) text) smooth)
-
-      go : (t : Bool) → eqb (getD text i 0) 9 ≡ t → (l : Bool) → eqb (getD text i 0) 10 ≡ l → (c : Bool) → stopByte newer (getD text i 0) ≡ c
-          → on i n ≡ prepend (spaced (getD text i 0) ∷ []) (on (i + 1) n)
-      go true q l r c z = rw q (run-blank i n (record { byte = 32; width = 1 }) h (blank-tab newer text i h (eqb-true (getD text i 0) 9 q)))
-      go false q true r c z =
-          let one : 1 ≡ lineEnd (ruleFor newer) (drop i text) =
-          sym (ap (lineEnd (ruleFor newer)) here ∙ lf-alone (getD text i 0) (drop (i + 1) text) newer (eqb-true (getD text i 0) 10 r)) in
-          rw (q, r) (run-blank i n (record { byte = 32; width = 1 }) h (blank-line newer text i h amp (eqb-false (getD text i 0) 9 q) one (λ k. omega (arith, k))))
-      go false q false r true z =
-          let none : lineEnd (ruleFor newer) (drop i text) ≡ 0 =
-          ap (lineEnd (ruleFor newer)) here ∙ smooth-line newer (getD text i 0) (drop (i + 1) text) smooth (eqb-false (getD text i 0) 10 r) in
-          rw (q, r) (run-blank i n (record { byte = getD text i 0; width = 1 }) h (blank-kept newer text i h amp (eqb-false (getD text i 0) 9 q) z none))
-      go false q false r false z = rw (q, r) (run-copy i n h z)
-
-  smooth-count : (k i n : ℕ) → i + k ≤ length text → ((j : ℕ) → i ≤ j → j < i + k → halts newer (drop j text) ≡ false)
+  smooth-count : (k i n : ℕ) → i + k ≤ length text → ((j : ℕ) → i ≤ j → j < i + k → halts (eqb how 1) (drop j text) ≡ false)
       → on i n ≡ prepend (blanksSpaced (take k (drop i text))) (on (i + k) n)
   smooth-count zero i n h p =
       let q : i + 0 ≡ i = omega arith in
@@ -120,27 +77,27 @@ module _ (s : Settings) (newer : Bool) (depth : ℕ) (deep : depth ≢ 0) (text 
       (ap (λ (j : ℕ). getD text i 0 ∷ drop j text) (add-one i) ∙ sym (drop-cons text i 0 (omega (arith, h))))
 
   -- a run up to a halt
-  pub smooth-run : {i e : ℕ} (n : ℕ) → Smooth newer text i e → on i n ≡ prepend (blanksSpaced (take (e - i) (drop i text))) (on e n)
+  pub smooth-run : {i e : ℕ} (n : ℕ) → Smooth (eqb how 1) text i e → on i n ≡ prepend (blanksSpaced (take (e - i) (drop i text))) (on e n)
   smooth-run {i} {e} n p =
       let q : i + (e - i) ≡ e = omega (arith, p .from) in
       smooth-count (e - i) i n (omega (arith, p .from, p .to)) (λ j g l. p .none j g (omega (arith, p .from, l)))
       ∙ ap (λ (k : ℕ). prepend (blanksSpaced (take (e - i) (drop i text))) (on k n)) q
 
   -- a whole text
-  pub smooth-whole : (n : ℕ) → Smooth newer text 0 (length text) → walk s (attributeHead (ruleFor newer)) depth text n ≡ done (blanksSpaced text) n
+  pub smooth-whole : (n : ℕ) → Smooth (eqb how 1) text 0 (length text) → walk s (headsBy how) depth text n ≡ done (blanksSpaced text) n
   smooth-whole n p =
       let all : take (length text - 0) text ≡ text = take-all (length text - 0) text (omega arith) in
-      walk-run s (ruleFor newer) depth text n
+      walk-run s (headsBy how) depth text n
       ∙ smooth-run n p
-      ∙ ap (prepend (blanksSpaced (take (length text - 0) text))) (run-over (attributeHead (ruleFor newer)) (stopAnswer s depth) text (length text) n (omega arith))
+      ∙ ap (prepend (blanksSpaced (take (length text - 0) text))) (run-over (headsBy how) (stopAnswer s depth) text (length text) n (omega arith))
       ∙ ap (λ (l : List ℕ). done l n) (append-nil (blanksSpaced (take (length text - 0) text)) ∙ ap blanksSpaced all)
 
 -- ---- a leaf: opened at depth 2 or more it takes one opening
 
-module _ (s : Settings) (newer : Bool) (inner : s .inner ≡ attributeHead (ruleFor newer)) (t : List ℕ) (p : Smooth newer t 0 (length t)) where
+module _ (s : Settings) (how : ℕ) (inner : s .inner ≡ headsBy how) (t : List ℕ) (p : Smooth (eqb how 1) t 0 (length t)) where
   pub leaf-opening : (e m : ℕ) → 2 ≤ e → opening s e t m ≡ done (blanksSpaced t) (m + 1)
   leaf-opening e m h =
-      ap (λ (at : Heads). walk s at (e - 1) t (m + 1)) inner ∙ smooth-whole s newer (e - 1) (λ q. omega (arith, h, q)) t (m + 1) p
+      ap (λ (at : Heads). walk s at (e - 1) t (m + 1)) inner ∙ smooth-whole s how (e - 1) (λ q. omega (arith, h, q)) t (m + 1) p
 
   pub leaf-stands : (v : List ℕ) → 1 ≤ s .limit
       → Stands s t (v ++ blanksSpaced t) (record { depth = 2; place = length v; count = length (blanksSpaced t); opened = 1 })

@@ -4,20 +4,18 @@ use Prim.Native.Nat.{ℕ, _+_, _-_, _*_, _≤_, _<_}
 use mathlib.Core.Path.{_≡_}
 use mathlib.Core.Logic.{_≢_}
 use mathlib.Core.List.{List, _++_}
-use lib.Dec.{eqb}
 use lib.ListN.{length, getD, take, drop}
 use Rattle.text.specs.Call.{laid}
-use Rattle.text.specs.Version.{Rule}
 use Rattle.text.specs.declared.Answer.{Answer}
-use Rattle.eols.specs.Stops.{ruleFor}
+use Rattle.charref.specs.CharRef.{anyCharacter}
+use Rattle.entity.specs.Binding.{binding}
 use Rattle.entity.specs.Commands.{commandText, Defines}
 use Rattle.tokens.specs.Tokens.{Heads, tokens}
 use Rattle.tokens.specs.Outcome.{Outcome, done, refused, prepend, followed, run, answerOf}
 use Rattle.tokens.specs.Walking.{stepOf}
 use Rattle.tokens.specs.declared.Step.{Step}
-use Rattle.attribute.specs.Heads.{attributeHead}
-use Rattle.attribute.specs.Walk.{Settings, readingOf}
-use Rattle.attribute.specs.Steps.{stopAnswer}
+use Rattle.attribute.specs.Walk.{Settings}
+use Rattle.attribute.specs.Steps.{headsBy, stopAnswer}
 use Rattle.memory.specs.Slots.{opening, Slot, slotAt, Memory}
 use Rattle.memory.specs.declared.Reading.{Reading}
 use Rattle.memory.specs.declared.Place.{Place}
@@ -28,13 +26,14 @@ use Rattle.memory.specs.declared.Reached.the-variants.{End, Opening, Pau
 
 -- ---- what the code's numbers mean
 
--- how a text is read: 0 as XML 1.0, 1 as XML 1.1
-abbrev pub ruleBy : ℕ → Rule
-ruleBy how = ruleFor (eqb how 1)
+-- the settings of a walk whose replacement texts are read so (`headsBy`), with a table and a limit; it asks nothing of the outer heads
+unfoldable pub settingsBy : ℕ → List ℕ → List ℕ → ℕ → Settings
+unfolding binding
+settingsBy inner list pool limit =
+    record { outer = headsBy inner; inner = headsBy inner; bind = binding list pool; limit = limit; legal = anyCharacter }
 
--- the reading of a walk that is set so, with a table
 abbrev pub settingsOf : Reading → List ℕ → List ℕ → Settings
-settingsOf r list pool = readingOf (ruleBy (r .inner)) list pool (r .limit)
+settingsOf r list pool = settingsBy (r .inner) list pool (r .limit)
 
 -- ---- a level
 
@@ -49,7 +48,7 @@ pub record Level : Type 0 where
 
 abbrev pub levelOf : Reading → List ℕ → List ℕ → List ℕ → Level
 levelOf r list pool text =
-    record { settings = settingsOf r list pool; at = attributeHead (ruleBy (r .how)); depth = r .depth; text = text; list = list; pool = pool }
+    record { settings = settingsOf r list pool; at = headsBy (r .how); depth = r .depth; text = text; list = list; pool = pool }
 
 -- the level of a text that is opened
 abbrev pub innerLevel : Settings → List ℕ → List ℕ → ℕ → ℕ → Level

@@ -19,8 +19,8 @@ ghost use Rattle.memory.specs.Levels.{Bounds, HadKeeps};
 use entity::Binding;
 use entity::Referent;
 
-// What a level of a walk is set to: how its text is read and how the texts inside it are (0 as XML 1.0, 1 as XML 1.1), its depth, the
-// opening limit, and where its value starts in the whole call's value.
+// What a level of a walk is set to: how its text is read and how the texts inside it are (0 as XML 1.0, 1 as XML 1.1, 2 past line ends),
+// its depth, the opening limit, and where its value starts in the whole call's value.
 pub struct Reading {
     pub how: u8,
     pub inner: u8,

@@ -1,20 +1,22 @@
 -- The walk over the text of a call: its first pass, without a memory (`start-lent`, `text-end`, `text-stopped`), and on from a text to open or
 -- a pause (`text-opens`, `text-pauses`, `opened-walks`); how a call ends that walks twice (`walks-refused`, `walks-short`, `walks-held`,
--- `walks-written`); and which walk a call asks for (`call-bottom`, `call-spaced`, `call-read`, `call-short`,
+-- `walks-written`); and which walk a call asks for (`walk-for`, `call-bottom`, `call-spaced`, `call-read`, `call-short`,
 -- `call-formed`). Assumes nothing.
 use mathlib.Core.Path.{_≡_, refl, sym, ap, subst, _∙_}
 use mathlib.Core.Logic.{_≢_}
-use mathlib.Core.Bool.{Bool}
+use mathlib.Core.Bool.{Bool, true, false}
 use mathlib.Core.List.{List, [], _∷_}
 use Prim.Native.Nat.{ℕ, _≤_, _<_}
 use native.Mathlib.Omega.{arith}
 use lib.Dec.{eqb, ltb}
 use lib.ListN.{length, getD, take, replicate}
+use Rattle.text.specs.Bytes.{pick}
 use Rattle.text.specs.Call.{callOf, finish, laid}
 use Rattle.text.specs.Version.{Rule, ruleOf}
 use Rattle.text.specs.declared.Answer.{Answer}
 use Rattle.text.specs.declared.Answer.the-variants.{Done, Refused}
 use Rattle.output.specs.Over.{over}
+use Rattle.output.specs.Runs.{Plain}
 use Rattle.output.proofs.Clip.{over-fits}
 use Rattle.eols.specs.Stops.{ruleFor}
 use Rattle.text.specs.Simple.{Simple}
@@ -22,17 +24,21 @@ use Rattle.eols.proofs.LineEnds.{version-rule}
 use Rattle.halts.proofs.Smooth.{simple-plain}
 use Rattle.attribute.proofs.Single.{walk-plain}
 use Rattle.canonical.specs.Canonical.{canonical}
-use Rattle.halts.specs.Halts.{Smooth, HaltAt, blanksSpaced}
+use Rattle.halts.specs.Halts.{Smooth, HaltAt, anyStop, stopByte, blanksSpaced}
+use Rattle.entity.specs.Table.{marked}
 use Rattle.entity.specs.Binding.{binding}
+use Rattle.tokens.specs.Tokens.{Heads}
 use Rattle.tokens.specs.Outcome.{Outcome, done, refused, produced}
 use Rattle.tokens.specs.Walking.{Walked, Ended}
 use Rattle.tokens.proofs.Finished.{ended-refused, ended-short, ended-written, ended-held, whole-short, whole-written}
 use Rattle.attribute.specs.Heads.{attributeHead}
-use Rattle.attribute.specs.Walk.{Settings, walk, normalize, reading, readingOf}
+use Rattle.attribute.specs.Walk.{Settings, walk, normalize, innerHead, reading, readingOf}
+use Rattle.attribute.specs.Steps.{headsBy}
 use Rattle.attribute.specs.Form.{formed}
 use Rattle.attribute.proofs.Formed.{Filled, formed-written}
+use Rattle.attribute.proofs.Outer.{withOuter, walk-outer}
 use Rattle.attribute.proofs.Values.{table-length, openings-within}
-use Rattle.memory.specs.Levels.{settingsOf, Level, levelOf, left, Fitted, Came, Reaches, Finishes, Lent, FlatKeeps, StepsKeep}
+use Rattle.memory.specs.Levels.{settingsBy, settingsOf, Level, levelOf, left, Fitted, Came, Reaches, Finishes, Lent, FlatKeeps, StepsKeep}
 use Rattle.memory.specs.declared.Reading.{Reading}
 use Rattle.memory.specs.declared.Place.{Place}
 use Rattle.memory.specs.declared.Reached.{Reached}
@@ -42,7 +48,9 @@ use Rattle.halts.proofs.Spaces.{spaced-length}
 use Rattle.memory.proofs.Stretches.{smooth-whole}
 use Rattle.memory.proofs.Levels.{placeOf, walk-left, came-start, came-memory}
 use Rattle.memory.proofs.Turns.{turn-end, turn-stopped}
-use Rattle.normalize.specs.Calls.{walkOf, Walks, WalksOn}
+use Rattle.cycle.specs.Cycle.{Walkable}
+use Rattle.cycle.proofs.Exhausted.{ended-exhausted, ended-plain}
+use Rattle.normalize.specs.Calls.{readingFor, walkOf, Walks, WalksOn}
 
 -- ---- the walk
 
@@ -171,10 +179,35 @@ module _ (short : ℕ) (t out : List ℕ) where
 
 -- ---- the walk that a call asks for
 
+-- what holds however a text is read holds of the version's heads
+pub by-version : (newer : Bool) (P : Bool → Heads → Type 0) → P (eqb (pick newer 1 0) 1) (headsBy (pick newer 1 0)) → P newer (attributeHead (ruleFor newer))
+by-version true P h = h
+by-version false P h = h
+
+-- at depth 0
+module _ (newer : Bool) (s : Settings) (t : List ℕ) (short : ℕ) (out : List ℕ) where
+  pub bottom-refused : anyStop (stopByte newer) t ≡ true → Ended short (walk s (attributeHead (ruleFor newer)) 0 t 0) out out (Refused 16 0 0)
+  bottom-refused =
+      by-version newer (λ n at. anyStop (stopByte n) t ≡ true → Ended short (walk s at 0 t 0) out out (Refused 16 0 0)) (ended-exhausted (pick newer 1 0) s t 0 short out)
+
+  pub bottom-plain : {last : List ℕ} {r : Answer} → anyStop (stopByte newer) t ≡ false → Ended short (done t 0) out last r
+      → Ended short (walk s (attributeHead (ruleFor newer)) 0 t 0) out last r
+  bottom-plain {last} {r} =
+      by-version newer (λ n at. anyStop (stopByte n) t ≡ false → Ended short (done t 0) out last r → Ended short (walk s at 0 t 0) out last r)
+      (ended-plain (pick newer 1 0) s t 0 short out)
+
 normalize-walk : (rule : Rule) (list pool : List ℕ) (limit depth : ℕ) (t : List ℕ)
     → normalize (readingOf rule list pool limit) depth t ≡ walk (readingOf rule list pool limit) (attributeHead rule) depth t 0
 unfolding normalize readingOf reading
 normalize-walk rule list pool limit depth t = refl
+
+-- the settings of the walk are those of the reading, the outer heads aside
+settings-for : (newer : Bool) (list pool : List ℕ) (limit : ℕ) (past : Bool) → marked list ≡ past
+    → settingsBy (pick past 2 (pick newer 1 0)) list pool limit ≡ withOuter (headsBy (pick past 2 (pick newer 1 0))) (readingOf (ruleFor newer) list pool limit)
+unfolding settingsBy readingOf reading innerHead
+settings-for newer list pool limit true e = rw e
+settings-for true list pool limit false e = rw e
+settings-for false list pool limit false e = rw e
 
 module _ (version : ℕ) (list pool : List ℕ) (limit depth : ℕ) (t : List ℕ) where
   abbrev newer : Bool
@@ -188,6 +221,15 @@ module _ (version : ℕ) (list pool : List ℕ) (limit depth : ℕ) (t : List �
       sym (normalize-walk (ruleFor newer) list pool limit depth t)
       ∙ ap (λ (rule : Rule). normalize (readingOf rule list pool limit) depth t) (version-rule version newer refl)
 
+  walk-for : walkOf (readingFor newer (marked list) depth limit) list pool t ≡ asked
+  walk-for =
+      let inner : ℕ = pick (marked list) 2 (pick newer 1 0) in
+      let s = readingOf (ruleFor newer) list pool limit in
+      by-version newer (λ n at. walk (settingsBy inner list pool limit) (headsBy (pick newer 1 0)) depth t 0 ≡ walk s at depth t 0)
+      (ap (λ (x : Settings). walk x (headsBy (pick newer 1 0)) depth t 0) (settings-for newer list pool limit (marked list) refl)
+      ∙ walk-outer (headsBy inner) s (headsBy (pick newer 1 0)) depth t 0)
+      ∙ asked-is
+
   module _ (short : ℕ) (out : List ℕ) {last : List ℕ} {a : Answer} where
     pub call-bottom : depth ≡ 0 → ((s : Settings) → Ended short (walk s (attributeHead (ruleFor newer)) 0 t 0) out last a) → Ended short asked out last a
     call-bottom z e =
@@ -199,21 +241,21 @@ module _ (version : ℕ) (list pool : List ℕ) (limit depth : ℕ) (t : List �
         → Ended short asked out last a
     call-spaced deep h z e =
         let s = readingOf (ruleFor newer) list pool limit in
-        let q = smooth-whole s newer depth deep t 0 (subst (Smooth newer t 0) z (h .smooth)) in
+        let q =
+        by-version newer (λ n at. Smooth n t 0 (length t) → walk s at depth t 0 ≡ done (blanksSpaced t) 0) (smooth-whole s (pick newer 1 0) depth deep t 0)
+        (subst (Smooth newer t 0) z (h .smooth)) in
         subst (λ (o : Outcome). Ended short o out last a) (sym q ∙ asked-is) e
 
-    pub call-read : (how : ℕ) → eqb how 1 ≡ newer
-        → Ended short (walkOf (record { how = how; inner = how; depth = depth; limit = limit; base = 0 }) list pool t) out last a → Ended short asked out last a
-    call-read how n e =
-        let q = ap (λ (x : Bool). walk (readingOf (ruleFor x) list pool limit) (attributeHead (ruleFor x)) depth t 0) n in
-        subst (λ (o : Outcome). Ended short o out last a) (q ∙ asked-is) e
+    pub call-read : {r : Reading} → r ≡ readingFor newer (marked list) depth limit → Ended short (walkOf r list pool t) out last a → Ended short asked out last a
+    call-read {r} is e =
+        subst (λ (o : Outcome). Ended short o out last a) (ap (λ (x : Reading). walkOf x list pool t) is ∙ walk-for) e
 
   -- so no sum overflows
   pub call-short : {value : List ℕ} {made : ℕ} → asked ≡ done value made → ((k : ℕ) → getD list k 0 < 0x100) → length t ≤ 16777216 → limit ≤ 1000000
       → length value ≤ 0x1000000000000
   call-short {value} {made} e bytes h m =
       let n = table-length (ruleOf version) list pool limit depth t value made e bytes in
-      let w : made ≤ limit = openings-within (ruleOf version) (binding list pool) limit depth t value made (unfold readingOf in e) in
+      let w : made ≤ limit = openings-within (ruleOf version) (marked list) (binding list pool) limit depth t value made (unfold readingOf in e) in
       omega (arith, n, w, h, m)
 
   -- the canonical form of the value that the scratch holds
@@ -223,10 +265,23 @@ module _ (version : ℕ) (list pool : List ℕ) (limit depth : ℕ) (t : List �
       formed-written f (ruleOf version) out new q
       (subst (λ (rule : Rule). callOf q (new ∷ []) ≡ finish (canonical rule (take len last)) made out) (version-rule version newer refl) e)
 
+-- what the walk over the text is asked
+pub read-asked : (version : ℕ) (list : List ℕ) (limit depth : ℕ) (t : List ℕ) {r : Reading} → r ≡ readingFor (ltb 1 version) (marked list) depth limit
+    → depth ≢ 0 → limit ≤ 1000000 → length t ≤ 16777216 → {first : ℕ} → HaltAt (ltb 1 version) t 0 first
+    → ((r .base ≡ 0) × Walkable r t) × HaltAt (eqb (r .how) 1) t 0 first
+read-asked version list limit depth t is deep most short {first} h =
+    subst (λ (x : Reading). ((x .base ≡ 0) × Walkable x t) × HaltAt (eqb (x .how) 1) t 0 first) (sym is)
+    ((refl, record { deep = deep; most = most; short = short }), subst (λ (n : Bool). HaltAt n t 0 first) (flag (ltb 1 version)) h)
+  where
+    flag : (newer : Bool) → newer ≡ eqb (pick newer 1 0) 1
+    flag true = refl
+    flag false = refl
+
 -- a text that stands for itself is its own value
 pub simple-value : (version limit depth : ℕ) (list pool t : List ℕ) → Simple t → normalize (readingOf (ruleOf version) list pool limit) depth t ≡ done t 0
 unfolding normalize readingOf reading
 simple-value version limit depth list pool t s =
     let newer = ltb 1 version in
     subst (λ (r : Rule). normalize (readingOf r list pool limit) depth t ≡ done t 0) (version-rule version newer refl)
-    (walk-plain (readingOf (ruleFor newer) list pool limit) newer depth t 0 (simple-plain newer t s))
+    (by-version newer (λ n at. Plain (stopByte n) t 0 (length t) → walk (readingOf (ruleFor newer) list pool limit) at depth t 0 ≡ done t 0)
+    (walk-plain (readingOf (ruleFor newer) list pool limit) (pick newer 1 0) depth t 0) (simple-plain newer t s))

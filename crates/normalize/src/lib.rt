@@ -12,7 +12,7 @@ ghost use Rattle.text.specs.Simple.{Simple};
 ghost use Rattle.eols.specs.Stops.{ruleFor};
 ghost use Rattle.canonical.specs.Canonical.{canonical};
 ghost use Rattle.halts.specs.Halts.{HaltAt, blanksSpaced};
-ghost use Rattle.entity.specs.Table.{ValidTable};
+ghost use Rattle.entity.specs.Table.{marked, ValidTable};
 ghost use Rattle.tokens.specs.Outcome.{done, finished};
 ghost use Rattle.tokens.specs.Walking.{Ended};
 ghost use Rattle.attribute.specs.Heads.{attributeHead};
@@ -20,7 +20,7 @@ ghost use Rattle.attribute.specs.Walk.{Settings, walk, normalize, readingOf};
 ghost use Rattle.attribute.specs.Form.{formed};
 ghost use Rattle.memory.specs.Levels.{levelOf, Lent};
 ghost use Rattle.cycle.specs.Cycle.{Walkable};
-ghost use Rattle.normalize.specs.Calls.{walkOf, Walks, WalksOn};
+ghost use Rattle.normalize.specs.Calls.{readingFor, walkOf, Walks, WalksOn};
 use memory::Place;
 use memory::Reached;
 use memory::Reading;
@@ -193,6 +193,21 @@ fn spaced_whole(text: &[u8], short: u32, out: &mut [u8]) -> Answer
     }
 }
 
+// What the walk over the text of a call is set to: the texts of a marked list are past line ends.
+fn reading_for(list: &[u8], newer: bool, depth: u64, limit: u64) -> Reading
+    ensures { λ r. ⌜ r ≡ readingFor newer (marked (now (list .entry))) depth limit ⌝ }
+{
+    let how = if newer { 1 } else { 0 };
+    let inner = if entity::is_marked(list) { 2 } else { how };
+    Reading {
+        how,
+        inner,
+        depth,
+        limit,
+        base: 0,
+    }
+}
+
 // The value of the text of a call, in a buffer that is refused by the number given where it is too short.
 fn normalized(
     text: &[u8],
@@ -217,14 +232,7 @@ fn normalized(
     if first == text.len() {
         return spaced_whole(text, short, out);
     }
-    let how = if newer { 1 } else { 0 };
-    let reading = Reading {
-        how,
-        inner: how,
-        depth,
-        limit,
-        base: 0,
-    };
+    let reading = reading_for(list, newer, depth, limit);
     normalize_into(text, first, reading, list, pool, short, out)
 }
 

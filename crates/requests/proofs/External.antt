@@ -15,24 +15,25 @@ use Rattle.text.specs.Version.{Rule, xml10, xml11, ruleOf}
 use Rattle.text.specs.Utf8.{WellFormed}
 use Rattle.text.specs.Call.{called}
 use Rattle.text.proofs.Bytes.{or-left, or-right}
-use Rattle.entity.specs.Table.{ValidTable}
+use Rattle.entity.specs.Table.{marked, ValidTable}
 use Rattle.entity.specs.Binding.{Bound, text, external, binding}
 use Rattle.tokens.specs.Tokens.{Stop, named, copy, stop, head, Heads, Head, tokenOf, skipOf, nameAt, ended, longer, referenceTo, referenceAt, tokens}
 use Rattle.tokens.specs.Outcome.{Outcome, done, refused, prepend, run, finished}
 use Rattle.tokens.specs.Walking.{Copies}
 use Rattle.tokens.proofs.Progress.{prepend-none, prepend-prepend}
-use Rattle.halts.specs.Halts.{anyStop}
+use Rattle.halts.specs.Halts.{anyStop, stopByte}
 use Rattle.unescape.specs.Unescape.{textHead, copied, replaced, unescapeFrom, unescape}
 use Rattle.runs.specs.RunEnds.{isAmp}
 use Rattle.unescape.proofs.Stops.{others-copied}
 use Rattle.attribute.specs.Heads.{attributeHead}
-use Rattle.attribute.specs.Walk.{Settings, opened, answer, walk, normalize, reading, readingOf}
+use Rattle.attribute.specs.Walk.{Settings, opened, answer, walk, normalize, innerHead, reading, readingOf}
+use Rattle.attribute.specs.Steps.{headsBy}
 use Rattle.attribute.specs.Form.{formed}
-use Rattle.attribute.proofs.Stops.{copies}
+use Rattle.attribute.proofs.Stops.{heads-refer, heads-copy}
 use Rattle.govlezna.specs.Calls.{unescapeCall, normalizeAttributeValueCall, canonicalFormCall}
 use Rattle.demands.specs.Demands.{Asked, ruleFor, Taken}
 use Rattle.demands.proofs.CallDemands.{length-passes, utf8-passes, taken-passes}
-use Rattle.requests.specs.External.{stopOf, endsName, FirstReference, ValueRefused}
+use Rattle.requests.specs.External.{stopOf, stopIn, endsName, FirstReference, ValueRefused}
 
 -- ---- up to the first reference
 
@@ -76,31 +77,37 @@ first-refusal inner stops at c amp f t before name r n e =
 
 -- ---- values
 
-amp-value : (r : Rule) (offset : ℕ) (bs : List ℕ) → attributeHead r offset 38 bs ≡ referenceAt offset bs (nameAt false bs)
-unfolding attributeHead
-amp-value r offset bs = refl
-
-copies-by : (r : Rule) → Copies (stopOf r) (attributeHead r)
-copies-by xml10 = copies false
-copies-by xml11 = copies true
-
-module _ (s : Settings) (depth : ℕ) (r : Rule) (t before name : List ℕ) (first : FirstReference false (stopOf r) t before name)
+-- a text, however it is read
+module _ (s : Settings) (depth how : ℕ) (t before name : List ℕ) (first : FirstReference false (stopByte (eqb how 1)) t before name)
     (no-amp : sameBytes name (97 ∷ 109 ∷ 112 ∷ []) ≡ false) where
+  -- a refusal of the name's answer is the whole text's
+  named-walk : (n : ℕ) {produced : List ℕ} {m why one two : ℕ} → opened (s .limit) (λ u k. walk s (s .inner) depth u k) (length before) name (s .bind name) n ≡ refused produced m why one two
+      → walk s (headsBy how) (suc depth) t n ≡ refused (before ++ produced) m why one two
+  unfolding walk answer
+  named-walk n e =
+      first-refusal false (stopByte (eqb how 1)) (headsBy how) (heads-copy how) (heads-refer how) (answer s (λ u m. walk s (s .inner) depth u m)) t before name first n
+      (rw no-amp e)
+
   -- a name that is external
-  external-walk : (n : ℕ) → s .bind name ≡ external → walk s (attributeHead r) (suc depth) t n ≡ refused (before ++ []) n 27 (length before) 0
-  unfolding walk answer opened
-  external-walk n e =
-      first-refusal false (stopOf r) (attributeHead r) (copies-by r) (amp-value r) (answer s (λ u m. walk s (s .inner) depth u m)) t before name first n
-      (rw (no-amp, e))
+  external-walk : (n : ℕ) → s .bind name ≡ external → walk s (headsBy how) (suc depth) t n ≡ refused (before ++ []) n 27 (length before) 0
+  unfolding opened
+  external-walk n e = named-walk n (rw e)
 
   -- a name whose text is refused
-  inside-walk : (n : ℕ) (u : List ℕ) {produced : List ℕ} {m why first second : ℕ} → s .bind name ≡ text u → n ≢ s .limit
-      → walk s (s .inner) depth u (suc n) ≡ refused produced m why first second
-      → walk s (attributeHead r) (suc depth) t n ≡ refused (before ++ produced) m why first second
-  unfolding walk answer opened
-  inside-walk n u e room w =
-      first-refusal false (stopOf r) (attributeHead r) (copies-by r) (amp-value r) (answer s (λ u m. walk s (s .inner) depth u m)) t before name first n
-      (rw (no-amp, e, ne-eqb n (s .limit) room, w))
+  inside-walk : (n : ℕ) (u : List ℕ) {produced : List ℕ} {m why one two : ℕ} → s .bind name ≡ text u → n ≢ s .limit
+      → walk s (s .inner) depth u (suc n) ≡ refused produced m why one two → walk s (headsBy how) (suc depth) t n ≡ refused (before ++ produced) m why one two
+  unfolding opened
+  inside-walk n u e room w = named-walk n (rw (e, ne-eqb n (s .limit) room, w))
+
+-- the value itself is read by its version, a replacement text by its version or past line ends
+by-rule : (r : Rule) (P : (ℕ → Bool) → Heads → Type 0) → ((how : ℕ) → P (stopByte (eqb how 1)) (headsBy how)) → P (stopOf r) (attributeHead r)
+by-rule xml10 P h = h 0
+by-rule xml11 P h = h 1
+
+by-list : (past : Bool) (r : Rule) (P : (ℕ → Bool) → Heads → Type 0) → ((how : ℕ) → P (stopByte (eqb how 1)) (headsBy how)) → P (stopIn past r) (innerHead past r)
+unfolding innerHead
+by-list false r P h = by-rule r P h
+by-list true r P h = h 2
 
 -- what a refused walk says of the calls
 value-refused : (a : Asked) → Taken a → {produced : List ℕ} {m offset : ℕ}
@@ -116,12 +123,15 @@ k9-value a taken deep before name first no-amp e = value-refused a taken (go (a 
   where
     go : (depth : ℕ) → 1 ≤ depth → normalize (readingOf (ruleFor a) (a .list) (a .pool) (a .limit)) depth (a .text) ≡ refused (before ++ []) 0 27 (length before) 0
     go zero h = absurd (omega (arith, h))
-    go (suc depth) h = external-walk (readingOf (ruleFor a) (a .list) (a .pool) (a .limit)) depth (ruleFor a) (a .text) before name first no-amp 0 e
+    go (suc depth) h =
+        let s = readingOf (ruleFor a) (a .list) (a .pool) (a .limit) in
+        by-rule (ruleFor a) (λ stops at. FirstReference false stops (a .text) before name → walk s at (suc depth) (a .text) 0 ≡ refused (before ++ []) 0 27 (length before) 0)
+        (λ how first. external-walk s depth how (a .text) before name first no-amp 0 e) first
 
 -- K9, "with the offset of `&`" in the text being walked: a replacement text that refers to an external entity.
 pub k9-inside : (a : Asked) → Taken a → 2 ≤ a .depth → 1 ≤ a .limit → (before name u inside other : List ℕ)
     → FirstReference false (stopOf (ruleFor a)) (a .text) before name → sameBytes name (97 ∷ 109 ∷ 112 ∷ []) ≡ false → binding (a .list) (a .pool) name ≡ text u
-    → FirstReference false (stopOf (ruleFor a)) u inside other → sameBytes other (97 ∷ 109 ∷ 112 ∷ []) ≡ false → binding (a .list) (a .pool) other ≡ external
+    → FirstReference false (stopIn (marked (a .list)) (ruleFor a)) u inside other → sameBytes other (97 ∷ 109 ∷ 112 ∷ []) ≡ false → binding (a .list) (a .pool) other ≡ external
     → ValueRefused a (length inside)
 unfolding normalize readingOf reading
 k9-inside a taken deep some before name u inside other first no-amp e second no-amp2 e2 = value-refused a taken (go (a .depth) deep)
@@ -133,8 +143,11 @@ k9-inside a taken deep some before name u inside other first no-amp e second no-
     go zero h = absurd (omega (arith, h))
     go (suc zero) h = absurd (omega (arith, h))
     go (suc (suc depth)) h =
-        inside-walk s (suc depth) (ruleFor a) (a .text) before name first no-amp 0 u e (λ q. omega (arith, some, q))
-        (external-walk s depth (ruleFor a) u inside other second no-amp2 1 e2)
+        let opens : walk s (s .inner) (suc depth) u 1 ≡ refused (inside ++ []) 1 27 (length inside) 0 =
+        by-list (marked (a .list)) (ruleFor a) (λ stops at. FirstReference false stops u inside other → walk s at (suc depth) u 1 ≡ refused (inside ++ []) 1 27 (length inside) 0)
+        (λ how second. external-walk s depth how u inside other second no-amp2 1 e2) second in
+        by-rule (ruleFor a) (λ stops at. FirstReference false stops (a .text) before name → walk s at (suc (suc depth)) (a .text) 0 ≡ refused (before ++ (inside ++ [])) 1 27 (length inside) 0)
+        (λ how first. inside-walk s (suc depth) how (a .text) before name first no-amp 0 u e (λ q. omega (arith, some, q)) opens) first
 
 -- ---- unescaping
 

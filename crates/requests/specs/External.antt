@@ -18,6 +18,11 @@ abbrev pub stopOf : Rule → ℕ → Bool
 stopOf xml10 = stopByte false
 stopOf xml11 = stopByte true
 
+-- K4: those of a replacement text, past line ends or not
+abbrev pub stopIn : Bool → Rule → ℕ → Bool
+stopIn false r = stopOf r
+stopIn true r = stopByte false
+
 -- where a name ends: at the next `;`; in unescaping, where `inner` holds, a `&` may not come before it
 abbrev pub endsName : Bool → ℕ → Bool
 endsName inner b = eqb b 59 || (inner && eqb b 38)

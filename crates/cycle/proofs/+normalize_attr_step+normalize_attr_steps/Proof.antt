@@ -158,14 +158,14 @@ normalize-attr-step-same-length t c = search needs
 normalize-attr-step-returns : (t : ℕ) → normalize-attr-step-lts.Need-returns (normalize-attr-step-claims t) (normalize-attr-step-at t)
     normalize-attr-step.Post
 normalize-attr-step-returns t c =
-    let told = c .before .before .before .before .before .before .before .before in
+    let told = c .before .before .before .before .before .before .before in
     let a = step-begin t told .args in
-    step-bottom (a .reading) (a .place) (a .list .now) (a .pool .now) (a .command) (text-told t told) (c .before .before .before .before .before .before .if1 .taken)
+    step-bottom (a .reading) (a .place) (a .list .now) (a .pool .now) (a .command) (text-told t told) (c .before .before .before .before .before .if1 .taken)
     (c .before .before .bottom-step .ensures)
 
-normalize-attr-step-sub-t29 : (t : ℕ) → normalize-attr-step-lts.Need-sub-t29 (normalize-attr-step-claims t) (normalize-attr-step-at t)
+normalize-attr-step-sub-t28 : (t : ℕ) → normalize-attr-step-lts.Need-sub-t28 (normalize-attr-step-claims t) (normalize-attr-step-at t)
     normalize-attr-step.Post
-normalize-attr-step-sub-t29 t c = omega (arith, step-begin t (c .before .before) .pre .1 .1 .0 .deep)
+normalize-attr-step-sub-t28 t c = omega (arith, step-begin t (c .before .before) .pre .1 .1 .0 .deep)
 
 normalize-attr-step-add-normalize-attr-steps : (t : ℕ) → normalize-attr-step-lts.Need-add-normalize-attr-steps (normalize-attr-step-claims t) (normalize-attr-step-at t)
     normalize-attr-step.Post
@@ -581,7 +581,7 @@ pub +normalize-attr-step+normalize-attr-steps-spec : {M : Type 1} → statement 
     (normalize-attr-step-bottom-step-requires t)
     (normalize-attr-step-same-length t)
     (normalize-attr-step-returns t)
-    (normalize-attr-step-sub-t29 t)
+    (normalize-attr-step-sub-t28 t)
     (normalize-attr-step-add-normalize-attr-steps t)
     (normalize-attr-step-sub-normalize-attr-steps t)
     (normalize-attr-step-part-normalize-attr-steps-start t)

@@ -12,7 +12,7 @@ has-stop-requires c κs = tt
 returns : tie.Need-returns
 returns c =
     let a = c .before .before .before .before .args in
-    λ s. bottom-refused (a .newer) s (a .text .now) (a .openings) (a .next) (a .out .now) (sym (c .before .has-stop .ensures) ∙ c .if1 .taken)
+    λ s. bottom-refused (a .how) s (a .text .now) (a .openings) (a .next) (a .out .now) (sym (c .before .has-stop .ensures) ∙ c .if1 .taken)
 
 put-run-requires : tie.Need-put-run-requires
 put-run-requires c κs = omega (arith, c .before .if2 .taken)
@@ -24,13 +24,13 @@ returns-2 : tie.Need-returns-2
 returns-2 c =
     let a = c .before .before .before .before .before .before .before .before .before .args in
     let none = sym (c .before .before .before .before .before .before .has-stop .ensures) ∙ c .before .before .before .before .before .if1 .left in
-    λ s. bottom-written (a .newer) s (a .text .now) (a .openings) (a .next) none (omega (arith, c .before .before .before .before .if2 .taken)) (c .before .before .put-run .ensures)
+    λ s. bottom-written (a .how) s (a .text .now) (a .openings) (a .next) none (omega (arith, c .before .before .before .before .if2 .taken)) (c .before .before .put-run .ensures)
 
 returns-3 : tie.Need-returns-3
 returns-3 c =
     let a = c .before .before .before .before .before .args in
     let none = sym (c .before .before .has-stop .ensures) ∙ c .before .if1 .left in
-    λ s. bottom-long (a .newer) s (a .text .now) (a .openings) (a .next) none (omega (arith, c .if2 .left))
+    λ s. bottom-long (a .how) s (a .text .now) (a .openings) (a .next) none (omega (arith, c .if2 .left))
 
 pub bottom-step-spec : {M : Type 1} → statement M
 bottom-step-spec =

@@ -1,4 +1,4 @@
--- A halt is a line end, one space (`halt-blank`), or a reference: `&lt;` or `&gt;` told by its bytes (`halt-plain`), or what it means
+-- A halt is a line end or a blank, one space (`halt-blank`), or a reference: `&lt;` or `&gt;` told by its bytes (`halt-plain`), or what it means
 -- decides (`means`): a character is written, a name goes on in `named_step`, a refusal is handed on. Without a memory it may pause instead, and
 -- nothing has changed.
 use Prim.Native.Nat.{_+_}
@@ -7,14 +7,14 @@ use native.Mathlib.Omega.{arith}
 use Rattle.memory.proofs.Readings.{lent-within, lent-room, lent-trusts}
 use Rattle.flat.specs.Between.{Means}
 use Rattle.flat.specs.declared.Meaning.{Meaning}
-use Rattle.flat.proofs.Halting.{halt-width, halt-blank, halt-plain, halt-char, halt-refused}
+use Rattle.flat.proofs.Halting.{halt-blank, halt-plain, halt-char, halt-refused}
 use borrow.Author.Needs.{needs}
 use Rattle.flat.proofs.halt_step.Statement.{statement}
 use Rattle.flat.proofs.halt_step.Tie as tie
 
 -- places: the entry, seen from the line end's width, from the quick look and from the reference's meaning
-abbrev entry-blank : tie.After-eol-width → tie.Start
-entry-blank c = c .before .before .before .before .before .before .before .before .before
+abbrev entry-blank : tie.After-blank-width → tie.Start
+entry-blank c = c .before .before .before .before .before .before .before .before
 
 abbrev entry-quick : tie.After-quick-plain → tie.Start
 entry-quick c = c .before .before .before .before .before .before .before .before .before
@@ -29,21 +29,16 @@ means c q = subst (Means (entry c .args .text .now) (entry c .args .place .at)) 
 shared-slice-read-if1 : tie.Need-shared-slice-read-if1
 shared-slice-read-if1 c = search needs
 
-eol-width-requires : tie.Need-eol-width-requires
-eol-width-requires c κs = search needs
+blank-width-requires : tie.Need-blank-width-requires
+blank-width-requires c κs = search needs
 
 put-byte-requires : tie.Need-put-byte-requires
 put-byte-requires c κs = search needs
 
-add-t27 : tie.Need-add-t27
-add-t27 c =
+add-t26 : tie.Need-add-t26
+add-t26 c =
     let width = c .before .before .before .before in
-    let start = entry-blank width in
-    let a = start .args in
-    let blank =
-    halt-width (a .reading) (a .text .now) (a .list .now) (a .pool .now) (a .place) (start .pre .1 .0 .0) (a .out .now) (a .seen .now)
-    (start .pre .1 .1 .0 .0) (start .pre .1 .1 .0 .1) (width .before .before .if1 .taken) (width .eol-width .ensures) in
-    omega (arith, blank .inside, start .pre .1 .0 .2)
+    omega (arith, width .blank-width .ensures .inside, entry-blank width .pre .1 .0 .2)
 
 same-length : tie.Need-same-length
 same-length c = search needs
@@ -54,7 +49,7 @@ returns c =
     let start = entry-blank width in
     let a = start .args in
     halt-blank (a .reading) (a .text .now) (a .list .now) (a .pool .now) (a .place) (start .pre .1 .0 .0) (a .out .now) (a .seen .now)
-    (start .pre .1 .1 .0 .0) (start .pre .1 .1 .0 .1) (width .before .before .if1 .taken) (width .eol-width .ensures) (c .before .before .put-byte .ensures)
+    (start .pre .1 .1 .0 .0) (width .blank-width .ensures) (c .before .before .put-byte .ensures)
 
 quick-plain-requires : tie.Need-quick-plain-requires
 quick-plain-requires c κs = search needs
@@ -62,8 +57,8 @@ quick-plain-requires c κs = search needs
 put-byte-requires-2 : tie.Need-put-byte-requires-2
 put-byte-requires-2 c κs = search needs
 
-add-t33 : tie.Need-add-t33
-add-t33 c = search needs
+add-t32 : tie.Need-add-t32
+add-t32 c = search needs
 
 same-length-2 : tie.Need-same-length-2
 same-length-2 c = search needs
@@ -157,14 +152,14 @@ halt-step-spec =
     tie.close
     (tie.spec
     shared-slice-read-if1
-    eol-width-requires
+    blank-width-requires
     put-byte-requires
-    add-t27
+    add-t26
     same-length
     returns
     quick-plain-requires
     put-byte-requires-2
-    add-t33
+    add-t32
     same-length-2
     same-length-3
     returns-2
