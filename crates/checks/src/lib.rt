@@ -144,7 +144,7 @@ pub fn check_with_table(checked: Answer, list: &[u8], pool: &[u8]) -> Answer
     else {
         return checked;
     };
-    entity::check_lent(list, pool)
+    tables::check_lent(list, pool)
 }
 
 // text::check_arguments for a text that is known to be simple, and so UTF-8.

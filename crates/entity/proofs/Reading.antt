@@ -1,5 +1,5 @@
 -- A command's numbers, read at its offset in the list. Assumes nothing.
-use mathlib.Core.Path.{_≡_, refl, ap, ap₂, _∙_}
+use mathlib.Core.Path.{_≡_, refl, ap₂}
 use mathlib.Core.Logic.{_≢_}
 use mathlib.Core.List.{List}
 use Prim.Native.Nat.{ℕ, zero, suc, _+_, _*_, _<_}
@@ -10,7 +10,7 @@ use lib.ListN.{getD, drop}
 use lib.Seq.{getD-drop}
 use borrow.Author.Tests.{eq-eqb, ne-eqb}
 use Rattle.text.specs.Bytes.{pick}
-use Rattle.entity.specs.Table.{littleEndian, Body, inside, outside, Declaration}
+use Rattle.entity.specs.Table.{littleEndian, Body, inside, outside}
 use Rattle.entity.specs.Steps.{declarationAt}
 
 module _ (bytes : List ℕ) (i : ℕ) where
@@ -64,13 +64,3 @@ declaration-at list at =
     let s5 = rw q5 at (little-drop (at + 1) list 5 4) in
     let s9 = rw q9 at (little-drop (at + 1) list 9 2) in
     rw (s0, s4, u8-is list (at + 5), s5, s9)
-
-abbrev pub named : List ℕ → ℕ → Body → Declaration
-named list at b = record { nameStart = littleEndian list (at + 1) 4; nameLength = getD list (at + 5) 0; body = b }
-
-pub declaration-text : (list : List ℕ) (at : ℕ) → getD list at 0 ≡ 1
-    → declarationAt list at ≡ named list at (inside (littleEndian list (at + 6) 4) (littleEndian list (at + 10) 2))
-declaration-text list at one = declaration-at list at ∙ ap (named list at) (body-text list at one)
-
-pub declaration-outside : (list : List ℕ) (at : ℕ) → getD list at 0 ≢ 1 → declarationAt list at ≡ named list at outside
-declaration-outside list at other = declaration-at list at ∙ ap (named list at) (body-outside list at other)

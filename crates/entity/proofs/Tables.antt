@@ -6,7 +6,7 @@ use Prim.Native.Nat.{ℕ, zero, suc, _≤_, _<_}
 use native.Mathlib.Omega.{arith}
 use lib.Dec.{eqb, ltb, lit≤, lit<}
 use lib.ListN.{length, getD, length-take}
-use borrow.Author.Tests.{eqb-true, ltb-true, ltb-false, not-false, le-leb}
+use borrow.Author.Tests.{ltb-true, ltb-false, not-false, le-leb}
 use Rattle.text.specs.Bytes.{pick, sameBytes}
 use Rattle.text.specs.Utf8.{wellFormed, WellFormed}
 use Rattle.text.specs.Call.{andThen, passed}

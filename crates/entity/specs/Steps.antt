@@ -1,20 +1,20 @@
--- Check and lookup, one command at a time: the terms in which the code is proved. No promise of a call rests on these.
+-- Commands and lookup, one command at a time: the terms in which the code is proved. No promise of a call rests on these.
 -- Assumes nothing.
 use mathlib.Core.Path.{_≡_}
 use mathlib.Core.Logic.{_≢_}
 use Prim.Native.Nat.{ℕ, suc, _+_, _≤_, _<_}
-use mathlib.Core.List.{List, [], _∷_}
+use mathlib.Core.List.{List}
 use lib.ListN.{length, getD, drop}
-use lib.Dec.{eqb, ltb}
+use lib.Dec.{ltb}
 use Rattle.text.specs.Bytes.{pick}
-use Rattle.text.specs.Call.{andThen, passed}
+use Rattle.text.specs.Call.{passed}
 use Rattle.text.specs.declared.Answer.{Answer}
 use Rattle.text.specs.declared.Answer.the-variants.{Done, Refused}
 use Rattle.entity.specs.declared.Binding.{Binding}
 use Rattle.entity.specs.declared.Binding.the-variants.{Text, Predefined, External, Unknown}
 use Rattle.entity.specs.declared.Referent.{Referent}
 use Rattle.entity.specs.declared.Referent.the-variants.{Text as Inside, Predefined as Plain, External as Outside, Unknown as Nothing}
-use Rattle.entity.specs.Table.{littleEndian, Declaration, declaration, operands, declarationsFrom, declarationCheck, endCheck, commandsCheck, tableCheck}
+use Rattle.entity.specs.Table.{littleEndian, Declaration, declaration, operands, declarationsFrom, declarationCheck, commandsCheck}
 use Rattle.entity.specs.Binding.{bindingIn, binding}
 
 -- the width of a command
@@ -32,12 +32,6 @@ unfoldable pub commandCheck : List ℕ → List ℕ → ℕ → Answer
 unfolding declarationCheck declarationAt commandSize
 commandCheck list pool at =
     pick (ltb (length list) (at + commandSize (getD list at 0))) (Refused 7 at 0) (declarationCheck pool at (declarationAt list at) passed)
-
--- what a list from `at` on answers where it does not begin with a declaration, after so many of them
-unfoldable pub lastCheck : List ℕ → ℕ → ℕ → Answer
-unfolding endCheck
-lastCheck [] at count = Refused 7 at 0
-lastCheck (b ∷ bs) at count = pick (eqb b 0) (andThen (endCheck bs (suc at)) (Done count 0)) (Refused 7 at 0)
 
 -- the text of the command 1 at `at`, as start and end
 abbrev pub TextAt : List ℕ → ℕ → Binding → Type 0
@@ -59,24 +53,12 @@ pub record Agree (pool : List ℕ) (start : ℕ) (name : List ℕ) (count : ℕ)
   pub fits : count ≤ length name
   pub agree : (k : ℕ) → k < count → getD pool (start + k) 0 ≡ getD name k 0
 
--- ---- where a check and a lookup stand
+-- ---- where a lookup stands
 
 -- an answer that refuses nothing
 abbrev pub IsDone : Answer → Type 0
 IsDone (Done first second) = Unit {0}
 IsDone (Refused number first second) = ⊥
-
--- the answer of the commands from `at` on, with so many declarations before them
-unfoldable pub answerFrom : List ℕ → List ℕ → ℕ → ℕ → Answer
-unfolding commandsCheck declarationsFrom
-answerFrom list pool at count = andThen (commandsCheck pool at 0 (drop at list)) (Done (count + length (declarationsFrom 0 (drop at list))) 0)
-
--- the check of a table: the answer from here on is the answer
-pub record Standing (list pool : List ℕ) (at count : ℕ) : Type 0 where
-  pub fits : at ≤ length list
-  pub few : count ≤ at
-  pub short : length list ≤ 49153
-  pub is : answerFrom list pool at count ≡ tableCheck list pool
 
 -- a lookup: the table is valid from here on, and the answer from here on is the answer
 pub record Here (list pool name : List ℕ) (at : ℕ) : Type 0 where

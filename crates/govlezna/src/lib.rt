@@ -80,7 +80,7 @@ pub extern "C" fn govlezna_normalize_eols(
 pub extern "C" fn govlezna_check_table(list: &[u8], pool: &[u8], answer: &mut [u64; 2]) -> u32
     ensures { λ r. ⌜ called r (now (answer .exit)) [] ≡ checkTableCall (now (list .entry)) (now (pool .entry)) ⌝ }
 {
-    put(entity::check_table(list, pool), answer)
+    put(tables::check_table(list, pool), answer)
 }
 
 // References become what they stand for; a replacement text is copied and not opened. Success: the length written.

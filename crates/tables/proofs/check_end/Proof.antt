@@ -1,9 +1,9 @@
 use mathlib.Core.Path.{_∙_}
 use native.Mathlib.Omega.{arith}
-use Rattle.entity.proofs.Commands.{last-none, last-other, last-more, last-end}
+use Rattle.tables.proofs.Commands.{last-none, last-other, last-more, last-end}
 use borrow.Author.Needs.{needs}
-use Rattle.entity.proofs.check_end.Statement.{statement}
-use Rattle.entity.proofs.check_end.Tie as tie
+use Rattle.tables.proofs.check_end.Statement.{statement}
+use Rattle.tables.proofs.check_end.Tie as tie
 
 refused-requires : tie.Need-refused-requires
 refused-requires c κs = search needs

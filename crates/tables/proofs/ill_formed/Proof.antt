@@ -1,8 +1,8 @@
 use mathlib.Core.Path.{sym, _∙_}
 use borrow.Author.Tests.{eq-eqb, ne-eqb}
 use borrow.Author.Needs.{needs}
-use Rattle.entity.proofs.ill_formed.Statement.{statement}
-use Rattle.entity.proofs.ill_formed.Tie as tie
+use Rattle.tables.proofs.ill_formed.Statement.{statement}
+use Rattle.tables.proofs.ill_formed.Tie as tie
 
 returns : tie.Need-returns
 returns c = rw (eq-eqb _ _ (c .if1 .taken))

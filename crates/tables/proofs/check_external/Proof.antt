@@ -1,10 +1,10 @@
 -- `check_external`: 7 where the operands are cut (`command-cut`), else what a declaration with an empty text answers (`external-whole`).
 use mathlib.Core.Path.{_∙_}
 use native.Mathlib.Omega.{arith}
-use Rattle.entity.proofs.Commands.{command-cut, external-whole, size-two}
+use Rattle.tables.proofs.Commands.{command-cut, external-whole, size-two}
 use borrow.Author.Needs.{needs}
-use Rattle.entity.proofs.check_external.Statement.{statement}
-use Rattle.entity.proofs.check_external.Tie as tie
+use Rattle.tables.proofs.check_external.Statement.{statement}
+use Rattle.tables.proofs.check_external.Tie as tie
 
 sub-if1 : tie.Need-sub-if1
 sub-if1 c = search needs

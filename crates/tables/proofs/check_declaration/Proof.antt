@@ -1,10 +1,11 @@
 -- `check_declaration` asks 8, then 9: each return is a law of Parts.antt about the declaration (`past-refused`, `ascii-passed`, `ill-refused`, `well-passed`).
 use mathlib.Core.Path.{sym, _∙_}
-use Rattle.entity.proofs.Parts.{name-fits, text-fits, past-refused, ill-refused, well-passed, ascii-passed}
+use Rattle.entity.proofs.Parts.{name-fits, text-fits}
+use Rattle.tables.proofs.Parts.{past-refused, ill-refused, well-passed, ascii-passed}
 use native.Mathlib.Omega.{arith}
 use borrow.Author.Needs.{needs}
-use Rattle.entity.proofs.check_declaration.Statement.{statement}
-use Rattle.entity.proofs.check_declaration.Tie as tie
+use Rattle.tables.proofs.check_declaration.Statement.{statement}
+use Rattle.tables.proofs.check_declaration.Tie as tie
 
 -- places: name and text lie in the pool, and the entry
 abbrev entry : tie.Else1 → tie.Start

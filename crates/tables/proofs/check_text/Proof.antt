@@ -1,10 +1,11 @@
 -- `check_text`: 7 where the operands are cut (`command-cut`), else what the declaration that they make answers (`text-whole`).
 use mathlib.Core.Path.{_∙_}
 use native.Mathlib.Omega.{arith}
-use Rattle.entity.proofs.Commands.{command-cut, text-whole, size-one}
+use Rattle.entity.proofs.Commands.{size-one}
+use Rattle.tables.proofs.Commands.{command-cut, text-whole}
 use borrow.Author.Needs.{needs}
-use Rattle.entity.proofs.check_text.Statement.{statement}
-use Rattle.entity.proofs.check_text.Tie as tie
+use Rattle.tables.proofs.check_text.Statement.{statement}
+use Rattle.tables.proofs.check_text.Tie as tie
 
 sub-if1 : tie.Need-sub-if1
 sub-if1 c = search needs

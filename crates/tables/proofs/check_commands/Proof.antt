@@ -5,10 +5,11 @@ use borrow.Author.Needs.{needs}
 use borrow.Author.Tests.{eqb-true}
 use lib.ListN.{length, getD}
 use Prim.Native.Nat.{_-_}
-use Rattle.entity.specs.Steps.{Standing}
-use Rattle.entity.proofs.Commands.{start, refuses, goes-on, size-one, declares-one}
-use Rattle.entity.proofs.check_commands.Statement.{statement}
-use Rattle.entity.proofs.check_commands.Tie as tie
+use Rattle.tables.specs.Steps.{Standing}
+use Rattle.entity.proofs.Commands.{size-one, declares-one}
+use Rattle.tables.proofs.Commands.{start, refuses, goes-on}
+use Rattle.tables.proofs.check_commands.Statement.{statement}
+use Rattle.tables.proofs.check_commands.Tie as tie
 
 abbrev Inv-loop : tie.InvT-loop
 Inv-loop list pool ascii at₀ count₀ at count = Standing list pool at count

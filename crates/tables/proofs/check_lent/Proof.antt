@@ -1,9 +1,9 @@
 use mathlib.Core.Path.{_∙_}
 use native.Mathlib.Omega.{arith}
-use Rattle.entity.proofs.Commands.{short-list}
+use Rattle.tables.proofs.Commands.{short-list}
 use borrow.Author.Needs.{needs}
-use Rattle.entity.proofs.check_lent.Statement.{statement}
-use Rattle.entity.proofs.check_lent.Tie as tie
+use Rattle.tables.proofs.check_lent.Statement.{statement}
+use Rattle.tables.proofs.check_lent.Tie as tie
 
 check-end-requires : tie.Need-check-end-requires
 check-end-requires c κs = omega arith

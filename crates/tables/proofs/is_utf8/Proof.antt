@@ -1,7 +1,7 @@
-use Rattle.entity.proofs.Parts.{utf8-tested}
+use Rattle.tables.proofs.Parts.{utf8-tested}
 use borrow.Author.Needs.{needs}
-use Rattle.entity.proofs.is_utf8.Statement.{statement}
-use Rattle.entity.proofs.is_utf8.Tie as tie
+use Rattle.tables.proofs.is_utf8.Statement.{statement}
+use Rattle.tables.proofs.is_utf8.Tie as tie
 
 utf8-end-requires : tie.Need-utf8-end-requires
 utf8-end-requires c κs = search needs

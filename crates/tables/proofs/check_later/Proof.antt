@@ -6,11 +6,12 @@ use native.Mathlib.Omega.{arith}
 use borrow.Author.Needs.{needs}
 use lib.ListN.{length, getD}
 use Prim.Native.Nat.{_-_}
 use Rattle.entity.specs.Table.{declares}
-use Rattle.entity.specs.Steps.{Standing}
-use Rattle.entity.proofs.Commands.{finish, refuses, goes-on, size-some}
-use Rattle.entity.proofs.check_later.Statement.{statement}
-use Rattle.entity.proofs.check_later.Tie as tie
+use Rattle.tables.specs.Steps.{Standing}
+use Rattle.entity.proofs.Commands.{size-some}
+use Rattle.tables.proofs.Commands.{finish, refuses, goes-on}
+use Rattle.tables.proofs.check_later.Statement.{statement}
+use Rattle.tables.proofs.check_later.Tie as tie
 
 abbrev Inv-loop : tie.InvT-loop
 Inv-loop list pool ascii from before at₀ count₀ at count = Standing list pool at count

@@ -1,8 +1,8 @@
 -- `check_command`: what is no command 1 is a command 2 (`other-two`).
-use Rattle.entity.proofs.Commands.{other-two}
+use Rattle.tables.proofs.Commands.{other-two}
 use borrow.Author.Needs.{needs}
-use Rattle.entity.proofs.check_command.Statement.{statement}
-use Rattle.entity.proofs.check_command.Tie as tie
+use Rattle.tables.proofs.check_command.Statement.{statement}
+use Rattle.tables.proofs.check_command.Tie as tie
 
 shared-slice-read-if1 : tie.Need-shared-slice-read-if1
 shared-slice-read-if1 c = search needs

@@ -1,9 +1,10 @@
 use mathlib.Core.Path.{_∙_}
 use native.Mathlib.Omega.{arith}
-use Rattle.entity.proofs.Commands.{long-list, long-pool}
+use Rattle.entity.proofs.Commands.{long-list}
+use Rattle.tables.proofs.Commands.{long-pool}
 use borrow.Author.Needs.{needs}
-use Rattle.entity.proofs.check_table.Statement.{statement}
-use Rattle.entity.proofs.check_table.Tie as tie
+use Rattle.tables.proofs.check_table.Statement.{statement}
+use Rattle.tables.proofs.check_table.Tie as tie
 
 refused-requires : tie.Need-refused-requires
 refused-requires c κs = search needs
