@@ -116,10 +116,10 @@ table-valid list pool {declared} e = go (tableCheck list pool) refl (by-table No
     go (Done first second) q h k = checked-table list pool refl q
     go (Refused why first second) q h k = absurd (h cc)
 
--- the list `0` alone is an empty table, beside any pool of at most 1,048,576 bytes
-pub empty-accepted : (pool : List ℕ) → length pool ≤ 1048576 → EmptyTable (0 ∷ []) pool
+-- the lists `0` and, marked, `3 0` are empty tables, beside any pool of at most 1,048,576 bytes
+pub empty-accepted : (pool : List ℕ) → length pool ≤ 1048576 → EmptyTable (0 ∷ []) pool × EmptyTable (3 ∷ 0 ∷ []) pool
 unfolding checkTableCall tableCheck sizeCheck
-empty-accepted pool l = rw (le-ltb 1048576 (length pool) l) refl
+empty-accepted pool l = (rw (le-ltb 1048576 (length pool) l) refl, rw (le-ltb 1048576 (length pool) l) refl)
 
 -- an empty table declares nothing
 empty-declares : (list pool : List ℕ) → EmptyTable list pool → declarations list ≡ []

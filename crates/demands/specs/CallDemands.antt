@@ -66,7 +66,7 @@ pub data RefusesPiece (cursor : Cursor) : CDataNext → Type 0 where
 
 -- ---- demand 2
 
--- demand 2: an empty table is one that its check accepts with no definition: the list `0` alone, beside any pool that is not too long
+-- demand 2: an empty table is one that its check accepts with no definition: the list `0`, or marked `3 0` (K4), beside any pool that is not too long
 abbrev pub EmptyTable : List ℕ → List ℕ → Type 0
 EmptyTable list pool = checkTableCall list pool ≡ called 0 (0 ∷ 0 ∷ []) []
 

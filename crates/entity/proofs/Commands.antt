@@ -3,9 +3,9 @@ use mathlib.Core.Path.{_≡_, refl, ap, ap₂, sym, _∙_}
 use mathlib.Core.Logic.{_≢_}
 use mathlib.Core.Bool.{Bool, true, false, true≢false}
 use mathlib.Core.List.{List, [], _∷_}
-use Prim.Native.Nat.{ℕ, zero, suc, _+_, _≤_, _<_}
+use Prim.Native.Nat.{ℕ, zero, suc, _+_, _≤_, _<_, zero-le}
 use native.Mathlib.Omega.{arith}
-use native.Mathlib.Nat.{add-zero}
+use native.Mathlib.Nat.{add-zero, zero-add}
 use native.Mathlib.Numerals.{add-one}
 use lib.Dec.{eqb, ltb, lit≤}
 use lib.ListN.{length, getD, drop, length-drop}
@@ -15,7 +15,7 @@ use Rattle.text.specs.Bytes.{pick}
 use Rattle.text.specs.Call.{andThen, passed}
 use Rattle.text.specs.declared.Answer.{Answer}
 use Rattle.text.specs.declared.Answer.the-variants.{Done, Refused}
-use Rattle.entity.specs.Table.{Declaration, declares, declaration, declarationsFrom, runsPast, illFormed, declarationCheck, endCheck, commandsCheck, declarations, sizeCheck, tableCheck, operands}
+use Rattle.entity.specs.Table.{Declaration, markSize, declares, declaration, declarationsFrom, runsPast, illFormed, declarationCheck, endCheck, commandsCheck, declarations, sizeCheck, tableCheck, operands}
 use Rattle.entity.specs.Steps.{commandSize, declarationAt, commandCheck, IsDone}
 
 -- ---- answers that refuse nothing
@@ -34,7 +34,7 @@ both-done (Refused number first second) y h = absurd h
 -- ---- commands
 
 -- what is skipped is dropped
-skip-check : (pool l : List ℕ) (offset skip : ℕ) → skip ≤ length l → commandsCheck pool offset skip l ≡ commandsCheck pool (offset + skip) 0 (drop skip l)
+pub skip-check : (pool l : List ℕ) (offset skip : ℕ) → skip ≤ length l → commandsCheck pool offset skip l ≡ commandsCheck pool (offset + skip) 0 (drop skip l)
 unfolding commandsCheck
 skip-check pool l offset zero h = rw (add-zero offset)
 skip-check pool [] offset (suc skip) h = absurd (omega arith)
@@ -42,11 +42,24 @@ skip-check pool (b ∷ bs) offset (suc skip) h =
     let q : suc offset + skip ≡ offset + suc skip = omega arith in
     skip-check pool bs (suc offset) skip (omega arith) ∙ rw q
 
-skip-declarations : (l : List ℕ) (skip : ℕ) → declarationsFrom skip l ≡ declarationsFrom 0 (drop skip l)
+pub skip-declarations : (l : List ℕ) (skip : ℕ) → declarationsFrom skip l ≡ declarationsFrom 0 (drop skip l)
 unfolding declarationsFrom
 skip-declarations l zero = refl
 skip-declarations [] (suc skip) = refl
 skip-declarations (b ∷ bs) (suc skip) = skip-declarations bs skip
+
+-- the mark is a byte of the list, and its commands are those after it
+pub mark-fits : (list : List ℕ) → markSize list ≤ length list
+unfolding markSize
+mark-fits [] = zero-le
+mark-fits (b ∷ bs) = go (eqb b 3)
+  where
+    go : (t : Bool) → pick t 1 0 ≤ suc (length bs)
+    go true = omega arith
+    go false = omega arith
+
+pub past-mark : (list pool : List ℕ) → commandsCheck pool 0 (markSize list) list ≡ commandsCheck pool (markSize list) 0 (drop (markSize list) list)
+past-mark list pool = skip-check pool list 0 (markSize list) (mark-fits list) ∙ rw (zero-add (markSize list))
 
 -- the rest is checked after the declaration
 declaration-then : (pool : List ℕ) (at : ℕ) (d : Declaration) (rest : Answer) → declarationCheck pool at d rest ≡ andThen (declarationCheck pool at d passed) rest
@@ -180,6 +193,6 @@ command-done list pool at h =
     let q = passes (runsPast pool (declarationAt list at)) 8 at (pick (illFormed pool (declarationAt list at)) (Refused 9 at 0) passed) (p .1) in
     (ltb-false (length list) next (p .0), q .0, passes (illFormed pool (declarationAt list at)) 9 at passed (q .1) .0)
 
-pub long-list : (list pool : List ℕ) → 49153 < length list → Refused 6 0 0 ≡ tableCheck list pool
+pub long-list : (list pool : List ℕ) → 49154 < length list → Refused 6 0 0 ≡ tableCheck list pool
 unfolding tableCheck sizeCheck
-long-list list pool h = rw (lt-ltb 49153 (length list) h)
+long-list list pool h = rw (lt-ltb 49154 (length list) h)

@@ -9,7 +9,7 @@ use Rattle.entity.specs.Binding.{text, predefined, external, unknown, bi
 -- document 01, refusal 7: no end, bytes after the end, an unknown command, cut operands
 ends : (tableCheck [] [] ≡ Refused 7 0 0)
     × (tableCheck (0 ∷ 0 ∷ []) [] ≡ Refused 7 1 0)
-    × (tableCheck (3 ∷ []) [] ≡ Refused 7 0 0)
+    × (tableCheck (4 ∷ []) [] ≡ Refused 7 0 0)
     × (tableCheck (1 ∷ 0 ∷ 0 ∷ 0 ∷ []) [] ≡ Refused 7 0 0)
 unfolding tableCheck
 ends = (refl, refl, refl, refl)
@@ -89,3 +89,29 @@ external-binds : (tableCheck outer-first drawn ≡ Done 2 0)
     × (binding inner-first drawn (108 ∷ 116 ∷ []) ≡ external)
 unfolding tableCheck binding
 external-binds = (refl, refl, refl, refl, refl, refl)
+
+-- ---- K4: command 3
+
+-- the empty marked table; the mark alone; twice; after a command 1 that is good
+mark-places : (tableCheck (3 ∷ 0 ∷ []) [] ≡ Done 0 0)
+    × (tableCheck (3 ∷ []) [] ≡ Refused 7 1 0)
+    × (tableCheck (3 ∷ 3 ∷ 0 ∷ []) [] ≡ Refused 7 1 0)
+    × (tableCheck (1 ∷ 0 ∷ 0 ∷ 0 ∷ 0 ∷ 1 ∷ 1 ∷ 0 ∷ 0 ∷ 0 ∷ 1 ∷ 0 ∷ 3 ∷ 0 ∷ []) drawn ≡ Refused 7 12 0)
+unfolding tableCheck
+mark-places = (refl, refl, refl, refl)
+
+-- offsets count the mark: bytes after the end, cut operands, a name past the pool, an empty name
+mark-offsets : (tableCheck (3 ∷ 0 ∷ 0 ∷ []) [] ≡ Refused 7 2 0)
+    × (tableCheck (3 ∷ 1 ∷ 0 ∷ []) [] ≡ Refused 7 1 0)
+    × (tableCheck (3 ∷ 2 ∷ 0 ∷ 0 ∷ 0 ∷ 0 ∷ 2 ∷ 0 ∷ []) (101 ∷ []) ≡ Refused 8 1 0)
+    × (tableCheck (3 ∷ 1 ∷ 0 ∷ 0 ∷ 0 ∷ 0 ∷ 0 ∷ 0 ∷ 0 ∷ 0 ∷ 0 ∷ 0 ∷ 0 ∷ 0 ∷ []) [] ≡ Refused 9 1 0)
+unfolding tableCheck
+mark-offsets = (refl, refl, refl, refl)
+
+-- the mark is no definition, and binds nothing
+mark-binds : (tableCheck (3 ∷ inner-first) drawn ≡ Done 3 0)
+    × (binding (3 ∷ inner-first) drawn (101 ∷ []) ≡ text (120 ∷ []))
+    × (binding (3 ∷ inner-first) drawn (108 ∷ 116 ∷ []) ≡ external)
+    × (binding (3 ∷ 0 ∷ []) [] (108 ∷ 116 ∷ []) ≡ predefined (60 ∷ []))
+unfolding tableCheck binding
+mark-binds = (refl, refl, refl, refl)

@@ -16,13 +16,13 @@ use Rattle.text.specs.Blocks.{wordAt}
 use Rattle.text.specs.Call.{andThen}
 use Rattle.text.specs.declared.Answer.the-variants.{Done}
 use Rattle.text.proofs.Bytes.{equal-same, or-left}
-use Rattle.entity.specs.Table.{littleEndian, part, Declaration, declares, declaration, operands, nameOf, textOf, declarationsFrom, declarations, bodyPast, runsPast, commandsCheck, sizeCheck, tableCheck, ValidTable}
+use Rattle.entity.specs.Table.{littleEndian, part, Declaration, markSize, declares, declaration, operands, nameOf, textOf, declarationsFrom, declarations, bodyPast, runsPast, commandsCheck, sizeCheck, tableCheck, ValidTable}
 use Rattle.entity.specs.Binding.{text, bodyBound, bindingIn, binding, predefinedOf, boundTo, Lies}
 use Rattle.entity.specs.Commands.{commandName, commandText}
 use Rattle.entity.specs.Steps.{commandSize, commandCheck, TextAt, Agree, IsDone, Here}
 use Rattle.entity.specs.declared.Binding.{Binding}
 use Rattle.entity.specs.declared.Binding.the-variants.{Text, Predefined, External, Unknown}
-use Rattle.entity.proofs.Commands.{is-done, both-done, command-done, next-check, next-declaration, size-one, size-some, declares-one}
+use Rattle.entity.proofs.Commands.{is-done, both-done, skip-declarations, past-mark, command-done, next-check, next-declaration, size-one, size-some, declares-one}
 use Rattle.entity.proofs.Parts.{part-length, part-at, name-fits, text-fits}
 use Rattle.entity.proofs.Predefined.{not-same}
 use Rattle.entity.proofs.Reading.{bodyAt, body-text, declaration-at}
@@ -99,14 +99,19 @@ module _ (P : List ℕ → List ℕ → List ℕ → Type 0) (a b c : List ℕ) 
 
 -- ---- commands
 
-pub table-done : (list pool : List ℕ) → ValidTable list pool → IsDone (commandsCheck pool 0 0 list)
+pub table-done : (list pool : List ℕ) → ValidTable list pool → IsDone (commandsCheck pool 0 (markSize list) list)
 unfolding tableCheck
 table-done list pool e =
-    let p = both-done (sizeCheck list pool) (andThen (commandsCheck pool 0 0 list) (Done (length (declarations list)) 0)) (is-done e) in
-    both-done (commandsCheck pool 0 0 list) (Done (length (declarations list)) 0) (p .1) .0
+    let p = both-done (sizeCheck list pool) (andThen (commandsCheck pool 0 (markSize list) list) (Done (length (declarations list)) 0)) (is-done e) in
+    both-done (commandsCheck pool 0 (markSize list) list) (Done (length (declarations list)) 0) (p .1) .0
 
-pub begin : (list pool name : List ℕ) → ValidTable list pool → Here list pool name 0
-begin list pool name e = record { valid = table-done list pool e; is = unfold binding declarations in refl }
+-- a lookup starts after the mark; where that is is asked by itself
+pub begin : (list pool name : List ℕ) {at : ℕ} → ValidTable list pool → at ≡ markSize list → Here list pool name at
+unfolding binding declarations
+begin list pool name e q = subst (Here list pool name) (sym q) (record { valid = subst IsDone (past-mark list pool) (table-done list pool e); is = all })
+  where
+    all : bindingIn (declarationsFrom 0 (drop (markSize list) list)) pool name ≡ binding list pool name
+    all = ap (λ (ds : List Declaration). bindingIn ds pool name) (sym (skip-declarations list (markSize list)))
 
 -- the command's byte is there
 pub in-list : {list pool name : List ℕ} {at : ℕ} → Here list pool name at → at < length list
@@ -183,8 +188,8 @@ module _ {list pool name : List ℕ} {at : ℕ} (h : Here list pool name at) (is
   pub found : sameBytes (commandName list pool at) name ≡ true → binding list pool name ≡ bodyBound pool (bodyAt list at)
   found e = sym (h .is) ∙ rw e at turn
 
--- the last byte is the end
-pub last-over : {list pool name : List ℕ} {at : ℕ} → Here list pool name at → at + 1 ≡ length list → declares (getD list at 0) ≡ false
+-- fewer bytes than a command takes
+pub last-over : {list pool name : List ℕ} {at : ℕ} → Here list pool name at → length list < at + 6 → declares (getD list at 0) ≡ false
 last-over {list} {pool} {name} {at} h last = go (declares (getD list at 0)) refl
   where
     go : (t : Bool) → declares (getD list at 0) ≡ t → declares (getD list at 0) ≡ false

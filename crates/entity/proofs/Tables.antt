@@ -14,7 +14,7 @@ use Rattle.text.specs.declared.Answer.{Answer}
 use Rattle.text.specs.declared.Answer.the-variants.{Done, Refused}
 use Rattle.text.proofs.Bytes.{pick-by, pick-both, or-right}
 use Rattle.text.proofs.Utf8.{tested, ascii-well-formed}
-use Rattle.entity.specs.Table.{littleEndian, part, Body, inside, outside, Declaration, declares, declaration, nameOf, textOf, declarationsFrom, declarations, runsPast, illFormed, declarationCheck, endCheck, commandsCheck, sizeCheck, tableCheck, ValidTable, operands}
+use Rattle.entity.specs.Table.{littleEndian, part, Body, inside, outside, Declaration, markSize, declares, declaration, nameOf, textOf, declarationsFrom, declarations, runsPast, illFormed, declarationCheck, endCheck, commandsCheck, sizeCheck, tableCheck, ValidTable, operands}
 use Rattle.entity.specs.Binding.{Bound, text, predefined, unknown, predefinedOf, bodyBound, bindingIn, binding, ShortBound, GoodBound}
 use Rattle.entity.specs.Steps.{IsDone}
 use Rattle.entity.proofs.Commands.{is-done, passes, head-checked, long-list}
@@ -26,7 +26,7 @@ use Rattle.entity.proofs.Reading.{u16-small}
 -- a check that let the table pass: `r` is what it returned
 pub checked-table : (list pool : List ℕ) {r : Answer} {first second : ℕ} → r ≡ tableCheck list pool → r ≡ Done first second → ValidTable list pool
 unfolding tableCheck
-checked-table list pool e q = go (sizeCheck list pool) (commandsCheck pool 0 0 list) (sym e ∙ q)
+checked-table list pool e q = go (sizeCheck list pool) (commandsCheck pool 0 (markSize list) list) (sym e ∙ q)
   where
     go : (x y : Answer) {a b : ℕ} → andThen x (andThen y (Done (length (declarations list)) 0)) ≡ Done a b
         → andThen x (andThen y (Done (length (declarations list)) 0)) ≡ Done (length (declarations list)) 0
@@ -34,13 +34,13 @@ checked-table list pool e q = go (sizeCheck list pool) (commandsCheck pool 0 0 l
     go (Done c d) (Refused n f g) h = absurd (is-done h)
     go (Refused n f g) y h = absurd (is-done h)
 
--- its list is at most 49,153 bytes long: refusal 6
-pub valid-short : (list pool : List ℕ) → ValidTable list pool → length list ≤ 49153
-valid-short list pool e = go (ltb 49153 (length list)) refl
+-- its list is at most 49,154 bytes long: refusal 6
+pub valid-short : (list pool : List ℕ) → ValidTable list pool → length list ≤ 49154
+valid-short list pool e = go (ltb 49154 (length list)) refl
   where
-    go : (x : Bool) → ltb 49153 (length list) ≡ x → length list ≤ 49153
-    go true q = absurd (is-done (long-list list pool (ltb-true 49153 (length list) q) ∙ e))
-    go false q = ltb-false 49153 (length list) q
+    go : (x : Bool) → ltb 49154 (length list) ≡ x → length list ≤ 49154
+    go true q = absurd (is-done (long-list list pool (ltb-true 49154 (length list) q) ∙ e))
+    go false q = ltb-false 49154 (length list) q
 
 pub empty-valid : ValidTable (0 ∷ []) []
 unfolding tableCheck
@@ -138,7 +138,7 @@ list-good pool (b ∷ bs) offset zero h =
 -- What a valid table binds a name to is UTF-8: refusal 9 keeps other texts out.
 pub binding-good : (list pool : List ℕ) → ValidTable list pool → (name : List ℕ) → GoodBound (binding list pool name)
 unfolding binding declarations
-binding-good list pool e name = each-bound GoodBound pool five-good (declarations list) (list-good pool list 0 0 (table-done list pool e)) name
+binding-good list pool e name = each-bound GoodBound pool five-good (declarations list) (list-good pool list 0 (markSize list) (table-done list pool e)) name
 
 -- ---- lengths
 
@@ -164,7 +164,7 @@ list-short pool (b ∷ bs) zero small =
 -- the length of a text is written in two bytes
 pub binding-short : (list pool : List ℕ) → ((k : ℕ) → getD list k 0 < 0x100) → (name : List ℕ) → ShortBound (binding list pool name)
 unfolding binding declarations
-binding-short list pool small name = each-bound ShortBound pool five-short (declarations list) (list-short pool list 0 small) name
+binding-short list pool small name = each-bound ShortBound pool five-short (declarations list) (list-short pool list (markSize list) small) name
 
 -- ---- refusals by number
 
@@ -197,7 +197,7 @@ module _ (P : ℕ → Type 0) (six : P 6) (seven : P 7) (eight : P 8) (nine : P 
   -- a table is refused by 6 to 9
   pub table-answers : (list pool : List ℕ) → ByNumber P (tableCheck list pool)
   unfolding tableCheck sizeCheck
-  table-answers list pool = go (ltb 49153 (length list) || ltb 1048576 (length pool)) (commandsCheck pool 0 0 list) (by-commands pool 0 0 list)
+  table-answers list pool = go (ltb 49154 (length list) || ltb 1048576 (length pool)) (commandsCheck pool 0 (markSize list) list) (by-commands pool 0 (markSize list) list)
     where
       go : (t : Bool) (x : Answer) → ByNumber P x → ByNumber P (andThen (pick t (Refused 6 0 0) passed) (andThen x (Done (length (declarations list)) 0)))
       go true x h = six

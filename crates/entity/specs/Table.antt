@@ -1,4 +1,4 @@
--- The entity table: a command list and a pool of bytes (document 01, Entity table and Refusals by place; document 02, K9).
+-- The entity table: a command list and a pool of bytes (document 01, Entity table and Refusals by place; document 02, K4 and K9).
 -- Assumes nothing.
 use Prim.Native.Nat.{ℕ, zero, suc, _+_, _*_}
 use mathlib.Core.Path.{_≡_}
@@ -36,6 +36,11 @@ unfoldable pub marked : List ℕ → Bool
 marked [] = false
 marked (b ∷ bs) = eqb b 3
 
+-- K4: the mark takes up one byte
+unfoldable pub markSize : List ℕ → ℕ
+unfolding marked
+markSize list = pick (marked list) 1 0
+
 -- Entity table and K9: commands 1 and 2 declare a name
 unfoldable pub declares : ℕ → Bool
 declares b = eqb b 1 || eqb b 2
@@ -71,8 +76,8 @@ declarationsFrom (suc skip) (b ∷ bs) = declarationsFrom skip bs
 declarationsFrom zero (b ∷ bs) = let rest = declarationsFrom (operands b) bs in pick (declares b) (declaration b bs ∷ rest) []
 
 unfoldable pub declarations : List ℕ → List Declaration
-unfolding declarationsFrom
-declarations list = declarationsFrom 0 list
+unfolding declarationsFrom markSize
+declarations list = declarationsFrom (markSize list) list
 
 -- refusal 8: start plus length of name or text past the pool
 unfoldable pub bodyPast : List ℕ → Body → Bool
@@ -109,14 +114,14 @@ commandsCheck pool offset zero (b ∷ bs) =
     (pick (declares b) (pick (ltb (length bs) (operands b)) (Refused 7 offset 0) (declarationCheck pool offset (declaration b bs) rest))
     (Refused 7 offset 0))
 
--- refusal 6: list over 49,153 or pool over 1,048,576 bytes
+-- refusal 6: list over 49,154 (K4) or pool over 1,048,576 bytes
 unfoldable pub sizeCheck : List ℕ → List ℕ → Answer
-sizeCheck list pool = pick (ltb 49153 (length list) || ltb 1048576 (length pool)) (Refused 6 0 0) passed
+sizeCheck list pool = pick (ltb 49154 (length list) || ltb 1048576 (length pool)) (Refused 6 0 0) passed
 
 -- refusals 6 to 9; a table that none of them refuses answers with the number of its declarations
 unfoldable pub tableCheck : List ℕ → List ℕ → Answer
-unfolding sizeCheck commandsCheck declarations
-tableCheck list pool = andThen (sizeCheck list pool) (andThen (commandsCheck pool 0 0 list) (Done (length (declarations list)) 0))
+unfolding sizeCheck commandsCheck markSize declarations
+tableCheck list pool = andThen (sizeCheck list pool) (andThen (commandsCheck pool 0 (markSize list) list) (Done (length (declarations list)) 0))
 
 -- Canonical form: a table is valid when none of 6 to 9 refuses it
 abbrev pub ValidTable : List ℕ → List ℕ → Type 0

@@ -5,7 +5,7 @@ ghost use mathlib.Core.Bool.{true, false};
 ghost use mathlib.Core.List.{List, [], _∷_};
 ghost use lib.ListN.{length, getD};
 ghost use Rattle.text.specs.Bytes.{sameBytes};
-ghost use Rattle.entity.specs.Table.{littleEndian, part, marked, ValidTable};
+ghost use Rattle.entity.specs.Table.{littleEndian, part, marked, markSize, ValidTable};
 ghost use Rattle.entity.specs.Binding.{predefinedOf, binding, boundTo, Lies};
 ghost use Rattle.entity.specs.Commands.{commandName, Refers};
 ghost use Rattle.entity.specs.Steps.{commandSize, ReferentAt, TextAt, Agree, Here};
@@ -64,6 +64,16 @@ pub fn is_marked(list: &[u8]) -> bool
         return false;
     }
     list[0] == 3
+}
+
+// Where the list's commands begin.
+pub fn mark_size(list: &[u8]) -> usize
+    ensures { λ r. ⌜ r ≡ markSize (now (list .entry)) ⌝ }
+{
+    if is_marked(list) {
+        return 1;
+    }
+    0
 }
 
 pub fn command_size(command: u8) -> usize
@@ -254,7 +264,7 @@ pub fn find_entity(list: &[u8], pool: &[u8], name: &[u8]) -> Referent
     requires { ⌜ ValidTable (now list) (now pool) ⌝ }
     ensures { λ r. ⌜ Refers (now (list .entry)) (now (pool .entry)) (now (name .entry)) r ⌝ }
 {
-    let mut at: usize = 0;
+    let mut at = mark_size(list);
     'commands: loop {
         if list[at] != 1 {
             if at + 1 == list.len() {
@@ -329,7 +339,7 @@ pub fn resolve_short(list: &[u8], pool: &[u8], name: &[u8]) -> Binding
     ensures { λ r. ⌜ boundTo (now (pool .entry)) r ≡ binding (now (list .entry)) (now (pool .entry)) (now (name .entry)) ⌝ }
     ensures { λ r. ⌜ Lies (now (pool .entry)) r ⌝ }
 {
-    let mut at: usize = 0;
+    let mut at = mark_size(list);
     'commands: loop {
         if list[at] != 1 {
             if list[at] == 2 {

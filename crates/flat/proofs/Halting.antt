@@ -272,12 +272,12 @@ halt-blank r t list pool p deep old seen inside {w} blank {new} q =
 pub refers-part : {list pool name : List ℕ} {command start last : ℕ} → RefersTo list pool name command start last → length (take (last - start) (drop start pool)) ≤ 65535
 refers-part {list} {pool} {name} {command} {start} {last} k = omega (arith, length-take (last - start) (drop start pool), k .ends, k .defines .short)
 
-pub valid-short : (list pool : List ℕ) → ValidTable list pool → length list ≤ 49153
-valid-short list pool e = go (ltb 49153 (length list)) refl
+pub valid-short : (list pool : List ℕ) → ValidTable list pool → length list ≤ 49154
+valid-short list pool e = go (ltb 49154 (length list)) refl
   where
-    go : (x : Bool) → ltb 49153 (length list) ≡ x → length list ≤ 49153
+    go : (x : Bool) → ltb 49154 (length list) ≡ x → length list ≤ 49154
     go true q =
-        let z : Refused 6 0 0 ≡ Done (length (declarations list)) 0 = long-list list pool (ltb-true 49153 (length list) q) ∙ e in
+        let z : Refused 6 0 0 ≡ Done (length (declarations list)) 0 = long-list list pool (ltb-true 49154 (length list) q) ∙ e in
         let k : _≡_ {A = ℕ} 0 1 = cc in
         absurd (omega (arith, k))
-    go false q = ltb-false 49153 (length list) q
+    go false q = ltb-false 49154 (length list) q

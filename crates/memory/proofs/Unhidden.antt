@@ -4,7 +4,7 @@ use mathlib.Core.Path.{_≡_, refl, sym, ap, subst, _∙_}
 use mathlib.Core.Logic.{_≢_}
 use mathlib.Core.Bool.{Bool, true, false, true≢false}
 use mathlib.Core.List.{List, [], _∷_}
-use Prim.Native.Nat.{ℕ}
+use Prim.Native.Nat.{ℕ, _≤_}
 use native.Mathlib.Omega.{arith}
 use lib.Dec.{eqb}
 use lib.ListN.{length}
@@ -73,8 +73,8 @@ not-amp name b other p e =
     let is : name ≡ 97 ∷ 109 ∷ 112 ∷ [] = (named name b p) .is ∙ ap nameFor e in
     true≢false (sym (equal-same name) ∙ ap (sameBytes name) is ∙ other)
 
--- a list of one byte has no command, and hides no predefined name
-pub bare-unhidden : (list pool : List ℕ) (b : ℕ) → ValidTable list pool → length list ≡ 1 → Unhidden list pool b
-bare-unhidden list pool b valid one name p =
-    let here = begin list pool name valid in
-    sym (over here (last-over here (omega (arith, one)))) ∙ p
+-- a list of two bytes, the mark and the end, or of one has no command, and hides no predefined name
+pub bare-unhidden : (list pool : List ℕ) (b : ℕ) → ValidTable list pool → length list ≤ 2 → Unhidden list pool b
+bare-unhidden list pool b valid two name p =
+    let here = begin list pool name valid refl in
+    sym (over here (last-over here (omega (arith, two)))) ∙ p

@@ -118,7 +118,7 @@ pub fn is_plain(b: u8, seen: &[u64], list: &[u8]) -> bool
     requires { ⌜ (length (now seen) ≢ 0 → length (now seen) ≡ 84) ⌝ }
     ensures { λ r. ⌜ ((pool : List ℕ) → ValidTable (now (list .entry)) pool → Trusts (now (list .entry)) pool (now (seen .entry)) → b ≢ 38 → r ≡ true → Unhidden (now (list .entry)) pool b) ⌝ }
 {
-    if list.len() == 1 {
+    if list.len() <= 2 {
         return true;
     }
     if seen.len() == 0 {

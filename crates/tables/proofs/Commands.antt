@@ -10,16 +10,16 @@ use native.Mathlib.Numerals.{add-one}
 use lib.Dec.{eqb, leb, ltb}
 use lib.ListN.{length, getD, drop, drop-of-length-le}
 use lib.Seq.{drop-cons}
-use borrow.Author.Tests.{lt-ltb, le-ltb, eq-eqb, ne-eqb, ltb-true, ltb-false, leb-true, eqb-true}
+use borrow.Author.Tests.{lt-ltb, le-ltb, eq-eqb, ne-eqb, ltb-true, ltb-false, leb-true, eqb-true, eqb-false}
 use Rattle.text.specs.Bytes.{pick}
 use Rattle.text.specs.Call.{andThen, passed}
 use Rattle.text.specs.declared.Answer.{Answer}
 use Rattle.text.specs.declared.Answer.the-variants.{Done, Refused}
 use Rattle.text.proofs.Bytes.{and-left, and-right}
-use Rattle.entity.specs.Table.{littleEndian, Body, inside, outside, Declaration, declares, declaration, declarationsFrom, declarationCheck, endCheck, commandsCheck, declarations, sizeCheck, tableCheck, operands}
+use Rattle.entity.specs.Table.{littleEndian, Body, inside, outside, Declaration, markSize, declares, declaration, declarationsFrom, declarationCheck, endCheck, commandsCheck, declarations, sizeCheck, tableCheck, operands}
 use Rattle.entity.specs.Steps.{commandSize, declarationAt, commandCheck}
 use Rattle.entity.proofs.Reading.{body-text, body-outside, declaration-at}
-use Rattle.entity.proofs.Commands.{is-done, no-end, next-declaration, next-check, size-one, size-some, command-done}
+use Rattle.entity.proofs.Commands.{is-done, no-end, skip-declarations, mark-fits, past-mark, next-declaration, next-check, size-one, size-some, command-done}
 use Rattle.tables.specs.Steps.{lastCheck, answerFrom, Standing}
 use Rattle.tables.proofs.Parts.{outside-empty}
 
@@ -115,18 +115,26 @@ module _ (list pool : List ℕ) (at : ℕ) {name n : ℕ} (is-name : name ≡ li
       ∙ ap (λ (x : Declaration). declarationCheck pool at x passed) d ∙ command-whole list pool at (size-two two) h
 
 module _ (list pool : List ℕ) where
-  pub start : length list ≤ 49153 → length pool ≤ 1048576 → Standing list pool 0 0
-  start h k =
-      record {
-        fits = omega arith;
+  -- a check starts after the mark; where that is is asked by itself
+  pub start : {at : ℕ} → at ≡ markSize list → length list ≤ 49154 → length pool ≤ 1048576 → Standing list pool at 0
+  start q h k =
+      subst (λ (n : ℕ). Standing list pool n 0) (sym q) (record {
+        fits = mark-fits list;
         few = omega arith;
         short = h;
-        is = unfold answerFrom tableCheck sizeCheck declarations in rw (le-ltb 49153 (length list) h, le-ltb 1048576 (length pool) k, zero-add (length (declarationsFrom 0 list)));
-      }
+        is = unfold answerFrom tableCheck sizeCheck declarations in
+            rw (
+              le-ltb 49154 (length list) h,
+              le-ltb 1048576 (length pool) k,
+              zero-add (length (declarationsFrom 0 (drop (markSize list) list))),
+              past-mark list pool,
+              skip-declarations list (markSize list),
+            );
+      })
 
-  pub long-pool : length list ≤ 49153 → 1048576 < length pool → Refused 6 0 0 ≡ tableCheck list pool
+  pub long-pool : length list ≤ 49154 → 1048576 < length pool → Refused 6 0 0 ≡ tableCheck list pool
   unfolding tableCheck sizeCheck
-  long-pool h k = rw (le-ltb 49153 (length list) h, lt-ltb 1048576 (length pool) k)
+  long-pool h k = rw (le-ltb 49154 (length list) h, lt-ltb 1048576 (length pool) k)
 
   module _ (at count : ℕ) (s : Standing list pool at count) where
     pub finish : (at < length list → declares (getD list at 0) ≡ false) → lastCheck (drop at list) at count ≡ tableCheck list pool
@@ -172,23 +180,24 @@ module _ (list pool : List ℕ) where
                 is = unfold answerFrom in sym (rw e at turn) ∙ s .is;
               }
 
--- a list of one byte has no command: its end answers, also where it is the first byte of one
-short-last : (list : List ℕ) → length list ≡ 1 → declares (getD list 0 0) ≡ true → lastCheck list 0 0 ≡ Refused 7 0 0
-unfolding lastCheck
-short-last [] h e = absurd (omega arith)
-short-last (x ∷ xs) h e = rw (no-end x e)
+    -- too few bytes for a command: the list's end answers, also at the first byte of one
+    pub short-end : length list < at + 6 → lastCheck (drop at list) at count ≡ tableCheck list pool
+    short-end few = go (ltb at (length list)) refl (declares (getD list at 0)) refl
+      where
+        go : (t : Bool) → ltb at (length list) ≡ t → (u : Bool) → declares (getD list at 0) ≡ u → lastCheck (drop at list) at count ≡ tableCheck list pool
+        go false h u e = finish (λ l. absurd (omega (arith, l, ltb-false at (length list) h)))
+        go true h false e = finish (λ l. e)
+        go true h true e =
+            let l = ltb-true at (length list) h in
+            let r = command-cut list pool at {size = commandSize (getD list at 0)} refl (omega (arith, few, size-some (getD list at 0))) in
+            sym (last-other list at count l (λ z. eqb-false (getD list at 0) 0 (no-end (getD list at 0) e) z)) ∙ r ∙ refuses l e (sym r)
 
-pub short-list : (list pool : List ℕ) → eqb (length list) 1 && leb (length pool) 1048576 ≡ true → lastCheck list 0 0 ≡ tableCheck list pool
-short-list list pool t = go (declares (getD list 0 0)) refl
+-- a list of one byte has no command
+pub short-list : (list pool : List ℕ) {at : ℕ} → at ≡ markSize list → eqb (length list) 1 && leb (length pool) 1048576 ≡ true → lastCheck (drop at list) at 0 ≡ tableCheck list pool
+short-list list pool {at} q t = short-end list pool at 0 (start list pool q (omega (arith, one)) fits) (omega (arith, one))
   where
     one : length list ≡ 1
     one = eqb-true (length list) 1 (and-left (eqb (length list) 1) (leb (length pool) 1048576) t)
 
-    before : Standing list pool 0 0
-    before = start list pool (omega (arith, one)) (leb-true (length pool) 1048576 (and-right (eqb (length list) 1) (leb (length pool) 1048576) t))
-
-    go : (u : Bool) → declares (getD list 0 0) ≡ u → lastCheck list 0 0 ≡ tableCheck list pool
-    go false e = finish list pool 0 0 before (λ l. e)
-    go true e =
-        let r = command-cut list pool 0 {size = commandSize (getD list 0 0)} refl (omega (arith, one, size-some (getD list 0 0))) in
-        short-last list one e ∙ r ∙ refuses list pool 0 0 before (omega (arith, one)) e (sym r)
+    fits : length pool ≤ 1048576
+    fits = leb-true (length pool) 1048576 (and-right (eqb (length list) 1) (leb (length pool) 1048576) t)

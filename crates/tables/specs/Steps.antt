@@ -26,5 +26,5 @@ answerFrom list pool at count = andThen (commandsCheck pool at 0 (drop at list))
 pub record Standing (list pool : List ℕ) (at count : ℕ) : Type 0 where
   pub fits : at ≤ length list
   pub few : count ≤ at
-  pub short : length list ≤ 49153
+  pub short : length list ≤ 49154
   pub is : answerFrom list pool at count ≡ tableCheck list pool

@@ -45,7 +45,7 @@ fn ill_formed(name: &[u8], text: &[u8]) -> bool
 
 // A pool that is long for its list is not searched: its parts are checked one by one.
 fn ascii_of(list: &[u8], pool: &[u8]) -> usize
-    requires { ⌜ length (now list) ≤ 49153 ⌝ }
+    requires { ⌜ length (now list) ≤ 49154 ⌝ }
     ensures { λ r. ⌜ Ascii (now (pool .entry)) r ⌝ }
 {
     if pool.len() <= 32 * list.len() {
@@ -184,11 +184,11 @@ fn check_later(list: &[u8], pool: &[u8], ascii: usize, from: usize, before: u64)
 
 // Refusals 7 to 9, else the number of declarations. Commands 1 are checked in a loop of their own, as most lists have no others.
 fn check_commands(list: &[u8], pool: &[u8]) -> Answer
-    requires { ⌜ (length (now list) ≤ 49153) × (length (now pool) ≤ 1048576) ⌝ }
+    requires { ⌜ (length (now list) ≤ 49154) × (length (now pool) ≤ 1048576) ⌝ }
     ensures { λ r. ⌜ r ≡ tableCheck (now (list .entry)) (now (pool .entry)) ⌝ }
 {
     let ascii = ascii_of(list, pool);
-    let mut at: usize = 0;
+    let mut at = entity::mark_size(list);
     let mut count: u64 = 0;
     while at < list.len() && list[at] == 1 {
         let checked = check_text(list, pool, at, ascii);
@@ -209,7 +209,7 @@ fn check_commands(list: &[u8], pool: &[u8]) -> Answer
 pub fn check_table(list: &[u8], pool: &[u8]) -> Answer
     ensures { λ r. ⌜ r ≡ tableCheck (now (list .entry)) (now (pool .entry)) ⌝ }
 {
-    if 49153 < list.len() {
+    if 49154 < list.len() {
         return refused(refusals::TABLE_TOO_LONG, 0);
     }
     if 1048576 < pool.len() {
@@ -224,7 +224,7 @@ pub fn check_lent(list: &[u8], pool: &[u8]) -> Answer
     ensures { λ r. ⌜ r ≡ tableCheck (now (list .entry)) (now (pool .entry)) ⌝ }
 {
     if (list.len() == 1) & (pool.len() <= 1048576) {
-        return check_end(list, 0, 0);
+        return check_end(list, entity::mark_size(list), 0);
     }
     check_table(list, pool)
 }

@@ -34,11 +34,14 @@ Long = tie.Else3 Inv-bytes μ-bytes Inv-commands μ-commands
 abbrev Byte : Type 0
 Byte = tie.Else4 Inv-bytes μ-bytes Inv-commands μ-commands
 
-abbrev entry : One → tie.Start Inv-bytes μ-bytes Inv-commands μ-commands
-entry c = c .before .before .before .before .before .before
+abbrev asked-of : tie.At-commands Inv-bytes μ-bytes Inv-commands μ-commands → tie.Start Inv-bytes μ-bytes Inv-commands μ-commands
+asked-of t = t .before .before .before .before .before
 
 abbrev turn : One → tie.At-commands Inv-bytes μ-bytes Inv-commands μ-commands
 turn c = c .before .before
+
+abbrev entry : One → tie.Start Inv-bytes μ-bytes Inv-commands μ-commands
+entry c = asked-of (turn c)
 
 abbrev one : Long → One
 one c = c .before .before .before
@@ -58,10 +61,13 @@ inside : (c : tie.After-u32-at Inv-bytes μ-bytes Inv-commands μ-commands)
     → c .u32-at .result + length (entry (one (c .before)) .args .name .now) ≤ length (entry (one (c .before)) .args .pool .now)
 inside c = let k = known (one (c .before)) in omega arith
 
+mark-size-requires : tie.Need-mark-size-requires Inv-bytes μ-bytes Inv-commands μ-commands
+mark-size-requires c κs = search needs
+
 commands-holds : tie.Need-commands-holds Inv-bytes μ-bytes Inv-commands μ-commands
 commands-holds c =
-    let asked = c .before .before .before in
-    begin (asked .args .list .now) (asked .args .pool .now) (asked .args .name .now) (asked .pre)
+    let asked = c .before .before .before .before in
+    begin (asked .args .list .now) (asked .args .pool .now) (asked .args .name .now) (asked .pre) (c .mark-size .ensures)
 
 shared-slice-read-if1 : tie.Need-shared-slice-read-if1 Inv-bytes μ-bytes Inv-commands μ-commands
 shared-slice-read-if1 c = in-list (c .before .commands .inv)
@@ -74,24 +80,24 @@ slice-aggregate-find-later :
     tie.Need-slice-aggregate-find-later Inv-bytes μ-bytes Inv-commands μ-commands
 slice-aggregate-find-later c =
     let t = c .before .before .before .before .before in
-    ap length (sym (whole-part (t .before .before .before .before .args .list .now)))
+    ap length (sym (whole-part (asked-of t .args .list .now)))
 
 slice-aggregate-find-later-2 :
     tie.Need-slice-aggregate-find-later-2 Inv-bytes μ-bytes Inv-commands μ-commands
 slice-aggregate-find-later-2 c =
     let t = c .before .before .before .before .before .before in
-    ap length (sym (whole-part (t .before .before .before .before .args .pool .now)))
+    ap length (sym (whole-part (asked-of t .args .pool .now)))
 
 slice-aggregate-find-later-3 :
     tie.Need-slice-aggregate-find-later-3 Inv-bytes μ-bytes Inv-commands μ-commands
 slice-aggregate-find-later-3 c =
     let t = c .before .before .before .before .before .before .before in
-    ap length (sym (whole-part (t .before .before .before .before .args .name .now)))
+    ap length (sym (whole-part (asked-of t .args .name .now)))
 
 find-later-requires : tie.Need-find-later-requires Inv-bytes μ-bytes Inv-commands μ-commands
 find-later-requires c κs =
     let t = c .before .before .before .before .before .before .before in
-    let asked = t .before .before .before .before .args in
+    let asked = asked-of t .args in
     as-parts (λ (l p n : List ℕ). Here l p n (t .commands .at)) (asked .list .now) (asked .pool .now) (asked .name .now) (t .commands .inv)
 
 binding-of-requires : tie.Need-binding-of-requires Inv-bytes μ-bytes Inv-commands μ-commands
@@ -185,7 +191,7 @@ returns : tie.Need-returns Inv-bytes μ-bytes Inv-commands μ-commands
 returns c =
     let later = c .before in
     let t = later .before .before .before .before .before .before .before .before in
-    let asked = t .before .before .before .before .args in
+    let asked = asked-of t .args in
     c .binding-of .ensures (asked .list .now) (asked .pool .now) (asked .name .now)
     (of-parts (λ (l p n : List ℕ). Refers l p n (later .find-later .result)) (asked .list .now) (asked .pool .now) (asked .name .now) (later .find-later .ensures))
 
@@ -194,7 +200,7 @@ returns-2 : tie.Need-returns-2 Inv-bytes μ-bytes Inv-commands μ-commands
 returns-2 c =
     let other = c .before in
     let at = other .before .before .before .before in
-    let pool = at .before .before .before .before .args .pool .now in (
+    let pool = asked-of at .args .pool .now in (
       c .resolve-xml-entity .ensures .0 pool ∙ over (at .commands .inv) (other-declares (other .before .before .if1 .taken) (λ e. omega (arith, e, other .if2 .left))),
       c .resolve-xml-entity .ensures .1 pool,
     )
@@ -221,6 +227,7 @@ resolve-short-spec =
     μ-bytes
     Inv-commands
     μ-commands
+    mark-size-requires
     commands-holds
     shared-slice-read-if1
     shared-slice-read-if2

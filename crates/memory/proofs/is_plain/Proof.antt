@@ -1,4 +1,4 @@
--- `is_plain`: a list of one byte hides nothing (`bare-unhidden`), and a word that is set says it of its name (`Trusts`). Assumes nothing.
+-- `is_plain`: a list of at most two bytes hides nothing (`bare-unhidden`), and a word that is set says it of its name (`Trusts`). Assumes nothing.
 use mathlib.Core.Path.{sym, ap, _∙_}
 use mathlib.Core.Bool.{not, true≢false}
 use native.Mathlib.Omega.{arith}

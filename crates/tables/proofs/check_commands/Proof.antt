@@ -28,7 +28,7 @@ abbrev turn : Checked → tie.At-loop Inv-loop μ-loop
 turn c = test c .before
 
 abbrev entry : Checked → tie.Start Inv-loop μ-loop
-entry c = turn c .before .before .before .before
+entry c = turn c .before .before .before .before .before
 
 -- the command's byte is 1
 one : (c : Checked) → getD (entry c .args .list .now) (turn c .loop .at) 0 ≡ 1
@@ -37,10 +37,13 @@ one c = eqb-true _ _ (c .before .if1 .taken)
 ascii-of-requires : tie.Need-ascii-of-requires Inv-loop μ-loop
 ascii-of-requires c κs = c .before .before .pre .0
 
+mark-size-requires : tie.Need-mark-size-requires Inv-loop μ-loop
+mark-size-requires c κs = search needs
+
 loop-holds : tie.Need-loop-holds Inv-loop μ-loop
 loop-holds c =
-    let asked = c .before .before .before in
-    start (asked .args .list .now) (asked .args .pool .now) (asked .pre .0) (asked .pre .1)
+    let asked = c .before .before .before .before in
+    start (asked .args .list .now) (asked .args .pool .now) (c .mark-size .ensures) (asked .pre .0) (asked .pre .1)
 
 shared-slice-read-if1 : tie.Need-shared-slice-read-if1 Inv-loop μ-loop
 shared-slice-read-if1 c = c .before .loop-test .taken
@@ -48,7 +51,7 @@ shared-slice-read-if1 c = c .before .loop-test .taken
 check-text-requires : tie.Need-check-text-requires Inv-loop μ-loop
 check-text-requires c κs =
     let t = c .before .before in
-    ((t .loop-test .taken, eqb-true _ _ (c .if1 .taken)), t .before .before .ascii-of .ensures)
+    ((t .loop-test .taken, eqb-true _ _ (c .if1 .taken)), t .before .before .before .ascii-of .ensures)
 
 enum-told : tie.Need-enum-told Inv-loop μ-loop
 enum-told c = search needs
@@ -84,7 +87,7 @@ loop-again c =
     (sym (k .check-text .ensures) ∙ c .enum-told .given .1) (size-one (one k))
 
 check-later-requires : tie.Need-check-later-requires Inv-loop μ-loop
-check-later-requires c κs = let l = c .before in (l .loop .inv, l .before .ascii-of .ensures)
+check-later-requires c κs = let l = c .before in (l .loop .inv, l .before .before .ascii-of .ensures)
 
 returns-2 : tie.Need-returns-2 Inv-loop μ-loop
 returns-2 c = c .check-later .ensures
@@ -96,6 +99,7 @@ check-commands-spec =
     Inv-loop
     μ-loop
     ascii-of-requires
+    mark-size-requires
     loop-holds
     shared-slice-read-if1
     check-text-requires
