@@ -75,6 +75,7 @@ declarationsFrom skip [] = []
 declarationsFrom (suc skip) (b ∷ bs) = declarationsFrom skip bs
 declarationsFrom zero (b ∷ bs) = let rest = declarationsFrom (operands b) bs in pick (declares b) (declaration b bs ∷ rest) []
 
+-- Entity table: the declarations of a list; K4: after its mark
 unfoldable pub declarations : List ℕ → List Declaration
 unfolding declarationsFrom markSize
 declarations list = declarationsFrom (markSize list) list

@@ -1,7 +1,7 @@
 -- The check of a table, one command after the other. Assumes nothing.
 use mathlib.Core.Path.{_≡_, refl, ap, sym, subst, _∙_}
 use mathlib.Core.Logic.{_≢_}
-use mathlib.Core.Bool.{Bool, true, false, true≢false, _&&_}
+use mathlib.Core.Bool.{Bool, true, false, true≢false, _&&_, _||_}
 use mathlib.Core.List.{List, [], _∷_}
 use Prim.Native.Nat.{ℕ, suc, _+_, _≤_, _<_}
 use native.Mathlib.Omega.{arith}
@@ -31,6 +31,11 @@ size-two {b} e = sym (ap commandSize e)
 pub other-two : {b : ℕ} → declares b ≡ true → b ≢ 1 → b ≡ 2
 unfolding declares
 other-two {b} e other = eqb-true b 2 (rw (ne-eqb b 1 other) at e)
+
+-- what a test by two numbers says; these are asked by themselves, so that another command is refused as a number
+pub declares-by : (b m n : ℕ) {t : Bool} → eqb b m || eqb b n ≡ t → m ≡ 1 → n ≡ 2 → declares b ≡ t
+unfolding declares
+declares-by b m n e one two = rw (one, two) at e
 
 -- no declaration any more
 answer-last : (pool l : List ℕ) (at count : ℕ) → ((b : ℕ) (bs : List ℕ) → l ≡ b ∷ bs → declares b ≡ false)

@@ -9,7 +9,7 @@ use Prim.Native.Nat.{_-_}
 use Rattle.entity.specs.Table.{declares}
 use Rattle.tables.specs.Steps.{Standing}
 use Rattle.entity.proofs.Commands.{size-some}
-use Rattle.tables.proofs.Commands.{finish, refuses, goes-on}
+use Rattle.tables.proofs.Commands.{declares-by, finish, refuses, goes-on}
 use Rattle.tables.proofs.check_later.Statement.{statement}
 use Rattle.tables.proofs.check_later.Tie as tie
 
@@ -34,8 +34,7 @@ entry c = turn c .before .before .before
 
 -- the command's byte declares
 is : (c : Checked) → declares (getD (entry c .args .list .now) (turn c .loop .at) 0) ≡ true
-unfolding declares
-is c = c .before .if1 .taken
+is c = declares-by _ _ _ (c .before .if1 .taken) (omega arith) (omega arith)
 
 loop-holds : tie.Need-loop-holds Inv-loop μ-loop
 loop-holds c = c .before .before .pre .0
@@ -47,10 +46,9 @@ shared-slice-read-if1-2 : tie.Need-shared-slice-read-if1-2 Inv-loop μ-loop
 shared-slice-read-if1-2 c = c .before .before .loop-test .taken
 
 check-command-requires : tie.Need-check-command-requires Inv-loop μ-loop
-unfolding declares
 check-command-requires c κs =
     let t = c .before .before .before in
-    ((t .loop-test .taken, c .if1 .taken), t .before .before .before .before .pre .1)
+    ((t .loop-test .taken, declares-by _ _ _ (c .if1 .taken) (omega arith) (omega arith)), t .before .before .before .before .pre .1)
 
 enum-told : tie.Need-enum-told Inv-loop μ-loop
 enum-told c = search needs
@@ -98,14 +96,13 @@ check-end-requires : tie.Need-check-end-requires Inv-loop μ-loop
 check-end-requires c κs = c .before .loop .inv .fits
 
 returns-2 : tie.Need-returns-2 Inv-loop μ-loop
-unfolding declares
 returns-2 c =
     let left = c .before in
     let l = left .before .loop in
     let asked = left .before .before .before .before .args in
     c .check-end .ensures
     ∙ finish (asked .list .now) (asked .pool .now) (l .at) (l .count) (l .inv)
-    (λ h. ⊎-elim (λ w. w .3 .left) (λ w. absurd (omega (arith, w .left, h))) (left .loop-test .came))
+    (λ h. ⊎-elim (λ w. declares-by _ _ _ (w .3 .left) (omega arith) (omega arith)) (λ w. absurd (omega (arith, w .left, h))) (left .loop-test .came))
 
 pub check-later-spec : {M : Type 1} → statement M
 check-later-spec =
