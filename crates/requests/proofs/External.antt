@@ -38,7 +38,7 @@ use Rattle.requests.specs.External.{stopOf, stopIn, endsName, FirstRefer
 -- ---- up to the first reference
 
 -- a name without `;` runs to the next one
-name-ended : (inner : Bool) (name after : List ℕ) → anyStop (endsName inner) name ≡ false → nameAt inner (name ++ 59 ∷ after) ≡ ended name
+pub name-ended : (inner : Bool) (name after : List ℕ) → anyStop (endsName inner) name ≡ false → nameAt inner (name ++ 59 ∷ after) ≡ ended name
 unfolding nameAt
 name-ended inner [] after e = refl
 name-ended inner (b ∷ bs) after e =
@@ -47,7 +47,7 @@ name-ended inner (b ∷ bs) after e =
     rw (or-left (eqb b 59) (inner && eqb b 38) here, or-right (eqb b 59) (inner && eqb b 38) here, rest)
 
 -- and a reference to it is one to a name
-name-head : (offset : ℕ) (name : List ℕ) → getD name 0 0 ≢ 35 → referenceTo offset name name ≡ head (stop (named offset name)) (suc (length name))
+pub name-head : (offset : ℕ) (name : List ℕ) → getD name 0 0 ≢ 35 → referenceTo offset name name ≡ head (stop (named offset name)) (suc (length name))
 unfolding referenceTo
 name-head offset [] h = refl
 name-head offset (b ∷ bs) h = rw (ne-eqb b 35 h)
@@ -76,6 +76,10 @@ first-refusal inner stops at c amp f t before name r n e =
     rw (r .is) (run-copied stops at c f before rest 0 n (r .copied) ∙ rw (zero-add (length before), here, ends, is, e))
 
 -- ---- values
+
+pub amp-value : (r : Rule) (offset : ℕ) (bs : List ℕ) → attributeHead r offset 38 bs ≡ referenceAt offset bs (nameAt false bs)
+unfolding attributeHead
+amp-value r offset bs = refl
 
 -- a text, however it is read
 module _ (s : Settings) (depth how : ℕ) (t before name : List ℕ) (first : FirstReference false (stopByte (eqb how 1)) t before name)
