@@ -108,7 +108,7 @@ table-numbers =
       nine = not0 9 (omega arith);
     }
 
-table-valid : (list pool : List ℕ) {declared : ℕ} → checkTableCall list pool ≡ called 0 (declared ∷ 0 ∷ []) [] → ValidTable list pool
+pub table-valid : (list pool : List ℕ) {declared : ℕ} → checkTableCall list pool ≡ called 0 (declared ∷ 0 ∷ []) [] → ValidTable list pool
 unfolding checkTableCall
 table-valid list pool {declared} e = go (tableCheck list pool) refl (by-table Not0 table-numbers list pool) e
   where
