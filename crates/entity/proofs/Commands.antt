@@ -15,7 +15,7 @@ use Rattle.text.specs.Bytes.{pick}
 use Rattle.text.specs.Call.{andThen, passed}
 use Rattle.text.specs.declared.Answer.{Answer}
 use Rattle.text.specs.declared.Answer.the-variants.{Done, Refused}
-use Rattle.entity.specs.Table.{Declaration, markSize, declares, declaration, declarationsFrom, runsPast, illFormed, declarationCheck, endCheck, commandsCheck, declarations, sizeCheck, tableCheck, operands}
+use Rattle.entity.specs.Table.{Declaration, marked, markSize, declares, declaration, declarationsFrom, runsPast, illFormed, declarationCheck, endCheck, commandsCheck, declarations, sizeCheck, tableCheck, operands}
 use Rattle.entity.specs.Steps.{commandSize, declarationAt, commandCheck, IsDone}
 
 -- ---- answers that refuse nothing
@@ -57,6 +57,10 @@ mark-fits (b ∷ bs) = go (eqb b 3)
     go : (t : Bool) → pick t 1 0 ≤ suc (length bs)
     go true = omega arith
     go false = omega arith
+
+pub mark-is : (list : List ℕ) {t : Bool} → t ≡ marked list → pick t 1 0 ≡ markSize list
+unfolding markSize
+mark-is list e = ap (λ (x : Bool). pick x 1 0) e
 
 pub past-mark : (list pool : List ℕ) → commandsCheck pool 0 (markSize list) list ≡ commandsCheck pool (markSize list) 0 (drop (markSize list) list)
 past-mark list pool = skip-check pool list 0 (markSize list) (mark-fits list) ∙ rw (zero-add (markSize list))

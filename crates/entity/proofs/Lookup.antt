@@ -3,20 +3,21 @@ use mathlib.Core.Path.{_≡_, refl, ap, ap₂, sym, subst, _∙_}
 use mathlib.Core.Logic.{_≢_}
 use mathlib.Core.Bool.{Bool, true, false, true≢false}
 use mathlib.Core.List.{List, [], _∷_}
-use Prim.Native.Nat.{ℕ, suc, _+_, _-_, _≤_, _<_, zero-le}
+use Prim.Native.Nat.{ℕ, zero, suc, _+_, _-_, _≤_, _<_, zero-le}
 use native.Mathlib.Omega.{arith}
 use native.Mathlib.Nat.{le-refl}
-use lib.Dec.{ltb}
-use lib.ListN.{length, getD, take, drop, drop-of-length-le}
+use lib.Dec.{eqb, ltb}
+use lib.ListN.{length, getD, take, drop, length-drop, drop-of-length-le}
 use lib.Seq.{drop-cons, ext-getD, take-all}
 use borrow.Author.Count.{below-none, below-more}
-use borrow.Author.Tests.{ne-eqb, ltb-true, ltb-false}
+use borrow.Author.Tests.{ne-eqb, eqb-true, ltb-true, ltb-false}
 use Rattle.text.specs.Bytes.{pick, sameBytes}
 use Rattle.text.specs.Blocks.{wordAt}
 use Rattle.text.specs.Call.{andThen}
-use Rattle.text.specs.declared.Answer.the-variants.{Done}
+use Rattle.text.specs.declared.Answer.{Answer}
+use Rattle.text.specs.declared.Answer.the-variants.{Done, Refused}
 use Rattle.text.proofs.Bytes.{equal-same, or-left}
-use Rattle.entity.specs.Table.{littleEndian, part, Declaration, markSize, declares, declaration, operands, nameOf, textOf, declarationsFrom, declarations, bodyPast, runsPast, commandsCheck, sizeCheck, tableCheck, ValidTable}
+use Rattle.entity.specs.Table.{littleEndian, part, Declaration, markSize, declares, declaration, operands, nameOf, textOf, declarationsFrom, declarations, bodyPast, runsPast, illFormed, declarationCheck, endCheck, commandsCheck, sizeCheck, tableCheck, ValidTable}
 use Rattle.entity.specs.Binding.{text, bodyBound, bindingIn, binding, predefinedOf, boundTo, Lies}
 use Rattle.entity.specs.Commands.{commandName, commandText}
 use Rattle.entity.specs.Steps.{commandSize, commandCheck, TextAt, Agree, IsDone, Here}
@@ -112,6 +113,75 @@ begin list pool name e q = subst (Here list pool name) (sym q) (record { valid =
   where
     all : bindingIn (declarationsFrom 0 (drop (markSize list) list)) pool name ≡ binding list pool name
     all = ap (λ (ds : List Declaration). bindingIn ds pool name) (sym (skip-declarations list (markSize list)))
+
+-- ---- the list after its mark, as a list of its own
+
+-- where a check counts from does not change whether it refuses
+done-anywhere : (pool l : List ℕ) (a b skip : ℕ) → IsDone (commandsCheck pool a skip l) → IsDone (commandsCheck pool b skip l)
+unfolding commandsCheck declarationCheck endCheck
+done-anywhere pool [] a b skip h = absurd h
+done-anywhere pool (x ∷ xs) a b (suc skip) h = done-anywhere pool xs (suc a) (suc b) skip h
+done-anywhere pool (x ∷ xs) a b zero h =
+    go (endCheck xs (suc a)) (endCheck xs (suc b)) (commandsCheck pool (suc a) (operands x) xs) (commandsCheck pool (suc b) (operands x) xs) (eqb x 0) (declares x) (ltb (length xs) (operands x)) (runsPast pool d) (illFormed pool d) (ends xs) (done-anywhere pool xs (suc a) (suc b) (operands x)) h
+  where
+    d : Declaration
+    d = declaration x xs
+
+    ends : (l : List ℕ) → IsDone (endCheck l (suc a)) → IsDone (endCheck l (suc b))
+    ends [] k = k
+    ends (y ∷ ys) k = absurd k
+
+    answer : ℕ → Answer → Answer → (z t c p i : Bool) → Answer
+    answer n end rest z t c p i = pick z end (pick t (pick c (Refused 7 n 0) (pick p (Refused 8 n 0) (pick i (Refused 9 n 0) rest))) (Refused 7 n 0))
+
+    go : (ea eb ra rb : Answer) (z t c p i : Bool) → (IsDone ea → IsDone eb) → (IsDone ra → IsDone rb) → IsDone (answer a ea ra z t c p i) → IsDone (answer b eb rb z t c p i)
+    go ea eb ra rb true t c p i e r k = e k
+    go ea eb ra rb false false c p i e r k = absurd k
+    go ea eb ra rb false true true p i e r k = absurd k
+    go ea eb ra rb false true false true i e r k = absurd k
+    go ea eb ra rb false true false false true e r k = absurd k
+    go ea eb ra rb false true false false false e r k = r k
+
+-- no second mark
+unmarked : (pool l : List ℕ) (at : ℕ) → IsDone (commandsCheck pool at 0 l) → markSize l ≡ 0
+unfolding commandsCheck markSize
+unmarked pool [] at h = refl
+unmarked pool (x ∷ xs) at h = go (eqb x 3) refl
+  where
+    go : (t : Bool) → eqb x 3 ≡ t → markSize (x ∷ xs) ≡ 0
+    go true e = absurd (subst (λ (n : ℕ). IsDone (commandsCheck pool at 0 (n ∷ xs))) (eqb-true x 3 e) h)
+    go false e = rw e
+
+module _ (list pool : List ℕ) (e : ValidTable list pool) where
+  abbrev rest : List ℕ
+  rest = drop (markSize list) list
+
+  rest-done : IsDone (commandsCheck pool (markSize list) 0 rest)
+  rest-done = subst IsDone (past-mark list pool) (table-done list pool e)
+
+  none : markSize rest ≡ 0
+  none = unmarked pool rest (markSize list) rest-done
+
+  pub rest-binds : (name : List ℕ) → binding rest pool name ≡ binding list pool name
+  unfolding binding declarations
+  rest-binds name = ap (λ (ds : List Declaration). bindingIn ds pool name) (ap (λ (n : ℕ). declarationsFrom n rest) none ∙ sym (skip-declarations list (markSize list)))
+
+  -- the rest as the code lends it
+  pub rest-is : {from : ℕ} → from ≡ markSize list → take (length list - from) (drop from list) ≡ rest
+  rest-is {from} q = take-all (length list - from) (drop from list) (omega (arith, length-drop from list)) ∙ ap (λ (n : ℕ). drop n list) q
+
+  pub begin-rest : (name : List ℕ) {from : ℕ} → from ≡ markSize list → Here (take (length list - from) (drop from list)) pool name 0
+  unfolding binding declarations
+  begin-rest name q = subst (λ (l : List ℕ). Here l pool name 0) (sym (rest-is q)) here
+    where
+      here : Here rest pool name 0
+      here =
+          record {
+            valid = done-anywhere pool rest (markSize list) 0 0 rest-done;
+            is = ap (λ (n : ℕ). bindingIn (declarationsFrom n rest) pool name) (sym none);
+          }
+
+-- ---- a command
 
 -- the command's byte is there
 pub in-list : {list pool name : List ℕ} {at : ℕ} → Here list pool name at → at < length list

@@ -34,7 +34,7 @@ module _ (bytes : List ℕ) (i : ℕ) where
   u16-small small = omega (arith, u16-sum, small i, small (i + 1))
 
 -- a number of the list's rest
-little-drop : (k : ℕ) (bytes : List ℕ) (i width : ℕ) → littleEndian (drop k bytes) i width ≡ littleEndian bytes (k + i) width
+pub little-drop : (k : ℕ) (bytes : List ℕ) (i width : ℕ) → littleEndian (drop k bytes) i width ≡ littleEndian bytes (k + i) width
 unfolding littleEndian
 little-drop k bytes i zero = refl
 little-drop k bytes i (suc width) =

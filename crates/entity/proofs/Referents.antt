@@ -1,14 +1,15 @@
 -- What a name refers to, by a command of the table or as predefined: `defines-hit` and `refers-hit` where a lookup stops at a command,
 -- `refers-plain` where it stops at none, and `refers-binding`, that a referent is what the name is bound to. Assumes nothing.
-use mathlib.Core.Path.{_≡_, refl, sym, ap, subst, _∙_}
+use mathlib.Core.Path.{_≡_, refl, sym, ap, ap₂, subst, _∙_}
 use mathlib.Core.Bool.{Bool, true, false}
 use mathlib.Core.List.{List, [], _∷_}
-use Prim.Native.Nat.{ℕ, _+_, _-_, _≤_}
+use Prim.Native.Nat.{ℕ, _+_, _-_, _≤_, _<_}
 use native.Mathlib.Omega.{arith}
-use lib.ListN.{getD}
+use lib.ListN.{length, getD, take, drop, length-drop}
+use lib.Seq.{getD-drop}
 use Rattle.text.specs.Bytes.{pick, sameBytes}
 use Rattle.text.proofs.Bytes.{same-equal}
-use Rattle.entity.specs.Table.{littleEndian, part, Body, inside, outside, Declaration, declares, nameOf, declarations}
+use Rattle.entity.specs.Table.{littleEndian, part, Body, inside, outside, Declaration, markSize, declares, nameOf, declarations, ValidTable}
 use Rattle.entity.specs.Binding.{Bound, text, predefined, external, unknown, predefinedOf, bodyBound, bindingIn, binding, boundTo, Lies}
 use Rattle.entity.specs.Commands.{commandName, commandText, Defines, RefersTo, Refers}
 use Rattle.entity.specs.Steps.{ReferentAt, Here}
@@ -16,8 +17,9 @@ use Rattle.entity.specs.declared.Binding.{Binding}
 use Rattle.entity.specs.declared.Binding.the-variants.{Text, Predefined, External, Unknown}
 use Rattle.entity.specs.declared.Referent.{Referent}
 use Rattle.entity.specs.declared.Referent.the-variants.{Text as Inside, Predefined as Plain, External as Outside, Unknown as Nothing}
-use Rattle.entity.proofs.Lookup.{command, hit, found}
-use Rattle.entity.proofs.Reading.{body-outside}
+use Rattle.entity.proofs.Commands.{mark-fits}
+use Rattle.entity.proofs.Lookup.{rest-binds, rest-is, command, hit, found}
+use Rattle.entity.proofs.Reading.{little-drop, body-outside}
 
 -- ---- a command that defines its name
 
@@ -125,6 +127,67 @@ bound-predefined (d ∷ ds) pool name t e = go (sameBytes (nameOf pool d) name) 
 pub predefined-binding : (list pool name t : List ℕ) → binding list pool name ≡ predefined t → predefinedOf name ≡ predefined t
 unfolding binding
 predefined-binding list pool name t e = bound-predefined (declarations list) pool name t e
+
+-- ---- a list after its mark
+
+-- the referent with its command counted from the mark on
+abbrev pub movedBy : ℕ → Referent → Referent
+movedBy m (Inside c start end) = Inside (m + c) start end
+movedBy m (Plain b) = Plain b
+movedBy m Outside = Outside
+movedBy m Nothing = Nothing
+
+module _ (list pool : List ℕ) (valid : ValidTable list pool) where
+  abbrev m : ℕ
+  m = markSize list
+
+  number : (c k width : ℕ) → littleEndian (drop m list) (c + k) width ≡ littleEndian list (m + c + k) width
+  number c k width = let q : m + (c + k) ≡ m + c + k = omega arith in little-drop m list (c + k) width ∙ ap (λ (n : ℕ). littleEndian list n width) q
+
+  byte : (c k : ℕ) → getD (drop m list) (c + k) 0 ≡ getD list (m + c + k) 0
+  byte c k = let q : m + (c + k) ≡ m + c + k = omega arith in getD-drop m list (c + k) 0 ∙ ap (λ (n : ℕ). getD list n 0) q
+
+  same-name : (c : ℕ) → commandName (drop m list) pool c ≡ commandName list pool (m + c)
+  same-name c = ap₂ (part pool) (number c 1 4) (byte c 5)
+
+  same-text : (c : ℕ) → commandText (drop m list) pool c ≡ commandText list pool (m + c)
+  same-text c = ap₂ (part pool) (number c 6 4) (number c 10 2)
+
+  moved-defines : (c : ℕ) → Defines (drop m list) pool c → Defines list pool (m + c)
+  moved-defines c d =
+      record {
+        fits = omega (arith, d .fits, length-drop m list, mark-fits list);
+        name = omega (arith, d .name, number c 1 4, byte c 5);
+        inside = omega (arith, d .inside, number c 6 4, number c 10 2);
+        short = omega (arith, d .short, number c 10 2);
+        binds = sym (rest-binds list pool valid (commandName list pool (m + c))) ∙ ap (binding (drop m list) pool) (sym (same-name c)) ∙ d .binds ∙ ap text (same-text c);
+      }
+
+  moved-cases : (name : List ℕ) (r : Referent) → Refers (drop m list) pool name r → Refers list pool name (movedBy m r)
+  moved-cases name (Inside c start end) k =
+      record {
+        defines = moved-defines c (k .defines);
+        same = ap (λ (n : List ℕ). sameBytes n name) (sym (same-name c)) ∙ k .same;
+        starts = k .starts ∙ number c 6 4;
+        ends = k .ends ∙ ap (λ (n : ℕ). start + n) (number c 10 2);
+      }
+  moved-cases name (Plain b) k = (k .0, k .1, sym (rest-binds list pool valid name) ∙ k .2)
+  moved-cases name Outside k = sym (rest-binds list pool valid name) ∙ k
+  moved-cases name Nothing k = sym (rest-binds list pool valid name) ∙ k
+
+  -- what a lookup in the rest found; where the mark ends is asked by itself
+  module _ (name : List ℕ) {from : ℕ} (q : from ≡ markSize list) (r : Referent) (k : Refers (take (length list - from) (drop from list)) pool name r) where
+    in-rest : Refers (drop m list) pool name r
+    in-rest = subst (λ (l : List ℕ). Refers l pool name r) (rest-is list pool valid q) k
+
+    pub refers-moved : {x : Referent} → r ≡ x → Refers list pool name (movedBy from x)
+    refers-moved {x} is =
+        subst (λ (n : ℕ). Refers list pool name (movedBy n x)) (sym q) (subst (λ (y : Referent). Refers list pool name (movedBy m y)) is (moved-cases name r in-rest))
+
+    pub moved-fits : {c start end : ℕ} → r ≡ Inside c start end → from + c < length list
+    moved-fits {c} {start} {end} is =
+        let d = subst (λ (y : Referent). Refers list pool name (movedBy m y)) is (moved-cases name r in-rest) .defines in
+        omega (arith, q, d .fits)
 
 -- ---- both agree with what the name is bound to
 

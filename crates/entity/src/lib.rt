@@ -257,14 +257,14 @@ fn find_later(list: &[u8], pool: &[u8], name: &[u8], from: usize) -> Referent
     plain_referent(name)
 }
 
-// What a name refers to: the first command that has it, else one of the five, else nothing. Commands 1 have a loop of their own, as
+// What a name refers to in a list without mark: the first command that has it, else one of the five, else nothing. Commands 1 have a loop of their own, as
 // most lists have no others; that the list is over is seen by its length, so that the loop keeps no byte for a second test. A command's
 // text is decoded once, outside the loop over the bytes.
-pub fn find_entity(list: &[u8], pool: &[u8], name: &[u8]) -> Referent
-    requires { ⌜ ValidTable (now list) (now pool) ⌝ }
+fn find_unmarked(list: &[u8], pool: &[u8], name: &[u8]) -> Referent
+    requires { ⌜ Here (now list) (now pool) (now name) 0 ⌝ }
     ensures { λ r. ⌜ Refers (now (list .entry)) (now (pool .entry)) (now (name .entry)) r ⌝ }
 {
-    let mut at = mark_size(list);
+    let mut at: usize = 0;
     'commands: loop {
         if list[at] != 1 {
             if at + 1 == list.len() {
@@ -305,6 +305,31 @@ pub fn find_entity(list: &[u8], pool: &[u8], name: &[u8]) -> Referent
             i += 1;
         }
         at += 12;
+    }
+}
+
+// The same in a list that may be marked: the rest after the mark is searched as a list of its own. A loop that begins at 0 or 1 takes 13
+// instructions for each name in place of 11, and 12 where the mark's size is kept beside it.
+pub fn find_entity(list: &[u8], pool: &[u8], name: &[u8]) -> Referent
+    requires { ⌜ ValidTable (now list) (now pool) ⌝ }
+    ensures { λ r. ⌜ Refers (now (list .entry)) (now (pool .entry)) (now (name .entry)) r ⌝ }
+{
+    if !is_marked(list) {
+        return find_unmarked(list, pool, name);
+    }
+    match find_unmarked(&list[1..], pool, name) {
+        Referent::Text {
+            command,
+            start,
+            end,
+        } => Referent::Text {
+            command: 1 + command,
+            start,
+            end,
+        },
+        Referent::Predefined(b) => Referent::Predefined(b),
+        Referent::External => Referent::External,
+        Referent::Unknown => Referent::Unknown,
     }
 }
 
