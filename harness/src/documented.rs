@@ -6,12 +6,21 @@ use crate::arguments::{Arguments, Sink};
 use crate::draft::{Draft, Entity};
 
 pub struct Documented {
-    entities: &'static [Entity<'static>],
+    given: Given,
     pub text: &'static str,
     choice: u8,
     depth: u64,
     limit: u64,
     outcome: Outcome,
+}
+
+/// The table.
+enum Given {
+    Entities(&'static [Entity<'static>]),
+    /// After a mark.
+    Marked(&'static [Entity<'static>]),
+    /// List and pool as they are.
+    Bytes(&'static [u8], &'static [u8]),
 }
 
 pub enum Outcome {
@@ -23,7 +32,7 @@ pub enum Outcome {
 
 pub const fn row(text: &'static str, choice: u8, outcome: Outcome) -> Documented {
     Documented {
-        entities: &[],
+        given: Given::Entities(&[]),
         text,
         choice,
         depth: 1,
@@ -41,13 +50,36 @@ pub const fn within(depth: u64, limit: u64, row: Documented) -> Documented {
 }
 
 pub const fn with(entities: &'static [Entity<'static>], row: Documented) -> Documented {
-    Documented { entities, ..row }
+    let given = Given::Entities(entities);
+    Documented { given, ..row }
+}
+
+pub const fn marked(entities: &'static [Entity<'static>], row: Documented) -> Documented {
+    let given = Given::Marked(entities);
+    Documented { given, ..row }
+}
+
+/// A table without a text.
+pub const fn table(list: &'static [u8], pool: &'static [u8], outcome: Outcome) -> Documented {
+    let given = Given::Bytes(list, pool);
+    Documented {
+        given,
+        ..row("", 0, outcome)
+    }
 }
 
 impl Documented {
     /// Its input.
     pub fn give(&self, sink: &mut Sink) {
-        let draft = Draft::of_entities(self.entities.iter().copied());
+        let of = |entities: &[Entity<'static>]| Draft::of_entities(entities.iter().copied());
+        let draft = match self.given {
+            Given::Entities(entities) => of(entities),
+            Given::Marked(entities) => of(entities).marked(),
+            Given::Bytes(list, pool) => Draft {
+                list: list.to_vec(),
+                pool: pool.to_vec(),
+            },
+        };
         sink(Arguments {
             choice: self.choice,
             depth: self.depth,
@@ -58,7 +90,7 @@ impl Documented {
     }
 
     /// What is expected instead; nothing where it is the row's answer.
-    pub fn differs(&self, expected: fn(&Arguments) -> Answer) -> Option<Answer> {
+    pub fn differs(&self, expected: impl Fn(&Arguments) -> Answer) -> Option<Answer> {
         let mut answer = refusal(0, 0);
         self.give(&mut |arguments| answer = expected(&arguments));
         let found = (answer.number, answer.first, answer.second);

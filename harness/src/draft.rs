@@ -1,6 +1,6 @@
 //! Entity tables as they are written, sound or not.
 
-use crate::table::{Table, DECLARE_EXTERNAL, DEFINE, END};
+use crate::table::{Table, DECLARE_EXTERNAL, DEFINE, END, MARK};
 
 /// A table as it is written.
 #[derive(Clone, Default)]
@@ -70,6 +70,20 @@ impl Draft {
     pub fn ended(mut self) -> Self {
         self.list.push(END);
         self
+    }
+
+    /// The same with a mark before its commands.
+    pub fn marked(mut self) -> Self {
+        self.list.insert(0, MARK);
+        self
+    }
+
+    /// With a mark or without.
+    pub fn marked_if(self, is_marked: bool) -> Self {
+        match is_marked {
+            true => self.marked(),
+            false => self,
+        }
     }
 
     pub fn table(&self) -> Table<'_> {

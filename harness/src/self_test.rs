@@ -6,7 +6,6 @@ use crate::comparison::{Comparison, Reading};
 use crate::faults;
 use crate::lent::{Lent, Run};
 use crate::random::{Random, DEFAULT_SEED};
-use crate::table::has_external;
 
 /// True: the documents' rows are what is expected, every wrong library and every wrong reading is caught, and the real ones are not.
 pub fn run(calls: &[&Call]) -> bool {
@@ -41,6 +40,12 @@ pub fn run(calls: &[&Call]) -> bool {
             let caught = is_caught(call, &itself(call.run), Some(&wrong), call.families);
             judge(&format!("reading: {name}"), caught);
         }
+        for &(name, misreading) in faults::marked::of(call) {
+            let wrong = |arguments: &Arguments| misreading(arguments, real);
+            let mut rows = call.documented.iter();
+            let caught = rows.any(|row| row.differs(wrong).is_some());
+            judge(&format!("reading of marked lists: {name}"), caught);
+        }
     }
     println!("self-test: {rows} rows of the documents, {tried} wrong libraries and readings, {missed} failures");
     missed == 0
@@ -48,8 +53,9 @@ pub fn run(calls: &[&Call]) -> bool {
 
 /// Whether the Rust answers: else what is expected is the reading, which differs from every wrong one.
 fn is_the_rusts(arguments: &Arguments) -> bool {
-    let definitions = arguments.table.definitions();
-    definitions.is_ok_and(|definitions| !has_external(&definitions))
+    let table = arguments.table;
+    let definitions = table.definitions();
+    definitions.is_ok_and(|definitions| table.is_the_rusts(&definitions))
 }
 
 fn itself(run: Run) -> impl Fn(&Lent) -> u32 {

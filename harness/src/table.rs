@@ -3,7 +3,7 @@
 
 use crate::rust::escape::resolve_xml_entity;
 
-pub const LONGEST_LIST: usize = 49_153;
+pub const LONGEST_LIST: usize = 49_154;
 pub const LONGEST_POOL: usize = 1_048_576;
 pub const LONGEST_NAME: usize = 255;
 pub const LONGEST_REPLACEMENT: usize = 65_535;
@@ -15,6 +15,8 @@ pub const DEFINITION: usize = 12;
 /// An external entity (K9): the command byte, name start u32, name length u8.
 pub const DECLARE_EXTERNAL: u8 = 2;
 pub const EXTERNAL_DECLARATION: usize = 6;
+/// As a list's first byte it says that the texts are past line ends (K4). No definition, and without operands.
+pub const MARK: u8 = 3;
 
 /// A table as it is lent.
 #[derive(Clone, Copy)]
@@ -46,7 +48,7 @@ impl<'a> Table<'a> {
             return Err((6, 0));
         }
         let mut definitions = vec![];
-        let mut at = 0;
+        let mut at = self.start();
         loop {
             match self.list.get(at) {
                 Some(&END) if at + 1 == self.list.len() => return Ok(definitions),
@@ -60,6 +62,20 @@ impl<'a> Table<'a> {
                 None => return Err((7, at)),
             }
         }
+    }
+
+    pub fn is_marked(self) -> bool {
+        self.list.first() == Some(&MARK)
+    }
+
+    /// Where the first command after a mark stands.
+    pub fn start(self) -> usize {
+        usize::from(self.is_marked())
+    }
+
+    /// Whether the Rust can be asked about a table of these definitions: it knows neither external entities nor marked lists.
+    pub fn is_the_rusts(self, definitions: &[Definition]) -> bool {
+        !self.is_marked() && definitions.iter().all(|defined| defined.text.is_some())
     }
 
     /// What a whole command defines, or the number by which it is refused.
@@ -94,9 +110,9 @@ impl<'a> Table<'a> {
         self.pool.get(start..start + little_endian(length))
     }
 
-    /// The commands of a list that has whole commands and nothing else before its end.
+    /// The commands of a list that has whole commands and nothing else before its end, but for a mark.
     pub fn commands(self) -> Option<Vec<&'a [u8]>> {
-        let (end, mut rest) = self.list.split_last()?;
+        let (end, mut rest) = self.list[self.start()..].split_last()?;
         let mut commands = vec![];
         while let Some(&command) = rest.first() {
             let (whole, after) = rest.split_at_checked(size(command)?)?;
@@ -139,9 +155,4 @@ pub fn look_up<'a>(definitions: &[Definition<'a>], name: &str) -> Meaning<'a> {
         Some(defined) => defined.text.map_or(Meaning::External, Meaning::Defined),
         None => resolve_xml_entity(name).map_or(Meaning::Nothing, Meaning::Predefined),
     }
-}
-
-/// Whether the Rust can be asked: it knows no external entities.
-pub fn has_external(definitions: &[Definition]) -> bool {
-    definitions.iter().any(|defined| defined.text.is_none())
 }

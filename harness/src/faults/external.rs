@@ -47,7 +47,7 @@ unsafe fn has_external(lent: &Lent, number: u32) -> bool {
 
 unsafe fn asked_for_12(lent: &Lent, real: Run) -> u32 {
     let number = real(lent);
-    let mut at = 0;
+    let mut at = table(lent).start();
     for command in accepted(lent, number).unwrap_or_default() {
         if at + DEFINITION > lent.list_length {
             return refused(lent, 7, at);
@@ -59,7 +59,7 @@ unsafe fn asked_for_12(lent: &Lent, real: Run) -> u32 {
 
 unsafe fn unknown_command(lent: &Lent, real: Run) -> u32 {
     let number = real(lent);
-    let mut at = 0;
+    let mut at = table(lent).start();
     for command in accepted(lent, number).unwrap_or_default() {
         if is_external(command) {
             return refused(lent, 7, at);
@@ -71,7 +71,7 @@ unsafe fn unknown_command(lent: &Lent, real: Run) -> u32 {
 
 unsafe fn refused_many(lent: &Lent, real: Run) -> u32 {
     let number = real(lent);
-    let most = (LONGEST_LIST - 1) / DEFINITION;
+    let most = (LONGEST_LIST - 2) / DEFINITION;
     match accepted(lent, number) {
         Some(commands) if commands.len() > most => refused(lent, 6, 0),
         _ => number,

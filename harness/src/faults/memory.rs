@@ -119,6 +119,8 @@ struct Walk<'a> {
     definitions: HashMap<&'a [u8], &'a [u8]>,
     slots: [Option<Kept<'a>>; SLOTS],
     openings: u64,
+    /// The version whose stops texts of the table have: those of a marked list have the older one's.
+    inner: u8,
 }
 
 impl<'a> Walk<'a> {
@@ -130,17 +132,21 @@ impl<'a> Walk<'a> {
             definitions: definitions(lent),
             slots: [None; SLOTS],
             openings: 0,
+            inner: match table(lent).is_marked() {
+                true => 0,
+                false => lent.choice,
+            },
         }
     }
 
     /// Whether neither 16 nor 17 comes.
     unsafe fn ends(mut self) -> bool {
-        self.passes(text(self.lent), self.lent.depth)
+        self.passes(text(self.lent), self.lent.choice, self.lent.depth)
     }
 
-    unsafe fn passes(&mut self, text: &'a [u8], depth: u64) -> bool {
+    unsafe fn passes(&mut self, text: &'a [u8], choice: u8, depth: u64) -> bool {
         if depth == 0 {
-            return !self.stops(text);
+            return !self.stops(text, choice);
         }
         let mut rest = text;
         while let Some((_, name, after)) = split(rest) {
@@ -169,7 +175,7 @@ impl<'a> Walk<'a> {
             return false;
         }
         self.openings += 1;
-        let passes = self.passes(text, depth);
+        let passes = self.passes(text, self.inner, depth);
         self.slots[slot] = Some(Kept {
             name,
             depth,
@@ -179,11 +185,12 @@ impl<'a> Walk<'a> {
     }
 
     /// Whether the text is refused at depth 0, which the version decides.
-    unsafe fn stops(&self, text: &[u8]) -> bool {
+    unsafe fn stops(&self, text: &[u8], choice: u8) -> bool {
         let mut answer = [0; 2];
         let number = (self.real)(&Lent {
             text: text.as_ptr(),
             text_length: text.len(),
+            choice,
             depth: 0,
             list: [END].as_ptr(),
             list_length: 1,

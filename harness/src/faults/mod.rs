@@ -2,6 +2,7 @@
 
 pub mod answer;
 pub mod external;
+pub mod marked;
 pub mod memory;
 pub mod output;
 pub mod parts;

@@ -3,7 +3,7 @@
 use super::parts::table;
 use crate::call::Faults;
 use crate::lent::{Lent, Run};
-use crate::table::{size, END, LONGEST_LIST, LONGEST_POOL};
+use crate::table::{size, END, LONGEST_LIST, LONGEST_POOL, MARK};
 use std::borrow::Borrow;
 
 pub const TABLE: Faults = &[
@@ -39,8 +39,10 @@ pub unsafe fn refused(lent: &Lent, number: u32, first: usize) -> u32 {
     number
 }
 
+/// After a mark where the list has one.
 pub unsafe fn with_commands(lent: &Lent, real: Run, commands: &[impl Borrow<[u8]>]) -> u32 {
-    let list = [commands.concat(), vec![END]].concat();
+    let mark = vec![MARK; table(lent).start()];
+    let list = [mark, commands.concat(), vec![END]].concat();
     real(&Lent {
         list: list.as_ptr(),
         list_length: list.len(),
@@ -70,7 +72,7 @@ unsafe fn list_first(lent: &Lent, real: Run) -> u32 {
         return number;
     }
     let list = table(lent).list;
-    let mut at = 0;
+    let mut at = table(lent).start();
     loop {
         match list.get(at) {
             Some(&END) if at + 1 == list.len() => return number,

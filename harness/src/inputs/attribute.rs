@@ -7,7 +7,7 @@ use super::sizes::BLOCK_ENDS;
 use super::tables::few;
 use super::text::{woven, Mix};
 use super::woven::Subject;
-use super::{entities, external, memory, sizes, tables};
+use super::{entities, external, marked, memory, sizes, tables};
 use crate::arguments::{Arguments, Family, Room, Sink};
 use crate::arguments::{DEEPEST, LONGEST_TEXT, MOST_OPENINGS, MOST_SPARE, ROOMS};
 use crate::draft::Draft;
@@ -25,6 +25,8 @@ pub const FAMILIES: &[Family] = &[
     every_setting,
     external::every_order,
     external::every_small_table,
+    marked::every_small_table,
+    marked::every_text,
     tables::limits,
     entities::text_before_table,
     entities::lookups,
@@ -75,6 +77,7 @@ impl Subject for Attribute {
     fn seams(random: &mut Random, sink: &mut Sink) {
         every_row(sink);
         external::seams(sink);
+        marked::seams(sink);
         refused_seams(sink);
         for room in ROOMS {
             for scratch in ROOMS {
@@ -390,7 +393,7 @@ pub fn every_setting(_: &mut Random, sink: &mut Sink) {
     });
 }
 
-/// Every replacement text of up to 3 pieces, two of them one in the other.
+/// Every replacement text of up to 3 pieces, two of them one in the other, past line ends or not.
 pub fn every_replacement(_: &mut Random, sink: &mut Sink) {
     for length in 0..=3 {
         every_sequence(Attribute::PIECES, length, &mut |pieces| {
@@ -398,16 +401,18 @@ pub fn every_replacement(_: &mut Random, sink: &mut Sink) {
             draft.define(b"a", b"1&b;2");
             draft.define(b"b", &pieces.concat());
             let draft = draft.ended();
-            for choice in [0, 2] {
-                for depth in [2, 3, 4] {
-                    sink(Arguments {
-                        choice,
-                        depth,
-                        limit: 4,
-                        table: draft.table(),
-                        room: Room::Spare(9),
-                        ..Arguments::text(b"x&b;y&a;z")
-                    });
+            for draft in [draft.clone(), draft.marked()] {
+                for choice in [0, 2] {
+                    for depth in [2, 3, 4] {
+                        sink(Arguments {
+                            choice,
+                            depth,
+                            limit: 4,
+                            table: draft.table(),
+                            room: Room::Spare(9),
+                            ..Arguments::text(b"x&b;y&a;z")
+                        });
+                    }
                 }
             }
         });
@@ -415,10 +420,13 @@ pub fn every_replacement(_: &mut Random, sink: &mut Sink) {
 }
 
 /// Chains of texts, one in the other, at the depth and the limit that they need, less and more.
-pub fn nested(_: &mut Random, sink: &mut Sink) {
+pub fn nested(random: &mut Random, sink: &mut Sink) {
     for length in [1, 2, 3, 64, 126, 127, 128, 129, 140] {
-        for last in ["x", "", "\t", "½", "&lt;", "&amp;", "&", "&none;", "&#0;"] {
+        for last in [
+            "x", "", "\t", "½", "\r\n", "&lt;", "&amp;", "&", "&none;", "&#0;",
+        ] {
             let draft = chain(length, last);
+            let drafts = [draft.clone(), draft.marked()];
             for depth in [length - 1, length, length + 1, DEEPEST as usize] {
                 for limit in [length - 1, length, length + 1] {
                     for choice in [0, 2] {
@@ -426,7 +434,7 @@ pub fn nested(_: &mut Random, sink: &mut Sink) {
                             choice,
                             depth: depth as u64,
                             limit: limit as u64,
-                            table: draft.table(),
+                            table: random.pick(&[&drafts[0], &drafts[1]]).table(),
                             ..Arguments::text(b"ab&n0;c")
                         });
                     }

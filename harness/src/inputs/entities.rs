@@ -69,11 +69,12 @@ pub fn referring(
 
 /// The input with one of the few tables, mostly the one whose names are plain, or a random one.
 pub fn with_some_table(random: &mut Random, arguments: Arguments, sink: &mut Sink) {
-    let index = match random.below(9) {
+    let index = match random.below(10) {
         0 => 0,
         1..=3 => 1,
         4 => 2,
         5 => 3,
+        6 => 4,
         _ => {
             let draft = random_draft(random);
             return sink(Arguments {
@@ -112,7 +113,7 @@ pub fn damaged_tables(random: &mut Random, sink: &mut Sink) {
         let mut draft = random_draft(random);
         for _ in 0..1 + random.below(2) {
             match random.below(2) {
-                0 => spoil_at_random(random, &mut draft.list, &[0, 1, 2, 255]),
+                0 => spoil_at_random(random, &mut draft.list, &[0, 1, 2, 3, 255]),
                 _ => spoil_at_random(random, &mut draft.pool, b"a\x80\xC3\xFF"),
             }
         }
@@ -125,8 +126,8 @@ pub fn damaged_tables(random: &mut Random, sink: &mut Sink) {
     }
 }
 
-/// Refused by 7, 7, 8, 9, and of an external entity by 7, 8 and 9.
-pub const REFUSED_TABLES: [Table; 7] = [
+/// Refused by 7, 7, 8, 9, of an external entity by 7, 8 and 9, and with a mark by 7, 7, 8 and 9.
+pub const REFUSED_TABLES: [Table; 11] = [
     Table {
         list: &[],
         pool: &[],
@@ -153,6 +154,22 @@ pub const REFUSED_TABLES: [Table; 7] = [
     },
     Table {
         list: &[2, 0, 0, 0, 0, 0, 0],
+        pool: b"a",
+    },
+    Table {
+        list: &[3],
+        pool: &[],
+    },
+    Table {
+        list: &[3, 3, 0],
+        pool: &[],
+    },
+    Table {
+        list: &[3, 1, 0, 0, 0, 0, 1, 0, 0, 0, 0, 0, 0, 0],
+        pool: &[],
+    },
+    Table {
+        list: &[3, 1, 0, 0, 0, 0, 0, 0, 0, 0, 0, 0, 0, 0],
         pool: b"a",
     },
 ];
@@ -200,16 +217,19 @@ pub fn long_reference(index: usize) -> Vec<u8> {
 
 /// Names in full tables: the first, the last, every other, and such as are nearly one of them.
 pub fn lookups(random: &mut Random, sink: &mut Sink) {
-    let count = (LONGEST_LIST - 1) / DEFINITION;
-    lookups_in(random, &long_names(count), count, sink);
-    let mixed = long_entities(count, |index| index % 2 == 0);
-    lookups_in(random, &mixed, count, sink);
-    let externals = most_externals();
-    for text in ["&0000;", "&8190;", "&8191;", "&8192;", "&819;", "&lt;"] {
-        sink(Arguments {
-            table: externals.table(),
-            ..Arguments::text(text.as_bytes())
-        });
+    let count = (LONGEST_LIST - 2) / DEFINITION;
+    for is_marked in [false, true] {
+        let all = long_names(count).marked_if(is_marked);
+        lookups_in(random, &all, count, sink);
+        let mixed = long_entities(count, |index| index % 2 == 0).marked_if(is_marked);
+        lookups_in(random, &mixed, count, sink);
+        let externals = most_externals().marked_if(is_marked);
+        for text in ["&0000;", "&8190;", "&8191;", "&8192;", "&819;", "&lt;"] {
+            sink(Arguments {
+                table: externals.table(),
+                ..Arguments::text(text.as_bytes())
+            });
+        }
     }
 }
 
@@ -240,18 +260,19 @@ fn lookups_in(random: &mut Random, draft: &Draft, count: usize, sink: &mut Sink)
     give(random, &some);
 }
 
-/// Every name that random tables use, twice in one, so that the first has to bind, by either command.
+/// Every name that random tables use, twice in one, so that the first has to bind, by either command, after a mark or not.
 pub fn first_binds(random: &mut Random, sink: &mut Sink) {
     for first in NAMES {
         for second in NAMES {
-            every_sequence(&[false, true], 3, &mut |external| {
-                let text = |index: usize, text| (!external[index]).then_some(text);
+            every_sequence(&[false, true], 4, &mut |flags| {
+                let text = |index: usize, text| (!flags[index]).then_some(text);
                 let draft = Draft::of_entities([
                     (first, text(0, "1")),
                     (second, text(1, "2")),
                     (first, text(2, "3")),
                     ("a", Some("4")),
-                ]);
+                ])
+                .marked_if(flags[3]);
                 for name in [first, second] {
                     sink(Arguments {
                         table: draft.table(),
@@ -289,6 +310,7 @@ pub fn repeated(random: &mut Random, sink: &mut Sink) {
         b"\r\n",
     ];
     let draft = Draft::of(&ALIKE.map(|(name, text, _)| (name, text)));
+    let drafts = [draft.clone(), draft.marked()];
     for _ in 0..ROUNDS {
         let mut kinds: Vec<(Vec<u8>, u64)> = vec![];
         for _ in 0..random.within(1, 7) {
@@ -317,7 +339,7 @@ pub fn repeated(random: &mut Random, sink: &mut Sink) {
                 2 => random.below(openings as usize + 2) as u64,
                 _ => MOST_OPENINGS,
             },
-            table: draft.table(),
+            table: drafts[usize::from(random.below(4) == 0)].table(),
             room: random_room(random),
             ..Arguments::text(&text)
         });
@@ -339,7 +361,7 @@ pub fn similar_names(random: &mut Random, sink: &mut Sink) {
                 false => draft.define(name, format!("{index}").as_bytes()),
             }
         }
-        let draft = draft.ended();
+        let draft = draft.ended().marked_if(random.below(4) == 0);
         for name in names.iter().chain([&unknown]) {
             sink(Arguments {
                 table: draft.table(),

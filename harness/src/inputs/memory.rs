@@ -40,7 +40,7 @@ pub fn kept(random: &mut Random, sink: &mut Sink) {
             }
             defined.push((name, needs));
         }
-        let draft = draft.ended();
+        let draft = draft.ended().marked_if(random.below(4) == 0);
         let (text, Needs { openings, depth }) = referring(random, &defined, 12);
         sink(Arguments {
             choice: random.pick(&[0, 1, 2]),

@@ -3,6 +3,7 @@
 pub mod attribute;
 pub mod entities;
 pub mod external;
+pub mod marked;
 pub mod memory;
 pub mod number;
 pub mod rooms;

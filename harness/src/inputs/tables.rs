@@ -20,9 +20,10 @@ const TEXTS: [&str; 20] = [
     "&e;", "&lt;", "&amp;", "&#65;", "&#10;", "&",
 ];
 
-/// A few tables for every text: the empty one, one without references, one of all sorts, and one with external entities.
+/// A few tables for every text: the empty one, one without references, one of all sorts, one with external entities, and one whose texts
+/// are past line ends.
 pub fn few() -> &'static [Draft] {
-    static FEW: OnceLock<[Draft; 4]> = OnceLock::new();
+    static FEW: OnceLock<[Draft; 5]> = OnceLock::new();
     FEW.get_or_init(|| {
         [
             Draft::of(&[]),
@@ -53,11 +54,22 @@ pub fn few() -> &'static [Draft] {
                 ("amp", None),
                 ("dé", None),
             ]),
+            Draft::of(&[
+                ("a", "\r\n"),
+                ("e", "½\r\u{85}"),
+                ("b", "x&e;\t"),
+                ("b", "never"),
+                ("dé", "\u{2028}€"),
+                ("lt", "\n&a;"),
+                ("amp", "X"),
+            ])
+            .marked(),
         ]
     })
 }
 
-/// Mostly of few definitions. Names come twice, parts overlap. Most are without external entities, so that the Rust can be asked.
+/// Mostly of few definitions. Names come twice, parts overlap. Most are without external entities and a mark, so that the Rust can be
+/// asked.
 pub fn random_draft(random: &mut Random) -> Draft {
     let count = match random.below(32) {
         0..=3 => 0,
@@ -77,7 +89,8 @@ pub fn random_draft(random: &mut Random) -> Draft {
             }
         }
     }
-    draft.ended()
+    let is_marked = random.below(4) == 0;
+    draft.ended().marked_if(is_marked)
 }
 
 fn random_replacement(random: &mut Random) -> Vec<u8> {
@@ -112,23 +125,35 @@ pub fn given(draft: &Draft) -> Arguments<'_> {
     Arguments::of_table(draft.table())
 }
 
-/// Lists and pools of the longest lengths and longer ones.
+/// Lists and pools of the longest lengths and longer ones. The longest list is marked: without a mark it has a byte too many.
 pub fn limits(random: &mut Random, sink: &mut Sink) {
-    let full = full_draft(random);
+    let unmarked = full_draft(random);
+    let full = unmarked.clone().marked();
     assert_eq!(full.list.len(), LONGEST_LIST);
     assert_eq!(full.pool.len(), LONGEST_POOL);
+    sink(given(&unmarked));
     sink(given(&full));
-    let mut externals = most_externals();
-    assert_eq!(externals.list.len(), LONGEST_LIST);
-    sink(given(&externals));
-    externals.list.pop();
-    sink(given(&externals));
-    externals.refer_external((0, 1));
-    sink(given(&externals.ended()));
+    for is_marked in [false, true] {
+        let mut externals = most_externals().marked_if(is_marked);
+        assert_eq!(
+            externals.list.len(),
+            LONGEST_LIST - 1 + usize::from(is_marked)
+        );
+        sink(given(&externals));
+        externals.list.pop();
+        sink(given(&externals));
+        externals.refer_external((0, 1));
+        sink(given(&externals.ended()));
+    }
     let give = |list: &[u8], pool: &[u8], sink: &mut Sink| {
         sink(Arguments::of_table(Table { list, pool }));
     };
     give(&full.list[..LONGEST_LIST - 1], &full.pool, sink);
+    for byte in [0, 1, 2, 3] {
+        give(&[&unmarked.list[..], &[byte]].concat(), &full.pool, sink);
+        give(&vec![byte; LONGEST_LIST], b"", sink);
+        give(&vec![byte; LONGEST_LIST + 1], b"", sink);
+    }
     give(&full.list, &full.pool[..LONGEST_POOL - 1], sink);
     let (longer_list, longer_pool) = (
         [&full.list[..], &[0]].concat(),
@@ -156,7 +181,7 @@ pub fn limits(random: &mut Random, sink: &mut Sink) {
 /// As many external entities as fit, of names of four digits.
 pub fn most_externals() -> Draft {
     let mut draft = Draft::default();
-    for index in 0..(LONGEST_LIST - 1) / EXTERNAL_DECLARATION {
+    for index in 0..(LONGEST_LIST - 2) / EXTERNAL_DECLARATION {
         draft.declare_external(format!("{index:04}").as_bytes());
     }
     draft.ended()
@@ -164,7 +189,7 @@ pub fn most_externals() -> Draft {
 
 /// As many definitions as fit, of 251-byte names that differ in their ends; the pool is full.
 pub fn full_draft(random: &mut Random) -> Draft {
-    let count = (LONGEST_LIST - 1) / DEFINITION;
+    let count = (LONGEST_LIST - 2) / DEFINITION;
     let stride = LONGEST_POOL / count;
     let mut draft = Draft {
         pool: vec![b'n'; LONGEST_POOL],

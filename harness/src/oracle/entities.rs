@@ -1,5 +1,6 @@
 //! What the calls with an entity table share. The walks are the Rust's, with the table behind its resolver; the table's format,
-//! the count of openings, and 17 are document 01's. Tables with external entities are not the Rust's: reading.rs answers for them.
+//! the count of openings, and 17 are document 01's. Tables with external entities and marked lists are not the Rust's: reading.rs answers
+//! for them.
 
 use super::checks::{defined_by, settings_checked};
 use super::reading;
@@ -9,7 +10,7 @@ use crate::answer::{refusal, Answer};
 use crate::arguments::{Arguments, LONGEST_OUTPUT};
 use crate::rust::escape::{unescape_with, EscapeError, ParseCharRefError};
 use crate::rust::XmlVersion;
-use crate::table::{has_external, look_up, Meaning};
+use crate::table::{look_up, Meaning};
 
 pub fn walk_refusal(error: EscapeError) -> Answer {
     match error {
@@ -41,7 +42,7 @@ pub fn normalized(arguments: &Arguments) -> Result<Made, Answer> {
     settings_checked(arguments)?;
     let text = checked(arguments.text)?;
     let definitions = defined_by(arguments.table)?;
-    if has_external(&definitions) {
+    if !arguments.table.is_the_rusts(&definitions) {
         return reading::normalized(arguments);
     }
     let (mut openings, mut used_up) = (0, false);
@@ -84,7 +85,7 @@ fn version_of(choice: u8) -> XmlVersion {
 pub fn unescaped(arguments: &Arguments) -> Result<Made, Answer> {
     let text = checked(arguments.text)?;
     let definitions = defined_by(arguments.table)?;
-    if has_external(&definitions) {
+    if !arguments.table.is_the_rusts(&definitions) {
         return reading::unescaped(arguments);
     }
     let (mut copied, mut left_out) = (0, 0);

@@ -1,6 +1,6 @@
 //! The walks of document 01 with what document 02 adds, read by the comparison itself and from their text alone: neither the Rust nor
-//! the library's definitions have a part in it. It answers where the Rust cannot be asked, since it knows no external entities (K9);
-//! everywhere else the comparison asks both, and they have to agree.
+//! the library's definitions have a part in it. It answers where the Rust cannot be asked, since it knows no external entities (K9) and
+//! no texts past line ends (K4); everywhere else the comparison asks both, and they have to agree.
 
 use super::checks::{defined_by, settings_checked};
 use super::result::Made;
@@ -17,10 +17,21 @@ const PREDEFINED: [(&str, &str); 5] = [
     ("quot", "\""),
 ];
 
+/// Which line ends a text has.
+#[derive(Clone, Copy)]
+enum LineEnds {
+    /// Those of XML 1.0.
+    Older,
+    /// Those of XML 1.1.
+    Newer,
+    /// None: it is past them (K4), and CR and LF are characters like TAB.
+    Past,
+}
+
 /// What stays the same in a walk, whichever text it is in.
 struct Settings<'a> {
-    /// Whether the line ends are those of XML 1.1.
-    newer: bool,
+    /// Those of replacement texts.
+    inner: LineEnds,
     limit: u64,
     definitions: &'a [Definition<'a>],
 }
@@ -36,8 +47,15 @@ pub fn normalized(arguments: &Arguments) -> Result<Made, Answer> {
     settings_checked(arguments)?;
     let text = checked(arguments.text)?;
     let definitions = defined_by(arguments.table)?;
+    let outer = match arguments.choice {
+        2 => LineEnds::Newer,
+        _ => LineEnds::Older,
+    };
     let settings = Settings {
-        newer: arguments.choice == 2,
+        inner: match arguments.table.is_marked() {
+            true => LineEnds::Past,
+            false => outer,
+        },
         limit: arguments.limit,
         definitions: &definitions,
     };
@@ -46,7 +64,7 @@ pub fn normalized(arguments: &Arguments) -> Result<Made, Answer> {
         value: vec![],
         openings: 0,
     };
-    walk.text(text, arguments.depth)?;
+    walk.text(text, outer, arguments.depth)?;
     Ok(Made {
         bytes: walk.value,
         left_out: 0,
@@ -56,15 +74,15 @@ pub fn normalized(arguments: &Arguments) -> Result<Made, Answer> {
 
 impl Walk<'_> {
     /// The value's own text or one of the table.
-    fn text(&mut self, text: &str, depth: u64) -> Result<(), Answer> {
+    fn text(&mut self, text: &str, ends: LineEnds, depth: u64) -> Result<(), Answer> {
         let mut at = 0;
         while at < text.len() {
             let rest = &text.as_bytes()[at..];
-            at += match self.is_stop(rest[0]) {
+            at += match ends.has_stop(rest[0]) {
                 false => self.copied(rest[0]),
                 true if depth == 0 => return Err(refusal(16, 0)),
                 true if rest[0] == b'&' => self.reference(text, at, depth)?,
-                true => match self.blank(rest) {
+                true => match ends.blank(rest) {
                     0 => self.copied(rest[0]),
                     length => {
                         self.value.push(b' ');
@@ -79,26 +97,6 @@ impl Walk<'_> {
     fn copied(&mut self, byte: u8) -> usize {
         self.value.push(byte);
         1
-    }
-
-    fn is_stop(&self, byte: u8) -> bool {
-        match byte {
-            b'\t' | b'\r' | b'\n' | b'&' => true,
-            0xC2 | 0xE2 => self.settings.newer,
-            _ => false,
-        }
-    }
-
-    /// How many bytes the TAB or line end here has; 0 where it is none.
-    fn blank(&self, rest: &[u8]) -> usize {
-        match rest {
-            [b'\r', 0xC2, 0x85, ..] if self.settings.newer => 3,
-            [b'\r', b'\n', ..] => 2,
-            [b'\t' | b'\n' | b'\r', ..] => 1,
-            [0xC2, 0x85, ..] if self.settings.newer => 2,
-            [0xE2, 0x80, 0xA8, ..] if self.settings.newer => 3,
-            _ => 0,
-        }
     }
 
     /// The reference at this offset: how many bytes it has.
@@ -120,7 +118,7 @@ impl Walk<'_> {
                 }
                 Bound::Defined(inner) => {
                     self.openings += 1;
-                    self.text(inner, depth - 1)?;
+                    self.text(inner, self.settings.inner, depth - 1)?;
                 }
                 // Its replacement text is walked as well; none of these has a stop but that of amp, which does not come here.
                 Bound::Predefined(character) => self.value.extend(character.bytes()),
@@ -136,7 +134,29 @@ impl Walk<'_> {
     }
 }
 
-/// Unescaping. What no output is long enough for is counted and not made.
+impl LineEnds {
+    fn has_stop(self, byte: u8) -> bool {
+        match byte {
+            b'\t' | b'\r' | b'\n' | b'&' => true,
+            0xC2 | 0xE2 => matches!(self, LineEnds::Newer),
+            _ => false,
+        }
+    }
+
+    /// How many bytes the blank here has, a TAB or a line end, or without line ends one of three characters; 0 where it is none.
+    fn blank(self, rest: &[u8]) -> usize {
+        match (self, rest) {
+            (LineEnds::Newer, [b'\r', 0xC2, 0x85, ..]) => 3,
+            (LineEnds::Older | LineEnds::Newer, [b'\r', b'\n', ..]) => 2,
+            (_, [b'\t' | b'\n' | b'\r', ..]) => 1,
+            (LineEnds::Newer, [0xC2, 0x85, ..]) => 2,
+            (LineEnds::Newer, [0xE2, 0x80, 0xA8, ..]) => 3,
+            _ => 0,
+        }
+    }
+}
+
+/// Unescaping. A mark has no say in it. What no output is long enough for is counted and not made.
 pub fn unescaped(arguments: &Arguments) -> Result<Made, Answer> {
     let text = checked(arguments.text)?;
     let definitions = defined_by(arguments.table)?;

@@ -23,6 +23,7 @@ fn in_room(arguments: Arguments) -> Answer {
 
 /// Canonical forms as texts. Each has to read as the value that it was written from, without an
 /// opening, and to be its own canonical form, under any table that leaves the four names alone.
+/// Either table may be marked.
 pub fn reread(random: &mut Random, sink: &mut Sink) {
     const ROUNDS: usize = 40_000;
     for _ in 0..ROUNDS {
@@ -64,8 +65,8 @@ fn draft_without_the_four(random: &mut Random) -> Draft {
     }
 }
 
-/// Values that are written in several ways, and nearly the same value: forms are equal just when
-/// the values are.
+/// Values that are written in several ways, through marked tables and others, and nearly the same value: forms are
+/// equal just when the values are.
 pub fn spellings(random: &mut Random, sink: &mut Sink) {
     const ROUNDS: usize = 20_000;
     for _ in 0..ROUNDS {
@@ -95,11 +96,12 @@ fn some_character(random: &mut Random) -> char {
 /// The form of the value, which a text of random references gives; the text is tried too.
 fn given(random: &mut Random, choice: u8, value: &[char], sink: &mut Sink) -> Vec<u8> {
     let mut draft = Draft::default();
+    let is_marked = random.below(2) == 0;
     let mut text = vec![];
     for &character in value {
-        text.extend(spelled(random, &mut draft, character));
+        text.extend(spelled(random, &mut draft, is_marked, character));
     }
-    let draft = draft.ended();
+    let draft = draft.ended().marked_if(is_marked);
     let arguments = Arguments {
         choice,
         depth: 2 + random.below(DEEPEST as usize - 1) as u64,
@@ -115,8 +117,9 @@ fn given(random: &mut Random, choice: u8, value: &[char], sink: &mut Sink) -> Ve
     answer.written
 }
 
-/// The character itself, its number, or the name of a new entity that stands for its number.
-fn spelled(random: &mut Random, draft: &mut Draft, character: char) -> Vec<u8> {
+/// The character itself, its number, or the name of a new entity that stands for its number; in a marked table also of one whose text is
+/// the character, or for a space a blank.
+fn spelled(random: &mut Random, draft: &mut Draft, is_marked: bool, character: char) -> Vec<u8> {
     let form = random.pick(&[Form::Decimal, Form::LowerHexadecimal]);
     let digits = written(u128::from(u32::from(character)), form, random.below(3));
     let number = [b"&#", &digits[..], b";"].concat();
@@ -124,7 +127,12 @@ fn spelled(random: &mut Random, draft: &mut Draft, character: char) -> Vec<u8> {
         0 if !"\t\r\n&\u{85}\u{2028}".contains(character) => character.to_string().into_bytes(),
         1 => {
             let name = format!("n{}", draft.list.len());
-            draft.define(name.as_bytes(), &number);
+            let text = match character {
+                ' ' if is_marked => vec![random.pick(b"\t\n\r")],
+                '\u{85}' | '\u{2028}' | '½' if is_marked => character.to_string().into_bytes(),
+                _ => number,
+            };
+            draft.define(name.as_bytes(), &text);
             format!("&{name};").into_bytes()
         }
         _ => number,

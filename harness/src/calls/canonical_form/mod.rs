@@ -7,8 +7,8 @@ mod rows;
 
 use crate::call::Call;
 use crate::call::Parameter::{Choice, Depth, Limit, Output, Scratch, Table, Text};
-use crate::documented::{row, with, within, Outcome::Answered, Outcome::Made};
-use crate::faults::{external, memory::MEMORY, table::LOOKUP, walk::WALK};
+use crate::documented::{marked, row, with, within, Outcome::Answered, Outcome::Made};
+use crate::faults::{external, marked as marked_faults, memory::MEMORY, table::LOOKUP, walk::WALK};
 use crate::inputs::attribute::{self, Attribute};
 use crate::inputs::{entities, woven};
 use crate::lent::Lent;
@@ -66,6 +66,35 @@ pub const CALL: Call = Call {
             &[("gt", None), ("e", Some("&gt;"))],
             within(2, 1, row("&e;", 0, Answered(27, 0, 0))),
         ),
+        with(
+            &[("e", Some("\u{85}\r\n"))],
+            within(2, 1, row("&e;", 2, Made("  ", 1))),
+        ),
+        marked(
+            &[("e", Some("\u{85}\r\n"))],
+            within(2, 1, row("&e;", 2, Made("&#133;  ", 1))),
+        ),
+        marked(
+            &[("e", Some("\u{85}\r\n"))],
+            within(2, 1, row("&e;", 0, Made("\u{85}  ", 1))),
+        ),
+        marked(
+            &[("e", Some("½\u{2028}<"))],
+            within(1, 1, row("\t&e;", 2, Made(" ½&#8232;&lt;", 1))),
+        ),
+        marked(
+            &[("e", Some("½\u{2028}\t"))],
+            within(1, 1, row("&e;", 2, Answered(16, 0, 0))),
+        ),
+        marked(
+            &[("e", Some("\r\u{85}"))],
+            within(2, 1, row("&e;", 2, Made(" &#133;", 1))),
+        ),
+        marked(
+            &[("e", Some("&f;")), ("f", Some("\r\n"))],
+            within(3, 2, row("&e;", 0, Made("  ", 2))),
+        ),
+        marked(&[], row("\r\n\r\u{85}", 2, Made("  ", 0))),
     ],
     seams: inputs::seams,
     families: &[
@@ -93,6 +122,9 @@ canonical_form TEXT VERSION DEPTH LIMIT LIST POOL SCRATCH ROOM = NUMBER FIRST SE
         external::TABLE,
         external::LOOKUP,
         external::WALK,
+        marked_faults::TABLE,
+        marked_faults::LOOKUP,
+        marked_faults::WALK,
         faults::SCRATCH,
     ],
     // SAFETY: everything that is lent is of the length stated.

@@ -26,7 +26,9 @@ pub fn seams(random: &mut Random, sink: &mut Sink) {
                     false => draft.refer(name, text),
                 }
                 sink(given(&draft));
-                sink(given(&draft.ended()));
+                let draft = draft.ended();
+                sink(given(&draft));
+                sink(given(&draft.marked()));
             }
         }
     }
@@ -95,17 +97,31 @@ fn every_short_list(sink: &mut Sink) {
         &[1],
         &[2],
         &[2, 0],
+        &[3],
+        &[3, 0],
+        &[3, 0, 0],
+        &[3, 3],
+        &[3, 3, 0],
+        &[0, 3],
+        &[3, 1],
+        &[3, 255],
         &[255],
     ] {
         give(list);
     }
     for entity in [("a", Some("b")), ("a", None)] {
-        let whole = Draft::of_entities([entity]).list;
-        for cut in 1..whole.len() {
-            give(&whole[..cut]);
-        }
-        for after in [&[0u8] as &[u8], &[1], &[2], &[0, 0]] {
-            give(&[&whole, after].concat());
+        for is_marked in [false, true] {
+            let whole = Draft::of_entities([entity]).marked_if(is_marked).list;
+            for cut in 1..whole.len() {
+                give(&whole[..cut]);
+            }
+            for after in [&[0u8] as &[u8], &[1], &[2], &[3], &[0, 0]] {
+                give(&[&whole, after].concat());
+            }
+            // A mark in the place of the end, and before it.
+            let commands = &whole[..whole.len() - 1];
+            give(&[commands, &[3]].concat());
+            give(&[commands, &[3, 0]].concat());
         }
     }
 }
@@ -129,7 +145,9 @@ fn seams_of_two_commands(sink: &mut Sink) {
                     false => draft.refer((0, 1), second),
                 }
                 sink(given(&draft));
-                sink(given(&draft.ended()));
+                let draft = draft.ended();
+                sink(given(&draft));
+                sink(given(&draft.marked()));
             }
         }
     }
@@ -145,7 +163,7 @@ pub fn every_small_list(_: &mut Random, sink: &mut Sink) {
         every_sequence(&bytes, length, &mut give);
     }
     for length in 3..=8 {
-        every_sequence(&[0, 1, 2, 255], length, &mut give);
+        every_sequence(&[0, 1, 2, 3, 255], length, &mut give);
     }
 }
 
@@ -186,11 +204,15 @@ pub fn every_part(_: &mut Random, sink: &mut Sink) {
 }
 
 fn with_each_end(mut draft: Draft, sink: &mut Sink) {
-    let length = draft.list.len();
-    for end in [&[0u8] as &[u8], &[], &[1], &[2], &[0, 0]] {
+    for is_marked in [false, true] {
+        draft = draft.marked_if(is_marked);
+        let length = draft.list.len();
+        for end in [&[0u8] as &[u8], &[], &[1], &[2], &[3], &[0, 0], &[3, 0]] {
+            draft.list.truncate(length);
+            draft.list.extend_from_slice(end);
+            sink(given(&draft));
+        }
         draft.list.truncate(length);
-        draft.list.extend_from_slice(end);
-        sink(given(&draft));
     }
 }
 
@@ -249,9 +271,10 @@ pub fn long(random: &mut Random, sink: &mut Sink) {
     let count = draft.list.len() / DEFINITION;
     for index in [0, 1, 2047, count - 2, count - 1] {
         let sound = draft.clone();
-        for (offset, byte) in [(0, 2), (4, 0x10), (5, 0), (9, 0x10)] {
+        for (offset, byte) in [(0, 2), (0, 3), (4, 0x10), (5, 0), (9, 0x10)] {
             draft.list[index * DEFINITION + offset] = byte;
             sink(given(&draft));
+            sink(given(&draft.clone().marked()));
             draft.list.clone_from(&sound.list);
         }
         for byte in [0x80, 0xC3] {
@@ -300,7 +323,7 @@ pub fn damaged(random: &mut Random, sink: &mut Sink) {
             continue;
         }
         let Table { list, pool } = draft.table();
-        every_spoiled(list, &[0, 1, 2, 12, 255], &mut |spoiled| {
+        every_spoiled(list, &[0, 1, 2, 3, 12, 255], &mut |spoiled| {
             sink(Arguments::of_table(Table {
                 list: spoiled.text,
                 pool,
@@ -320,7 +343,7 @@ pub fn random(random: &mut Random, sink: &mut Sink) {
         let mut draft = random_draft(random);
         for _ in 0..random.below(3) {
             match random.below(2) {
-                0 => spoil_at_random(random, &mut draft.list, &[0, 1, 2, 12, 255]),
+                0 => spoil_at_random(random, &mut draft.list, &[0, 1, 2, 3, 12, 255]),
                 _ => spoil_at_random(random, &mut draft.pool, b"a\x80\xC3\xED\xFF"),
             }
         }

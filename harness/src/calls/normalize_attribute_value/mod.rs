@@ -8,7 +8,7 @@ use crate::arguments::Arguments;
 use crate::call::Parameter::{Choice, Depth, Limit, Output, Table, Text};
 use crate::call::{Call, Faults};
 use crate::calls::canonical_form::inputs::reread;
-use crate::faults::{external, memory::MEMORY, table::LOOKUP, walk::WALK};
+use crate::faults::{external, marked, memory::MEMORY, table::LOOKUP, walk::WALK};
 use crate::inputs::attribute::{self, Attribute};
 use crate::inputs::{entities, woven};
 use crate::lent::{Lent, Run};
@@ -70,7 +70,18 @@ pub const CALL: Call = Call {
     ]],
     random: woven::random::<Attribute>,
     stored: "normalize_attribute_value TEXT VERSION DEPTH LIMIT LIST POOL ROOM = NUMBER FIRST SECOND OUTPUT",
-    faults: &[LOOKUP, WALK, MEMORY, external::TABLE, external::LOOKUP, external::WALK, VALUE],
+    faults: &[
+        LOOKUP,
+        WALK,
+        MEMORY,
+        external::TABLE,
+        external::LOOKUP,
+        external::WALK,
+        marked::TABLE,
+        marked::LOOKUP,
+        marked::WALK,
+        VALUE,
+    ],
     // SAFETY: everything that is lent is of the length stated.
     timed: || rows::timed(|lent| unsafe { run(lent) }),
     differences: || vec![],

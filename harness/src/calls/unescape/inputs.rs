@@ -5,13 +5,13 @@ use crate::arguments::{Arguments, Room, Sink};
 use crate::calls::escape::answer::escape;
 use crate::draft::Draft;
 use crate::inputs::entities::{referring, with_some_table, NUMBERS, REFUSED_TABLES, SOUND};
-use crate::inputs::external;
 use crate::inputs::rooms::{each_room, random_room, some_room};
 use crate::inputs::sequences::every_sequence;
 use crate::inputs::sizes::{random_length, BLOCK_ENDS};
 use crate::inputs::tables::few;
 use crate::inputs::text::{woven, Mix, MIXES};
 use crate::inputs::woven::Subject;
+use crate::inputs::{external, marked};
 use crate::random::Random;
 use crate::table::LONGEST_REPLACEMENT;
 
@@ -96,6 +96,7 @@ impl Subject for Unescape {
             }
         }
         external::seams(sink);
+        marked::seams(sink);
         for text in ["", "&lt;", "a&e;b&a;", "&#x20AC;"] {
             each_room(&[0], with_plain_table(text.as_bytes()), sink);
         }

@@ -6,9 +6,9 @@ mod rows;
 
 use crate::call::Call;
 use crate::call::Parameter::{Output, Table, Text};
-use crate::documented::{row, with, Documented, Outcome, Outcome::Answered, Outcome::Made};
-use crate::faults::{external as external_faults, table::LOOKUP};
-use crate::inputs::{entities, external, sizes, tables, woven};
+use crate::documented::{marked, row, with, Documented, Outcome, Outcome::Answered, Outcome::Made};
+use crate::faults::{external as external_faults, marked as marked_faults, table::LOOKUP};
+use crate::inputs::{entities, external, marked as marked_inputs, sizes, tables, woven};
 use crate::lent::Lent;
 use inputs::Unescape;
 
@@ -57,6 +57,7 @@ pub const CALL: Call = Call {
         entities::first_binds,
         external::every_order,
         external::every_small_table,
+        marked_inputs::every_small_table,
         entities::repeated,
         inputs::longest_results,
         inputs::escaped_texts,
@@ -70,7 +71,14 @@ pub const CALL: Call = Call {
     ]],
     random: woven::random::<Unescape>,
     stored: "unescape TEXT LIST POOL ROOM = NUMBER FIRST SECOND OUTPUT",
-    faults: &[LOOKUP, external_faults::TABLE, external_faults::LOOKUP],
+    faults: &[
+        LOOKUP,
+        external_faults::TABLE,
+        external_faults::LOOKUP,
+        marked_faults::TABLE,
+        marked_faults::LOOKUP,
+        marked_faults::UNESCAPE,
+    ],
     // SAFETY: everything that is lent is of the length stated.
     timed: || rows::timed(|lent| unsafe { run(lent) }),
     differences: || {
@@ -105,6 +113,16 @@ const DOCUMENTED: &[Documented] = &[
     ),
     with(&[("e", None)], said("&e&e;", Answered(10, 0, 5))),
     with(&[("e", None)], said("&f;&e;", Answered(11, 1, 2))),
+    marked(
+        &[("da", Some("\r\n\t\u{85}½"))],
+        said("\r\n&da;", Made("\r\n\r\n\t\u{85}½", 0)),
+    ),
+    marked(
+        &[("e", Some("x")), ("e", None)],
+        said("&e;&lt;", Made("x<", 0)),
+    ),
+    marked(&[("e", None)], said("a&e;", Answered(27, 1, 0))),
+    marked(&[], said("&e;", Answered(11, 1, 2))),
 ];
 
 const fn said(text: &'static str, outcome: Outcome) -> Documented {
