@@ -6,7 +6,7 @@ use crate::call::{Call, Parameter};
 use crate::calls::CALLS;
 use crate::draft::Draft;
 use crate::lent::Cursor;
-use crate::table::Table;
+use crate::table::{Table, MARK};
 
 /// Longer texts take longer, and are the differential run's.
 const LONGEST_TEXT: usize = 300;
@@ -106,20 +106,24 @@ fn room_of(byte: u8) -> Room {
     }
 }
 
-/// The list as it is after a 1, of commands of five bytes and an end after a 2, or else of definitions of four and an end: a fuzzer
-/// finds few tables in the long form.
+/// The list as it is after a 1, of commands of five bytes and an end after a 2, the same marked after a 3, or else of definitions of four
+/// and an end: a fuzzer finds few tables in the long form.
 fn list_of(bytes: &[u8]) -> Vec<u8> {
     let mut draft = Draft::default();
     let part = |short: &[u8]| (short[0].into(), short[1].into());
     match bytes {
         [1, list @ ..] => return list.to_vec(),
-        [2, shorts @ ..] => {
+        [form @ (2 | 3), shorts @ ..] => {
+            let is_marked = *form == 3;
             for short in shorts.chunks_exact(SHORT_COMMAND) {
-                match short[0] % 2 {
-                    0 => draft.refer_external(part(&short[1..])),
+                match short[0] {
+                    // One that may not stand there.
+                    MARK if is_marked => draft.list.push(MARK),
+                    command if command % 2 == 0 => draft.refer_external(part(&short[1..])),
                     _ => draft.refer(part(&short[1..]), part(&short[3..])),
                 }
             }
+            draft = draft.marked_if(is_marked);
         }
         _ => {
             for short in bytes.get(1..).unwrap_or(&[]).chunks_exact(SHORT_DEFINITION) {
