@@ -24,8 +24,15 @@ const INPUTS: [References; 5] = [
 ];
 const DEFINITIONS: [(&str, &str); 4] =
     [("a", "first"), ("n", "x&m;y&m;"), ("m", "&o;"), ("o", "z")];
+/// With blanks and a stop of 1.1, but no CR: so the Rust's answers are those of the marked list too.
+const MARKED: [(&str, &str); 4] = [
+    ("n", "x&m;y&m;"),
+    ("m", "½&o;"),
+    ("o", "z\t"),
+    ("b", "a\tb\nc"),
+];
 
-/// Under 1.0 and under 1.1, by the names of these rows.
+/// Under 1.0 and under 1.1, by the names of these rows; and through a marked list under 1.1.
 pub fn timed(calls: [&str; 2], sides: (impl Ours, TableRule)) -> Vec<timing::Row> {
     let tables = Tables::new(Draft::of(&DEFINITIONS));
     let mut rows = vec![];
@@ -36,6 +43,12 @@ pub fn timed(calls: [&str; 2], sides: (impl Ours, TableRule)) -> Vec<timing::Row
                 rows.push(table_row(call, input, &text, version, tables, sides));
             }
         }
+    }
+    let marked = Tables::new(Draft::of(&MARKED).marked());
+    let (input, pieces) = ("entities of a marked list", ["&n;", "&b;"]);
+    for size in [64, MEBIBYTE] {
+        let text = letters_with(&pieces, 16, size);
+        rows.push(table_row(calls[1], input, &text, 2, marked, sides));
     }
     rows
 }
