@@ -7,7 +7,7 @@
 #include <stdio.h>
 
 #define TEXT_MOST ((size_t)16777216)
-#define LIST_MOST ((size_t)49153)
+#define LIST_MOST ((size_t)49154)
 #define POOL_MOST ((size_t)1048576)
 
 enum command { ESCAPE, UNESCAPE, NORMALIZE, CANONICAL, EOLS, TRIM, CDATA, CHECK };
@@ -31,6 +31,7 @@ struct arguments {
     const char *text, *file, *list, *pool;
     struct entity *entities;
     size_t entity_count;
+    int marked;
     uint8_t level, version;
     uint64_t depth, limit;
     enum side side;
@@ -71,6 +72,8 @@ void read_arguments(int argc, char **argv, struct arguments *arguments);
 void fail(const char *what, const char *why);
 void flush_output(void);
 void *allocate(size_t length);
+/* Where the commands of a list that is not empty begin: after its mark, if it has one. */
+const uint8_t *first_command(const struct request *request);
 /* How many bytes the command 1 or 2 of a list takes up. */
 size_t command_size(const uint8_t *command);
 void read_request(const struct arguments *arguments, struct request *request);

@@ -27,7 +27,7 @@ static void put_sections(const struct request *q)
 static void put_check(const struct request *q, const struct outcome *o)
 {
     printf("UTF-8, %" PRIu64 " bytes\n", o->answer[0]);
-    if (q->arguments->list != NULL || q->arguments->entity_count > 0)
+    if (q->arguments->list != NULL || q->arguments->entity_count > 0 || q->arguments->marked)
         printf("table valid, %" PRIu64 " definitions\n", o->answer[1]);
 }
 

@@ -73,6 +73,11 @@ static void read_text(const struct arguments *a, struct request *request)
     }
 }
 
+const uint8_t *first_command(const struct request *request)
+{
+    return request->list + (request->list[0] == 3);
+}
+
 size_t command_size(const uint8_t *command)
 {
     return command[0] == 1 ? 12 : 6;
@@ -93,15 +98,18 @@ static size_t pooled(struct request *request, const void *bytes, size_t length)
     return start;
 }
 
-/* The table of the --entity and --external options: a command each, names and texts one after the other in the pool. */
+/* The table of the --entity and --external options: a command each after the mark, if it is asked for; names and texts one after
+ * the other in the pool. */
 static void build_table(const struct arguments *a, struct request *request)
 {
     uint8_t *command;
     size_t pool_room = 0;
     for (size_t i = 0; i < a->entity_count; i++)
         pool_room += a->entities[i].name.length + (a->entities[i].text == NULL ? 0 : strlen(a->entities[i].text));
-    request->list = command = allocate(12 * a->entity_count + 1);
+    request->list = command = allocate(12 * a->entity_count + 2);
     request->pool = allocate(pool_room);
+    if (a->marked)
+        *command++ = 3;
     for (size_t i = 0; i < a->entity_count; i++, command += command_size(command)) {
         const struct entity *e = &a->entities[i];
         command[0] = e->text == NULL ? 2 : 1;

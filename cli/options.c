@@ -10,7 +10,7 @@ static const char *const commands[] = { "escape", "unescape", "normalize", "cano
 
 #define COMMANDS (sizeof commands / sizeof commands[0])
 
-enum option { LEVEL, VERSION, DEPTH, LIMIT, ENTITY, EXTERNAL, TABLE, AT_START, AT_END, FROM_FILE, JSON, OPTIONS };
+enum option { LEVEL, VERSION, DEPTH, LIMIT, ENTITY, EXTERNAL, MARKED, TABLE, AT_START, AT_END, FROM_FILE, JSON, OPTIONS };
 
 #define ON(command) (1u << (command))
 #define ALL 0xFFu
@@ -27,6 +27,7 @@ static const struct {
     { "--limit", 1, ON(NORMALIZE) | ON(CANONICAL) },
     { "--entity", 1, ON(UNESCAPE) | ON(NORMALIZE) | ON(CANONICAL) | ON(CHECK) },
     { "--external", 1, ON(UNESCAPE) | ON(NORMALIZE) | ON(CANONICAL) | ON(CHECK) },
+    { "--marked", 0, ON(UNESCAPE) | ON(NORMALIZE) | ON(CANONICAL) | ON(CHECK) },
     { "--table", 2, ON(UNESCAPE) | ON(NORMALIZE) | ON(CANONICAL) | ON(CHECK) },
     { "--start", 0, ON(TRIM) },
     { "--end", 0, ON(TRIM) },
@@ -122,6 +123,7 @@ static void set_option(struct arguments *a, enum option option, char **values)
     case LIMIT: a->limit = read_number(name, values[0], UINT64_MAX); break;
     case ENTITY: set_entity(a, values[0]); break;
     case EXTERNAL: add_entity(a, name, values[0], strlen(values[0]), NULL); break;
+    case MARKED: a->marked = 1; break;
     case TABLE: a->list = values[0], a->pool = values[1]; break;
     case AT_START: a->side = START; break;
     case AT_END: a->side = END; break;
@@ -137,6 +139,8 @@ static void check_together(const struct arguments *a, unsigned seen)
         bad_usage("--file", "the text is given too");
     if (a->entity_count > 0 && a->list != NULL)
         bad_usage(seen & ON(ENTITY) ? "--entity" : "--external", "--table is given too");
+    if (a->marked && a->list != NULL)
+        bad_usage("--marked", "--table is given too; a marked list starts with the byte 3");
     if (seen & ON(AT_START) && seen & ON(AT_END))
         bad_usage("--start", "--end is given too; for both ends give neither");
 }

@@ -106,7 +106,7 @@ static size_t little_endian(const uint8_t *bytes, size_t width)
 /* The text of a name in a table that was checked. 0: it gives that name none. */
 static int look_up(const struct request *q, struct span name, struct span *text)
 {
-    for (const uint8_t *command = q->list; command[0] != 0; command += command_size(command)) {
+    for (const uint8_t *command = first_command(q); command[0] != 0; command += command_size(command)) {
         size_t length = little_endian(command + 5, 1);
         if (length != name.length || memcmp(q->pool + little_endian(command + 1, 4), name.bytes, length) != 0)
             continue;
@@ -130,14 +130,20 @@ static int opens(const struct walk *w, struct range reference, struct span *name
     return look_up(w->request, *name, text);
 }
 
-/* The first byte at which a text read at depth 0 is refused. */
-static size_t first_stop(struct span text, uint8_t version)
+/* The first byte at which a text read at depth 0 is refused; `newer`: by the line ends of XML 1.1. */
+static size_t first_stop(struct span text, int newer)
 {
-    const char *stops = version == 2 ? "\t\n\r&\xC2\xE2" : "\t\n\r&";
+    const char *stops = newer ? "\t\n\r&\xC2\xE2" : "\t\n\r&";
     size_t at = 0;
     while (at < text.length && (text.bytes[at] == 0 || strchr(stops, text.bytes[at]) == NULL))
         at++;
     return at;
+}
+
+/* Does the text have the line ends of XML 1.1? An entity's text in a marked list has none. */
+static int has_newer_line_ends(const struct request *q, int nested)
+{
+    return q->arguments->version == 2 && !(nested && q->list[0] == 3);
 }
 
 /* What of the reference is shown: of 10 and 17 the &, of 11 the name, else all of it. */
@@ -160,7 +166,7 @@ static struct place find_in_walk(const struct request *q, uint32_t number)
     for (int nested = 0;; nested = 1) {
         struct range found;
         if (attribute(&w) && w.depth == 0) {
-            place.start = first_stop(w.text, q->arguments->version);
+            place.start = first_stop(w.text, has_newer_line_ends(q, nested));
             place.end = place.start + 1;
             break;
         }

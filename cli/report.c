@@ -122,13 +122,13 @@ static void show_place(const struct request *q, const struct place *place)
 /* The option or the command of the list that a table is refused for. */
 static void show_command(const struct request *q, const struct outcome *o)
 {
-    const uint8_t *command = q->list;
+    const uint8_t *command;
     size_t number[3] = { 0, 0, 0 };
     if (q->arguments->entity_count == 0) {
         fprintf(stderr, ": byte %" PRIu64 " of the list", o->answer[0]);
         return;
     }
-    for (; command < q->list + o->answer[0]; command += command_size(command))
+    for (command = first_command(q); command < q->list + o->answer[0]; command += command_size(command))
         number[command[0]]++;
     fprintf(stderr, ": %s number %zu", command[0] == 1 ? "--entity" : "--external", number[command[0]] + 1);
 }

@@ -43,9 +43,10 @@ extern "C" {
 #define GOVLEZNA_LIMIT_TOO_LARGE 3      /* opening limit over 1,000,000 */
 #define GOVLEZNA_UNKNOWN_BYTE 4         /* unknown level or version byte */
 #define GOVLEZNA_NOT_UTF8 5             /* text not UTF-8: first is the end of its longest well-formed prefix */
-#define GOVLEZNA_TABLE_TOO_LONG 6       /* list over 49,153 or pool over 1,048,576 bytes */
-#define GOVLEZNA_MALFORMED_LIST 7       /* unknown command or cut operands: first is the command's offset; no end: the
-                                           list's length; bytes after the end: the offset of the first of them */
+#define GOVLEZNA_TABLE_TOO_LONG 6       /* list over 49,154 or pool over 1,048,576 bytes */
+#define GOVLEZNA_MALFORMED_LIST 7       /* unknown command, cut operands or a mark that is not the list's first byte: first
+                                           is the command's offset; no end: the list's length; bytes after the end: the
+                                           offset of the first of them */
 #define GOVLEZNA_OUTSIDE_POOL 8         /* a name or text runs past the pool: first is the command's offset */
 #define GOVLEZNA_INVALID_DEFINITION 9   /* name empty, name or text not UTF-8: first is the command's offset */
 #define GOVLEZNA_UNTERMINATED_ENTITY 10 /* no ; after & : first is the offset of &, second the text's length */
@@ -116,26 +117,31 @@ uint32_t govlezna_normalize_eols(const uint8_t *text, size_t text_length, uint8_
  *      are offsets in the pool.
  *   2  name start (4 bytes), name length (1): an external entity, 6 bytes in all. Its text is elsewhere, and XML forbids
  *      it in attribute values: a reference to it is refused.
+ *   3  mark, one byte: as the first byte of a list, and nowhere else, it says that the texts of the table are past line
+ *      ends, as the replacement texts of a document's declarations are: a CR or LF of them came by a character reference
+ *      and stands for itself. It is no definition. What it changes is said at govlezna_normalize_attribute_value; in
+ *      govlezna_unescape it has no say.
  *   0  end: the last byte of the list. Alone it is the empty table: for "no table" hand over the list { 0 } of length 1,
  *      and NULL with length 0 for the pool.
  * Where a name is defined twice, by either command, the first definition binds. A name that no definition has may be one
  * of lt, gt, amp, apos and quot, which stand for < > & ' " . A table may define these five.
  *
- * Example: the list { 1, 0,0,0,0, 1, 1,0,0,0, 4,0, 0 } and the pool "esail" define e as `sail`.
+ * Example: the list { 1, 0,0,0,0, 1, 1,0,0,0, 4,0, 0 } and the pool "esail" define e as `sail`. The list { 3, 1, 0,0,0,0,
+ * 1, 1,0,0,0, 4,0, 0 } is the same, marked; { 3, 0 } is the empty marked table.
  */
 
 /*
  * Is the table valid? The calls below check their table in the same way.
  *
  * `list`, `pool`: the table; for none the list { 0 } of length 1, and NULL with length 0.
- * Success: answer[0] is the number of definitions, external entities among them.
- * Refusals, in this order: TABLE_TOO_LONG (list over 49,153 or pool over 1,048,576 bytes); then, command by command,
- * MALFORMED_LIST (unknown command, cut operands, no end, bytes after the end; answer[0]: where), OUTSIDE_POOL (a name or
- * text runs past the pool; answer[0]: the command's offset), INVALID_DEFINITION (an empty name, or a name or text that
- * is not UTF-8; answer[0]: the command's offset).
+ * Success: answer[0] is the number of definitions, external entities among them; a mark is not counted.
+ * Refusals, in this order: TABLE_TOO_LONG (list over 49,154 or pool over 1,048,576 bytes); then, command by command,
+ * MALFORMED_LIST (unknown command, cut operands, a mark that is not first, no end, bytes after the end; answer[0]:
+ * where), OUTSIDE_POOL (a name or text runs past the pool; answer[0]: the command's offset), INVALID_DEFINITION (an empty
+ * name, or a name or text that is not UTF-8; answer[0]: the command's offset). Offsets count a mark too.
  * Time: at most the list and the pool once, and each name and text once, also where they share bytes of the pool.
- * Example: the table above gives 1. Without its last byte it is refused by MALFORMED_LIST, first 12; so is a list of no
- * bytes, first 0.
+ * Example: the table above gives 1, marked too. Without its last byte it is refused by MALFORMED_LIST, first 12; so is a
+ * list of no bytes, first 0, and { 3, 3, 0 }, first 1.
  */
 uint32_t govlezna_check_table(const uint8_t *list, size_t list_length, const uint8_t *pool, size_t pool_length,
                               uint64_t answer[2]);
@@ -163,10 +169,11 @@ uint32_t govlezna_unescape(const uint8_t *text, size_t text_length, const uint8_
  * The attribute value normalized: TAB, LF and each line end of the version (see govlezna_normalize_eols) become one
  * space; a character reference becomes its character, which is never turned into a space; &amp; becomes &, whatever the
  * table says; a reference to another name is replaced by the name's text, read by the same rules with the depth one
- * less. A name runs from & to the next ; .
+ * less. A name runs from & to the next ; . In the texts of a marked table, of either version, it is TAB, LF and CR that
+ * each become one space: CR LF there is two, and U+0085 and U+2028 are copied. `text` itself is read as without the mark.
  *
- * `depth`, at most 128: a text read at depth 0 is refused where it has a TAB, LF, CR, & or, in version 2, a byte C2 or
- * E2.
+ * `depth`, at most 128: a text read at depth 0 is refused where it has a TAB, LF, CR, & or, in version 2 and not in a
+ * marked table, a byte C2 or E2.
  * `limit`, at most 1,000,000: how many texts of the table may be opened; one of the five that the table does not define
  * is not counted. The limit bounds the work and the length: each opening brings at most 65,535 bytes.
  * `list`, `pool`: the table; for none the list { 0 } of length 1, and NULL with length 0.
@@ -185,7 +192,8 @@ uint32_t govlezna_unescape(const uint8_t *text, size_t text_length, const uint8_
  * is looked for from the table's first command on.
  * Example: version 0, depth 2, limit 10, the table above: `&e;` TAB `&#9;` gives `sail`, a space and a TAB, openings 1.
  * With limit 0 it is refused by TOO_MANY_OPENINGS, first 0; at depth 0 by TOO_DEEP. With the list { 2, 0,0,0,0, 1, 0 }
- * in the place of the table's, which names e as external, it is refused by EXTERNAL_ENTITY, first 0.
+ * in the place of the table's, which names e as external, it is refused by EXTERNAL_ENTITY, first 0. With the pool `e`
+ * CR LF and the list { 1, 0,0,0,0, 1, 1,0,0,0, 2,0, 0 } `&e;` gives one space, with a 3 before that list two.
  */
 uint32_t govlezna_normalize_attribute_value(const uint8_t *text, size_t text_length, uint8_t version, uint64_t depth,
                                             uint64_t limit, const uint8_t *list, size_t list_length,

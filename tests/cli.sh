@@ -92,6 +92,15 @@ results() {
     gives 'x' normalize '&e;' --entity e=x --external e
     gives '&' normalize '&amp;' --external amp
     gives 'ab' normalize 'a&e;b' --entity e= --entity 'never=&f;' --external f
+    gives '  A   B ' normalize '&d;&d;A&a;&#x20;&a;B&da;' --entity d=$'\r' --entity a=$'\n' --entity da=$'\r\n'
+    gives '  A   B  ' normalize '&d;&d;A&a;&#x20;&a;B&da;' --marked --entity d=$'\r' --entity a=$'\n' --entity da=$'\r\n'
+    gives $'½ \xC2\x85\xE2\x80\xA8' normalize '&h;&n;' --entity h=½ --entity $'n=\t\xC2\x85\xE2\x80\xA8' --version 1.1 --marked --depth 2
+    gives ½ normalize '&h;' --entity h=½ --version 1.1 --marked --depth 1
+    gives ' ' normalize '&n;' --entity $'n=\xC2\x85' --version 1.1
+    gives 'a b  ' normalize $'a\r\nb&e;' --marked --entity $'e=\r\n'
+    gives '  ' normalize '&a;' --marked --entity 'a=&e;' --entity $'e=\r\n'
+    gives '&#133;  ' canonical '&e;' --marked --entity $'e=\xC2\x85\r\n' --version 1.1
+    gives $'\r\n\t' unescape '&e;' --marked --entity $'e=\r\n\t'
     gives $'a\nb\nc' eols $'a\r\nb\rc'
     gives $'\n' eols $'\r\xC2\x85' --version 2
     gives 'a b' trim $' \t a b\r\n'
@@ -103,6 +112,8 @@ results() {
     gives $'UTF-8, 3 bytes\n' check 'aß'
     gives $'UTF-8, 1 bytes\ntable valid, 2 definitions\n' check a --entity a=b --entity c=
     gives $'UTF-8, 1 bytes\ntable valid, 3 definitions\n' check a --external a --entity b=c --external b
+    gives $'UTF-8, 1 bytes\ntable valid, 2 definitions\n' check a --marked --external a --entity b=c
+    gives $'UTF-8, 1 bytes\ntable valid, 0 definitions\n' check a --marked
     gives '--level' escape -- --level
     gives '-' escape -
 }
@@ -114,6 +125,8 @@ json() {
     gives '{"command":"trim","number":0,"start":1,"length":1,"result":"a"}'$'\n' trim --json ' a '
     gives '{"command":"cdata","number":0,"pieces":[[0,2],[2,3],[5,1]]}'$'\n' cdata --json ']]>]]>'
     gives '{"command":"check","number":0,"length":0,"definitions":0}'$'\n' check --json ''
+    gives '{"command":"check","number":0,"length":0,"definitions":1}'$'\n' check --json --marked --entity e=x ''
+    gives '{"command":"normalize","number":0,"length":2,"openings":1,"result":"  "}'$'\n' normalize --json '&e;' --marked --entity $'e=\r\n'
     run normalize --json 'x &e;' --entity $'e=\r\n\r&b;'
     [ "$status" -eq 1 ] && [ "$(cat "$room/out")" = '{"command":"normalize","number":11,"words":"unknown entity","first":4,"second":5,"entity":"e","opened":2,"start":4,"end":5,"line":3}' ]
     expect $? normalize --json nested
@@ -133,6 +146,8 @@ refusals() {
     refuses 9 ': --entity number 1' check a --entity $'a=\xFF'
     refuses 9 ': --external number 1' check a --entity a=b --external ''
     refuses 9 ': --entity number 2' check a --entity a=b --external c --external d --entity =e
+    refuses 9 ': --entity number 2' check a --marked --entity a=b --external c --external d --entity =e
+    refuses 9 ': --external number 1' check a --external '' --marked
     refuses 10 ': byte 2 of the text' unescape 'a &b'
     refuses 10 ': byte 0 of the text' unescape '&a&b;'
     refuses 11 ': bytes 1 to 3 of the text' normalize '&a&b;'
@@ -149,6 +164,10 @@ refusals() {
     refuses 15 ': bytes 1 to 4' canonical 'a&#0;'
     refuses 16 ': byte 1 of the text' normalize $'a\t' --depth 0
     refuses 16 ': byte 0 of the text of the entity e' normalize '&e;' --version 2 --entity e=½ --depth 1
+    refuses 16 ': byte 3 of the text of the entity e' normalize '&e;' --version 2 --marked --entity $'e=½a\t' --depth 1
+    refuses 16 ': byte 0 of the text' normalize ½ --version 2 --marked --depth 0
+    refuses 11 ': byte 4 of the text of the entity e' normalize '&e;' --version 2 --marked --entity $'e=½\r&b;' --depth 2
+    refuses 17 ': byte 0 of the text of the entity e' normalize '&e;' --marked --entity 'e=&e;' --limit 2 --depth 3
     refuses 17 ': byte 0 of the text' normalize '&e;' --entity e=½ --limit 0
     refuses 17 ': byte 0 of the text of the entity e' normalize '&e;' --entity 'e=&e;' --limit 2 --depth 3
     refuses 17 ': byte 5 of the text' normalize 'a &e;&e;' --entity 'e=&f;' --entity f=x --limit 2
@@ -202,6 +221,22 @@ files() {
     refuses 27 ': bytes 1 to 3 of the text' unescape 'a&e;' --table "$room/list" "$room/pool"
     head -c 3 "$room/list" >"$room/cut"
     refuses 7 ': byte 0 of the list' check a --table "$room/cut" "$room/pool"
+    printf '\3\1\0\0\0\0\1\1\0\0\0\4\0\0' >"$room/list"
+    gives 'sail' unescape '&e;' --table "$room/list" "$room/pool"
+    gives $'UTF-8, 0 bytes\ntable valid, 1 definitions\n' check --table "$room/list" "$room/pool"
+    printf 'e\r\n\r\n' >"$room/pool"
+    gives '    ' normalize '&e;' --table "$room/list" "$room/pool"
+    printf 'e\n&b;' >"$room/pool"
+    refuses 11 ': byte 2 of the text of the entity e' normalize '&e;' --table "$room/list" "$room/pool"
+    refuses 8 ': byte 1 of the list' check a --table "$room/list" "$room/text"
+    head -c 13 "$room/list" >"$room/cut"
+    refuses 7 ': byte 13 of the list' check a --table "$room/cut" "$room/pool"
+    printf '\3' >"$room/cut"
+    refuses 7 ': byte 1 of the list' check a --table "$room/cut" "$room/pool"
+    printf '\3\3\0' >"$room/cut"
+    refuses 7 ': byte 1 of the list' normalize a --table "$room/cut" "$room/pool"
+    printf '\1\0\0\0\0\1\1\0\0\0\4\0\3\0' >"$room/cut"
+    refuses 7 ': byte 12 of the list' canonical a --table "$room/cut" "$room/pool"
     misused "$room/none: No such file" escape --file "$room/none"
     misused "$room/none: No such file" unescape a --table "$room/list" "$room/none"
     misused "$room: Is a directory" escape --file "$room"
@@ -231,14 +266,20 @@ sizes() {
     input=/dev/zero
     refuses 1 'over 16,777,216 bytes' check
     input=/dev/null
-    bytes 49153 "$room/list"
-    refuses 7 ': byte 0 of the list' check a --table "$room/list" /dev/null
     bytes 49154 "$room/list"
+    refuses 7 ': byte 0 of the list' check a --table "$room/list" /dev/null
+    bytes 49155 "$room/list"
     refuses 6 'too long' check a --table "$room/list" /dev/null
     printf e >"$room/pool"
     printf '\2\0\0\0\0\1%.0s' {1..8192} >"$room/externals"
     { cat "$room/externals"; printf '\0'; } >"$room/list"
     gives $'UTF-8, 1 bytes\ntable valid, 8192 definitions\n' check a --table "$room/list" "$room/pool"
+    { cat "$room/externals"; printf '\0\0'; } >"$room/list"
+    refuses 7 ': byte 49153 of the list' check a --table "$room/list" "$room/pool"
+    { printf '\3'; cat "$room/externals"; printf '\0'; } >"$room/list"
+    gives $'UTF-8, 1 bytes\ntable valid, 8192 definitions\n' check a --table "$room/list" "$room/pool"
+    { printf '\3'; cat "$room/externals"; printf '\0\0'; } >"$room/list"
+    refuses 6 'too long' check a --table "$room/list" "$room/pool"
     { cat "$room/externals"; printf '\2\0\0\0\0\1\0'; } >"$room/list"
     refuses 6 'too long' check a --table "$room/list" "$room/pool"
     printf '\0' >"$room/list"
@@ -288,6 +329,10 @@ usage() {
     misused 'at most 255 bytes' unescape a --external "$(printf 'n%.0s' {1..256})"
     misused '--table is given too' check a --external b --table d e
     misused 'not an option of this command' escape a --external b
+    misused '--table is given too' check a --marked --table d e
+    misused 'not an option of this command' eols a --marked
+    misused 'given twice' check a --marked --marked
+    misused 'takes no value' check a --marked=1
     misused 'at most 65,535 bytes' unescape a --entity "b=$(head -c 65536 /dev/zero | tr '\0' a)"
     misused 'two files' unescape a --table b
     misused '--table is given too' unescape a --entity b=c --table d e

@@ -10,6 +10,8 @@ static uint64_t answer[2];
 static uint8_t out[64], scratch[64];
 
 static const uint8_t list[] = { 1, 0, 0, 0, 0, 1, 1, 0, 0, 0, 4, 0, 0 }, empty[] = { 0 };
+static const uint8_t marked[] = { 3, 1, 0, 0, 0, 0, 1, 1, 0, 0, 0, 4, 0, 0 }, twice_marked[] = { 3, 3, 0 };
+static const uint8_t line_end[] = { 3, 1, 0, 0, 0, 0, 1, 1, 0, 0, 0, 2, 0, 0 }, crlf[] = { 'e', '\r', '\n' };
 static const uint8_t external[] = { 2, 0, 0, 0, 0, 1, 0 };
 static const uint8_t pool[] = { 'e', 's', 'a', 'i', 'l' };
 
@@ -46,6 +48,28 @@ static uint32_t normalize(uint64_t depth, uint64_t limit, const uint8_t *command
                                               sizeof pool, out, sizeof out, answer);
 }
 
+static uint32_t line_ends(const uint8_t *commands, size_t length)
+{
+    return govlezna_normalize_attribute_value(bytes("&e;"), 3, 0, 2, 10, commands, length, crlf, sizeof crlf, out, sizeof out,
+                                              answer);
+}
+
+static void marked_lists(void)
+{
+    expect(__LINE__, govlezna_check_table(marked, sizeof marked, pool, sizeof pool, answer), 0, 1, 0);
+    expect(__LINE__, govlezna_check_table(marked, 1, pool, sizeof pool, answer), GOVLEZNA_MALFORMED_LIST, 1, 0);
+    expect(__LINE__, govlezna_check_table(twice_marked, 3, NULL, 0, answer), GOVLEZNA_MALFORMED_LIST, 1, 0);
+    expect(__LINE__, govlezna_check_table(twice_marked + 1, 2, NULL, 0, answer), 0, 0, 0);
+    expect(__LINE__, normalize(2, 10, marked, sizeof marked), 0, 6, 1);
+    expect_bytes(__LINE__, out, "sail \t");
+    expect(__LINE__, line_ends(line_end + 1, sizeof line_end - 1), 0, 1, 1);
+    expect_bytes(__LINE__, out, " ");
+    expect(__LINE__, line_ends(line_end, sizeof line_end), 0, 2, 1);
+    expect_bytes(__LINE__, out, "  ");
+    expect(__LINE__, unescape("&e;", line_end, sizeof line_end, crlf, sizeof crlf), 0, 2, 0);
+    expect_bytes(__LINE__, out, "\r\n");
+}
+
 static void examples(void)
 {
     const char *text = "&e;\t&#9;";
@@ -60,6 +84,7 @@ static void examples(void)
     expect(__LINE__, normalize(0, 10, list, sizeof list), GOVLEZNA_TOO_DEEP, 0, 0);
     expect(__LINE__, govlezna_check_table(external, sizeof external, pool, sizeof pool, answer), 0, 1, 0);
     expect(__LINE__, normalize(2, 10, external, sizeof external), GOVLEZNA_EXTERNAL_ENTITY, 0, 0);
+    marked_lists();
     expect(__LINE__,
            govlezna_canonical_form(bytes(text), strlen(text), 0, 2, 10, list, sizeof list, pool, sizeof pool, scratch,
                                    sizeof scratch, out, sizeof out, answer),
