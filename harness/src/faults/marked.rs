@@ -294,9 +294,10 @@ impl Mistake for FirstLevel {
             both.define(name.as_bytes(), text.replace('\r', "\n").as_bytes());
             both.define(deeper.as_bytes(), text.as_bytes());
         }
-        let is_short = definitions.len() < 100 && both.pool.len() < 10_000;
-        if is_short {
-            taken.draft = both.ended();
+        // Names may be too long for it, and tables too.
+        let both = both.ended();
+        if both.table().definitions().is_ok() {
+            taken.draft = both;
         }
     }
 }
@@ -396,12 +397,26 @@ impl Taken {
     }
 }
 
+/// Mistaken in values alone: a changed text has its references elsewhere, and what is refused there would be told by that.
 unsafe fn library<M: Mistake>(lent: &Lent, real: Run) -> u32 {
     let Some(mut taken) = Taken::of(text(lent), lent.choice, table(lent)) else {
         return real(lent);
     };
+    if !matches!(real(&without_room(lent)), 0 | 18 | 19) {
+        return real(lent);
+    }
     M::make(&mut taken);
     real(&taken.lent(lent))
+}
+
+fn without_room(lent: &Lent) -> Lent {
+    Lent {
+        scratch: null_mut(),
+        scratch_length: 0,
+        out: null_mut(),
+        out_length: 0,
+        ..*lent
+    }
 }
 
 fn reading<M: Mistake>(arguments: &Arguments, real: Expected) -> Answer {
@@ -417,14 +432,7 @@ unsafe fn stopped_at_half(lent: &Lent, real: Run) -> u32 {
         return real(lent);
     };
     taken.stop_at_newer();
-    let without_room = Lent {
-        scratch: null_mut(),
-        scratch_length: 0,
-        out: null_mut(),
-        out_length: 0,
-        ..taken.lent(lent)
-    };
-    match real(&without_room) {
+    match real(&without_room(&taken.lent(lent))) {
         16 => refused(lent, 16, 0),
         _ => real(lent),
     }
