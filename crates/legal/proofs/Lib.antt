@@ -1,0 +1,3 @@
+mod Examples
+pub mod Numbers
+pub mod Decoding

@@ -1,0 +1,1 @@
+// Where a character begins that may not stand raw (specs/Legal.antt).
