@@ -1,3 +1,5 @@
 mod Examples
 pub mod Numbers
 pub mod Decoding
+pub mod Faults
+pub mod Clean

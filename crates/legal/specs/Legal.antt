@@ -54,13 +54,13 @@ charFrom s n (b ∷ bs) =
     pick (isBetween (next s b)) (some (bits s n b)) rest
 
 -- a character that may not
-unfoldable pub refuses : (ℕ → Bool) → Option ℕ → Bool
+abbrev pub refuses : (ℕ → Bool) → Option ℕ → Bool
 refuses may none = false
 refuses may (some n) = not (may n)
 
 -- K8: does a character that may not stand begin at the head of these bytes? A byte inside of a character begins none
 unfoldable pub faultAt : (ℕ → Bool) → List ℕ → Bool
-unfolding refuses charFrom
+unfolding charFrom
 faultAt may bytes = refuses may (charFrom between 0 bytes)
 
 -- ---- as code asks for them
@@ -83,13 +83,22 @@ ruleNumber inValue xml11 = 1
 ruleNumber inTable xml10 = 0
 ruleNumber inTable xml11 = 2
 
--- at none of the places from `i` up to `e` a fault begins
+-- a part of a text, from one place up to another
+pub record Part (text : List ℕ) (from to : ℕ) : Type 0 where
+  pub order : from ≤ to
+  pub fits : to ≤ length text
+
+-- at no place from `i` up to `e` a fault begins
 pub record Clean (fault : List ℕ → Bool) (text : List ℕ) (i e : ℕ) : Type 0 where
   pub from : i ≤ e
   pub to : e ≤ length text
   pub none : (k : ℕ) → i ≤ k → k < e → fault (drop k text) ≡ false
 
--- `r` is the first place from `from` up to `to` at which a fault begins, or `to`; its bytes may go on past `to`
+-- nor does one of any other rule
+abbrev pub CleanByAny : List ℕ → ℕ → ℕ → Type 0
+CleanByAny text i e = (rule : ℕ) → Clean (faultsBy rule) text i e
+
+-- `r` is the first place from `from` up to `to` at which a fault begins, or `to`; the fault's bytes may go on past `to`
 pub record FirstFault (fault : List ℕ → Bool) (text : List ℕ) (from to r : ℕ) : Type 0 where
   pub clean : Clean fault text from r
   pub within : r ≤ to
