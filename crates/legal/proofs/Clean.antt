@@ -14,7 +14,7 @@ use Rattle.text.specs.Simple.{Simple}
 use Rattle.text.proofs.Bytes.{or-left, or-right, contrary, within-low, within-top}
 use Rattle.text.proofs.Patterns.{at-head}
 use Rattle.text.proofs.Printable.{not-control, not-above}
-use Rattle.legal.specs.Legal.{mayBy, faultsBy, Clean, CleanByAny, FirstFault}
+use Rattle.legal.specs.FirstFault.{mayBy, faultsBy, Clean, CleanByAny, FirstFault}
 use Rattle.legal.proofs.Numbers.{printable-may, isControl, ascii-may}
 use Rattle.legal.proofs.Faults.{fault-ascii, fault-other, fault-c2, fault-c2-high, fault-c2-other, fault-c2-alone, fault-ef, fault-ef-other, fault-ef-alone, fault-ef-short}
 

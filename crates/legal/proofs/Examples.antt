@@ -4,7 +4,8 @@ use Prim.Native.Nat.{ℕ}
 use mathlib.Core.Bool.{Bool, true, false}
 use mathlib.Core.List.{List, [], _∷_}
 use Rattle.text.specs.Version.{xml10, xml11}
-use Rattle.legal.specs.Legal.{inValue, inTable, mayStand, faultsBy}
+use Rattle.legal.specs.Legal.{inValue, inTable, mayStand}
+use Rattle.legal.specs.FirstFault.{faultsBy}
 
 -- may the character stand in a value and in a text of the table: under 1.0, then under 1.1
 stands : ℕ → List Bool

@@ -12,7 +12,8 @@ use Rattle.text.specs.Bytes.{within}
 use Rattle.text.specs.Utf8.{State, one, two, broken, first, isBetween}
 use Rattle.text.proofs.Bytes.{within-low, within-top, either}
 use Rattle.text.proofs.FirstByte.{first-low, first-e0, first-ed, first-two, first-f0, first-three, first-f4, first-high}
-use Rattle.legal.specs.Legal.{firstBits, charFrom, refuses, mayBy, faultsBy}
+use Rattle.legal.specs.Legal.{firstBits, charFrom, refuses}
+use Rattle.legal.specs.FirstFault.{mayBy, faultsBy}
 use Rattle.legal.proofs.Numbers.{plane-may, private-may, beyond-may, second-may, upper-may, noncharacter}
 use Rattle.legal.proofs.Decoding.{char-broken, char-lead, char-ascii, tail-more, tail-done, tail-broken, lead-2, lead-3, lead-4, last-two}
 use Rattle.legal.proofs.Decoding.{Waits, waits-one, waits-two, waits-three, waits-e0, waits-ed, waits-f0, waits-f4}

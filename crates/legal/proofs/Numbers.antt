@@ -9,7 +9,8 @@ use borrow.Author.Tests.{eqb-true, eqb-false, ne-eqb, leb-true, leb-false, le-le
 use Rattle.text.specs.Bytes.{pick, within}
 use Rattle.text.specs.Version.{Rule, xml10, xml11}
 use Rattle.text.proofs.Bytes.{inside, above, below}
-use Rattle.legal.specs.Legal.{isChar, isRestricted, Place, inValue, inTable, mayStand, mayBy, ruleNumber}
+use Rattle.legal.specs.Legal.{isChar, isRestricted, Place, inValue, inTable, mayStand}
+use Rattle.legal.specs.FirstFault.{mayBy, ruleNumber}
 
 pub by-number : (p : Place) (r : Rule) (n : ℕ) → mayBy (ruleNumber p r) n ≡ mayStand p r n
 unfolding mayBy ruleNumber

@@ -1,12 +1,10 @@
 -- Legal characters by XML version (XML 1.0 and XML 1.1, 2.2; document 02, K8), and where one that may not stand begins in a text.
 -- Assumes nothing.
-use Prim.Native.Nat.{ℕ, zero, suc, _+_, _-_, _*_, _≤_, _<_}
-use mathlib.Core.Path.{_≡_}
-use mathlib.Core.Bool.{Bool, true, false, not, _&&_, _||_}
+use Prim.Native.Nat.{ℕ, _+_, _-_, _*_}
+use mathlib.Core.Bool.{Bool, false, not, _&&_, _||_}
 use mathlib.Core.Option.{Option, none, some}
 use mathlib.Core.List.{List, [], _∷_}
 use lib.Dec.{eqb, leb}
-use lib.ListN.{length, drop}
 use Rattle.text.specs.Bytes.{pick, within}
 use Rattle.text.specs.Version.{Rule, xml10, xml11}
 use Rattle.text.specs.Utf8.{State, between, next, isBetween}
@@ -31,8 +29,7 @@ unfoldable pub mayStand : Place → Rule → ℕ → Bool
 unfolding isChar isRestricted
 mayStand inValue xml10 n = isChar xml10 n
 mayStand inValue xml11 n = isChar xml11 n && not (isRestricted n)
-mayStand inTable xml10 n = isChar xml10 n
-mayStand inTable xml11 n = isChar xml11 n
+mayStand inTable r n = isChar r n
 
 -- ---- characters in a text
 
@@ -53,7 +50,7 @@ charFrom s n (b ∷ bs) =
     let rest = charFrom (next s b) (bits s n b) bs in
     pick (isBetween (next s b)) (some (bits s n b)) rest
 
--- a character that may not
+-- there is one, and it may not
 abbrev pub refuses : (ℕ → Bool) → Option ℕ → Bool
 refuses may none = false
 refuses may (some n) = not (may n)
@@ -62,44 +59,3 @@ refuses may (some n) = not (may n)
 unfoldable pub faultAt : (ℕ → Bool) → List ℕ → Bool
 unfolding charFrom
 faultAt may bytes = refuses may (charFrom between 0 bytes)
-
--- ---- as code asks for them
-
--- the rules by number: 0 for XML 1.0, value and table alike; 1 for a value under 1.1; 2 for a text of the table under 1.1
-unfoldable pub mayBy : ℕ → ℕ → Bool
-unfolding mayStand
-mayBy zero n = mayStand inValue xml10 n
-mayBy (suc zero) n = mayStand inValue xml11 n
-mayBy (suc (suc rule)) n = mayStand inTable xml11 n
-
-unfoldable pub faultsBy : ℕ → List ℕ → Bool
-unfolding faultAt mayBy
-faultsBy rule bytes = faultAt (mayBy rule) bytes
-
--- the number of a rule
-unfoldable pub ruleNumber : Place → Rule → ℕ
-ruleNumber inValue xml10 = 0
-ruleNumber inValue xml11 = 1
-ruleNumber inTable xml10 = 0
-ruleNumber inTable xml11 = 2
-
--- a part of a text, from one place up to another
-pub record Part (text : List ℕ) (from to : ℕ) : Type 0 where
-  pub order : from ≤ to
-  pub fits : to ≤ length text
-
--- at no place from `i` up to `e` a fault begins
-pub record Clean (fault : List ℕ → Bool) (text : List ℕ) (i e : ℕ) : Type 0 where
-  pub from : i ≤ e
-  pub to : e ≤ length text
-  pub none : (k : ℕ) → i ≤ k → k < e → fault (drop k text) ≡ false
-
--- nor does one of any other rule
-abbrev pub CleanByAny : List ℕ → ℕ → ℕ → Type 0
-CleanByAny text i e = (rule : ℕ) → Clean (faultsBy rule) text i e
-
--- `r` is the first place from `from` up to `to` at which a fault begins, or `to`; the fault's bytes may go on past `to`
-pub record FirstFault (fault : List ℕ → Bool) (text : List ℕ) (from to r : ℕ) : Type 0 where
-  pub clean : Clean fault text from r
-  pub within : r ≤ to
-  pub found : r < to → fault (drop r text) ≡ true

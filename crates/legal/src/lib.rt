@@ -1,11 +1,11 @@
 // Where a character begins that may not stand raw (document 02, K8). Every search is proved to find what `FirstFault` over `faultsBy` says
-// (specs/Legal.antt). All goes by blocks of 16 bytes that run on vectors; which rule is asked (0, 1 or 2, see `mayBy`) matters only where a
+// (specs/FirstFault.antt). All goes by blocks of 16 bytes that run on vectors; which rule is asked (0, 1 or 2, see `mayBy`) matters only where a
 // block may have a fault.
 ghost use mathlib.Core.Path.{_≡_};
 ghost use mathlib.Core.Bool.{true, false, not};
 ghost use Prim.Native.Nat.{ℕ, _+_, _≤_, _<_};
 ghost use lib.ListN.{length, drop, getD};
-ghost use Rattle.legal.specs.Legal.{mayBy, faultsBy, Part, CleanByAny, FirstFault};
+ghost use Rattle.legal.specs.FirstFault.{mayBy, faultsBy, Part, CleanByAny, FirstFault};
 
 // ---- a fault at a place
 

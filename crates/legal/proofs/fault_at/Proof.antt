@@ -6,7 +6,7 @@ use lib.ListN.{drop, getD}
 use borrow.Author.Needs.{needs}
 use borrow.Author.Tests.{eqb-true}
 use Rattle.text.proofs.Bytes.{and-left, and-right}
-use Rattle.legal.specs.Legal.{faultsBy}
+use Rattle.legal.specs.FirstFault.{faultsBy}
 use Rattle.legal.proofs.Clean.{at-printable, at-ascii, at-other}
 use Rattle.legal.proofs.fault_at.Statement.{statement}
 use Rattle.legal.proofs.fault_at.Tie as tie

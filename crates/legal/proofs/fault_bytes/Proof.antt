@@ -2,7 +2,7 @@
 use mathlib.Core.Path.{sym, _∙_}
 use native.Mathlib.Omega.{arith}
 use Prim.Native.Nat.{_+_, _-_}
-use Rattle.legal.specs.Legal.{faultsBy}
+use Rattle.legal.specs.FirstFault.{faultsBy}
 use Rattle.legal.proofs.Clean.{Searched, searched-none, searched-more, searched-all, clean-byte, first-here}
 use Rattle.legal.proofs.fault_bytes.Statement.{statement}
 use Rattle.legal.proofs.fault_bytes.Tie as tie

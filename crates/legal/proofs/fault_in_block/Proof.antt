@@ -1,7 +1,7 @@
 -- `fault_in_block`: no fault is likely in the block, or each byte is asked. Assumes nothing.
 use borrow.Author.Needs.{needs}
 use borrow.Author.Tests.{not-true}
-use Rattle.legal.specs.Legal.{faultsBy}
+use Rattle.legal.specs.FirstFault.{faultsBy}
 use Rattle.legal.proofs.Clean.{first-over}
 use Rattle.legal.proofs.fault_in_block.Statement.{statement}
 use Rattle.legal.proofs.fault_in_block.Tie as tie

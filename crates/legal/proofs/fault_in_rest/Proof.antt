@@ -7,7 +7,7 @@ use lib.Dec.{leb}
 use borrow.Author.Needs.{needs}
 use borrow.Author.Tests.{not-true, leb-true}
 use Rattle.text.proofs.Bytes.{and-right}
-use Rattle.legal.specs.Legal.{faultsBy}
+use Rattle.legal.specs.FirstFault.{faultsBy}
 use Rattle.legal.proofs.Clean.{first-over, clean-last}
 use Rattle.legal.proofs.fault_in_rest.Statement.{statement}
 use Rattle.legal.proofs.fault_in_rest.Tie as tie

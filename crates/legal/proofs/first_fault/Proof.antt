@@ -3,7 +3,7 @@
 use mathlib.Core.Logic.{⊎-elim}
 use native.Mathlib.Omega.{arith}
 use Prim.Native.Nat.{_+_, _-_}
-use Rattle.legal.specs.Legal.{faultsBy}
+use Rattle.legal.specs.FirstFault.{faultsBy}
 use Rattle.legal.proofs.Clean.{Searched, searched-none, searched-more, first-join, first-longer, first-none}
 use Rattle.legal.proofs.first_fault.Statement.{statement}
 use Rattle.legal.proofs.first_fault.Tie as tie
