@@ -10,11 +10,11 @@ use lib.Dec.{eqb, leb, ltb}
 use borrow.Author.Tests.{eqb-true, eqb-false, eq-eqb, ne-eqb, le-leb, lt-leb, ltb-true, ltb-false}
 use Rattle.text.specs.Bytes.{within}
 use Rattle.text.specs.Utf8.{State, one, two, broken, first, isBetween}
-use Rattle.text.proofs.Bytes.{within-low, within-top, either}
+use Rattle.text.proofs.Bytes.{within-low, within-top, either, contrary}
 use Rattle.text.proofs.FirstByte.{first-low, first-e0, first-ed, first-two, first-f0, first-three, first-f4, first-high}
 use Rattle.legal.specs.Legal.{firstBits, charFrom, refuses}
 use Rattle.legal.specs.FirstFault.{mayBy, faultsBy}
-use Rattle.legal.proofs.Numbers.{plane-may, private-may, beyond-may, second-may, upper-may, noncharacter}
+use Rattle.legal.proofs.Numbers.{printable-may, white-may, plane-may, private-may, beyond-may, second-may, upper-may, noncharacter}
 use Rattle.legal.proofs.Decoding.{char-broken, char-lead, char-ascii, tail-more, tail-done, tail-broken, lead-2, lead-3, lead-4, last-two}
 use Rattle.legal.proofs.Decoding.{Waits, waits-one, waits-two, waits-three, waits-e0, waits-ed, waits-f0, waits-f4}
 
@@ -275,3 +275,29 @@ fault-ef-short rule c = go (eqb c 0xBF) refl
     go : (x : Bool) → eqb c 0xBF ≡ x → faultsBy rule (0xEF ∷ c ∷ []) ≡ false
     go true e = let q : c ≡ 0xBF = eqb-true c 0xBF e in rw q (ef-bf-alone rule)
     go false e = fault-ef-other rule c [] (eqb-false c 0xBF e)
+
+-- ---- what a walk stops at
+
+-- `&`, TAB, LF and CR are no faults
+pub fault-amp : (rule : ℕ) (bs : List ℕ) → faultsBy rule (38 ∷ bs) ≡ false
+fault-amp rule bs = fault-ascii rule 38 bs (omega arith) ∙ ap not (printable-may rule 38 (omega arith) (omega arith))
+
+pub fault-white : (rule b : ℕ) (bs : List ℕ) → eqb b 9 || eqb b 0xA || eqb b 0xD ≡ true → faultsBy rule (b ∷ bs) ≡ false
+fault-white rule b bs e = fault-ascii rule b bs (white-low (eqb b 9) refl (eqb b 0xA) refl (eqb b 0xD) refl) ∙ ap not (white-may rule b e)
+  where
+    white-low : (x : Bool) → eqb b 9 ≡ x → (y : Bool) → eqb b 0xA ≡ y → (z : Bool) → eqb b 0xD ≡ z → b < 0x80
+    white-low true p y q z r = let a : b ≡ 9 = eqb-true b 9 p in omega arith
+    white-low false p true q z r = let a : b ≡ 0xA = eqb-true b 0xA q in omega arith
+    white-low false p false q true r = let a : b ≡ 0xD = eqb-true b 0xD r in omega arith
+    white-low false p false q false r = contrary e (rw (p, q, r))
+
+-- nor are U+0085 and U+2028, the line ends of 1.1
+pub fault-next-line : (rule : ℕ) (bs : List ℕ) → faultsBy rule (0xC2 ∷ 0x85 ∷ bs) ≡ false
+fault-next-line rule bs = go (eqb rule 1) refl
+  where
+    go : (x : Bool) → eqb rule 1 ≡ x → faultsBy rule (0xC2 ∷ 0x85 ∷ bs) ≡ false
+    go true e = let q : rule ≡ 1 = eqb-true rule 1 e in rw q (fault-c2 0x85 bs)
+    go false e = fault-c2-other rule (0x85 ∷ bs) (eqb-false rule 1 e)
+
+pub fault-e2 : (rule : ℕ) (bs : List ℕ) → faultsBy rule (0xE2 ∷ bs) ≡ false
+fault-e2 rule bs = fault-other rule 0xE2 bs (omega arith) (λ q. omega arith) (λ q. omega arith)

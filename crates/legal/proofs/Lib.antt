@@ -3,3 +3,4 @@ pub mod Numbers
 pub mod Decoding
 pub mod Faults
 pub mod Clean
+pub mod Texts

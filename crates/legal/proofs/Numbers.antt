@@ -1,16 +1,17 @@
--- Characters that every rule lets stand (`printable-may`, `plane-may`, `private-may`, `beyond-may`), and the number by which code names a
--- rule (`by-number`). Assumes nothing.
+-- Characters that every rule lets stand (`white-may`, `printable-may`, `plane-may`, `private-may`, `beyond-may`), and the number by which
+-- code names a rule (`by-number`, `faults-by-number`). Assumes nothing.
 use mathlib.Core.Path.{_≡_, refl, sym, ap, _∙_}
 use mathlib.Core.Bool.{Bool, true, false, not, _&&_, _||_}
+use mathlib.Core.List.{List}
 use Prim.Native.Nat.{ℕ, zero, suc, _≤_, _<_}
 use native.Mathlib.Omega.{arith}
 use lib.Dec.{eqb, leb, ltb}
 use borrow.Author.Tests.{eqb-true, eqb-false, ne-eqb, leb-true, leb-false, le-leb, ltb-true, ltb-false, lt-ltb, le-ltb}
 use Rattle.text.specs.Bytes.{pick, within}
 use Rattle.text.specs.Version.{Rule, xml10, xml11}
-use Rattle.text.proofs.Bytes.{inside, above, below}
-use Rattle.legal.specs.Legal.{isChar, isRestricted, Place, inValue, inTable, mayStand}
-use Rattle.legal.specs.FirstFault.{mayBy, ruleNumber}
+use Rattle.text.proofs.Bytes.{inside, above, below, contrary}
+use Rattle.legal.specs.Legal.{isChar, isRestricted, Place, inValue, inTable, mayStand, faultAt}
+use Rattle.legal.specs.FirstFault.{mayBy, faultsBy, ruleNumber}
 
 pub by-number : (p : Place) (r : Rule) (n : ℕ) → mayBy (ruleNumber p r) n ≡ mayStand p r n
 unfolding mayBy ruleNumber
@@ -18,6 +19,13 @@ by-number inValue xml10 n = refl
 by-number inValue xml11 n = refl
 by-number inTable xml10 n = refl
 by-number inTable xml11 n = refl
+
+pub faults-by-number : (p : Place) (r : Rule) (bytes : List ℕ) → faultsBy (ruleNumber p r) bytes ≡ faultAt (mayStand p r) bytes
+unfolding faultsBy ruleNumber
+faults-by-number inValue xml10 bytes = refl
+faults-by-number inValue xml11 bytes = refl
+faults-by-number inTable xml10 bytes = refl
+faults-by-number inTable xml11 bytes = refl
 
 -- a Char of both versions that is not restricted stands anywhere
 may-stand : (rule n : ℕ) → isChar xml10 n ≡ true → isChar xml11 n ≡ true → isRestricted n ≡ false → mayBy rule n ≡ true
@@ -35,6 +43,28 @@ unrestricted n h =
 -- nor is a character white space
 not-white : (n : ℕ) → 0x20 ≤ n → eqb n 9 || eqb n 0xA || eqb n 0xD ≡ false
 not-white n h = rw (ne-eqb n 9 (λ q. omega arith), ne-eqb n 0xA (λ q. omega arith), ne-eqb n 0xD (λ q. omega arith))
+
+tab-may : (rule : ℕ) → mayBy rule 9 ≡ true
+unfolding isChar isRestricted
+tab-may rule = may-stand rule 9 refl refl refl
+
+lf-may : (rule : ℕ) → mayBy rule 0xA ≡ true
+unfolding isChar isRestricted
+lf-may rule = may-stand rule 0xA refl refl refl
+
+cr-may : (rule : ℕ) → mayBy rule 0xD ≡ true
+unfolding isChar isRestricted
+cr-may rule = may-stand rule 0xD refl refl refl
+
+-- TAB, LF and CR
+pub white-may : (rule n : ℕ) → eqb n 9 || eqb n 0xA || eqb n 0xD ≡ true → mayBy rule n ≡ true
+white-may rule n e = go (eqb n 9) refl (eqb n 0xA) refl (eqb n 0xD) refl
+  where
+    go : (a : Bool) → eqb n 9 ≡ a → (b : Bool) → eqb n 0xA ≡ b → (c : Bool) → eqb n 0xD ≡ c → mayBy rule n ≡ true
+    go true p b q c r = rw (eqb-true n 9 p) (tab-may rule)
+    go false p true q c r = rw (eqb-true n 0xA q) (lf-may rule)
+    go false p false q true r = rw (eqb-true n 0xD r) (cr-may rule)
+    go false p false q false r = contrary e (rw (p, q, r))
 
 -- 20 to 7E
 pub printable-may : (rule n : ℕ) → 0x20 ≤ n → n ≤ 0x7E → mayBy rule n ≡ true
