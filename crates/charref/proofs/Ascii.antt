@@ -17,7 +17,7 @@ use Rattle.charref.specs.CharRef.{digitValue, digit, numberFrom, small, 
 use Rattle.charref.specs.declared.Parsed.{Parsed}
 use Rattle.charref.specs.declared.Parsed.the-variants.{Value, Signed, NoNumber}
 use Rattle.charref.specs.declared.CharNumber.{CharNumber}
-use Rattle.charref.specs.declared.CharNumber.the-variants.{Char, UnexpectedSign, InvalidNumber, InvalidCodepoint, IllegalCharacter}
+use Rattle.charref.specs.declared.CharNumber.the-variants.{Char, UnexpectedSign, InvalidNumber, InvalidCodepoint, IllegalCharacter, Forbidden}
 use Rattle.text.proofs.Bytes.{above}
 use Rattle.charref.proofs.Numbers.{digit-none}
 
@@ -93,6 +93,7 @@ answered UnexpectedSign P f e = absurd (let z : _≡_ {A = ℕ} 0 1 = cc in omeg
 answered InvalidNumber P f e = absurd (let z : _≡_ {A = ℕ} 0 1 = cc in omega arith)
 answered (InvalidCodepoint n) P f e = absurd (let z : _≡_ {A = ℕ} 0 1 = cc in omega arith)
 answered IllegalCharacter P f e = absurd (let z : _≡_ {A = ℕ} 0 1 = cc in omega arith)
+answered Forbidden P f e = absurd (let z : _≡_ {A = ℕ} 0 1 = cc in omega arith)
 
 -- so the check of UTF-8 lets it pass
 pub number-utf8 : (t : List ℕ) {first second : ℕ} → numberAnswer (charNumber anyCharacter t) ≡ Done first second → utf8End t ≡ length t

@@ -18,7 +18,7 @@ use Rattle.charref.specs.CharRef.{digitValue, digit, numberFrom, small, 
 use Rattle.charref.specs.declared.Parsed.{Parsed}
 use Rattle.charref.specs.declared.Parsed.the-variants.{Value, Signed, NoNumber}
 use Rattle.charref.specs.declared.CharNumber.{CharNumber}
-use Rattle.charref.specs.declared.CharNumber.the-variants.{Char, InvalidNumber, InvalidCodepoint, IllegalCharacter}
+use Rattle.charref.specs.declared.CharNumber.the-variants.{Char, InvalidNumber, InvalidCodepoint, IllegalCharacter, Forbidden}
 use Rattle.charref.proofs.Encoding.{encode-well-formed}
 
 -- ---- a digit at a time
@@ -164,6 +164,33 @@ module _ (legal : ℕ → CharNumber) (own : (m n : ℕ) → legal m ≡ Char n 
   unfolding charNumber
   legal-character [] n e = judge-character NoNumber n e
   legal-character (b ∷ bs) n e = judge-character (pick (eqb b 120) (inBase 16 bs) (inBase 10 (b ∷ bs))) n e
+
+-- ---- a number is forbidden only where the rule forbids it
+
+module _ (legal : ℕ → CharNumber) (X : Type 0) (forbids : (n : ℕ) → legal n ≡ Forbidden → X) where
+  judge-forbidden : (p : Parsed) → judge legal p ≡ Forbidden → X
+  unfolding judge
+  judge-forbidden Signed e = absurd (let z : _≡_ {A = ℕ} 0 1 = cc in omega arith)
+  judge-forbidden NoNumber e = absurd (let z : _≡_ {A = ℕ} 0 1 = cc in omega arith)
+  judge-forbidden (Value m) e = go (eqb m 0) (within 0xD800 0xDFFF m || ltb 1114111 m) e
+    where
+      go : (t u : Bool) → pick t IllegalCharacter (pick u (InvalidCodepoint m) (legal m)) ≡ Forbidden → X
+      go true u e = absurd (let z : _≡_ {A = ℕ} 0 1 = cc in omega arith)
+      go false true e = absurd (let z : _≡_ {A = ℕ} 0 1 = cc in omega arith)
+      go false false e = forbids m e
+
+  pub char-forbidden : (text : List ℕ) → charNumber legal text ≡ Forbidden → X
+  unfolding charNumber
+  char-forbidden [] e = judge-forbidden NoNumber e
+  char-forbidden (b ∷ bs) e = judge-forbidden (pick (eqb b 120) (inBase 16 bs) (inBase 10 (b ∷ bs))) e
+
+-- the rule that lets every character pass forbids none
+pub any-passes : (n : ℕ) → anyCharacter n ≡ Forbidden → ⊥
+any-passes n e = let z : _≡_ {A = ℕ} 0 1 = cc in absurd (omega arith)
+
+-- Under that rule no character number is forbidden.
+pub charNumber-passes : (text : List ℕ) → charNumber anyCharacter text ≡ Forbidden → ⊥
+charNumber-passes text e = char-forbidden anyCharacter ⊥ any-passes text e
 
 -- A character number that is read is not 0, no surrogate, and at most U+10FFFF.
 pub charNumber-character : (text : List ℕ) (n : ℕ) → charNumber anyCharacter text ≡ Char n → Character n

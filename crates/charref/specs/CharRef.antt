@@ -10,7 +10,7 @@ use Rattle.text.specs.declared.Answer.the-variants.{Done, Refused}
 use Rattle.charref.specs.declared.Parsed.{Parsed}
 use Rattle.charref.specs.declared.Parsed.the-variants.{Value, Signed, NoNumber}
 use Rattle.charref.specs.declared.CharNumber.{CharNumber}
-use Rattle.charref.specs.declared.CharNumber.the-variants.{Char, UnexpectedSign, InvalidNumber, InvalidCodepoint, IllegalCharacter}
+use Rattle.charref.specs.declared.CharNumber.the-variants.{Char, UnexpectedSign, InvalidNumber, InvalidCodepoint, IllegalCharacter, Forbidden}
 
 -- Character numbers: what a byte is worth as a digit, in either letter case; 16, a digit of neither base, where it is none
 unfoldable pub digitValue : ℕ → ℕ
@@ -61,13 +61,14 @@ charNumber legal (b ∷ bs) = judge legal (pick (eqb b 120) (inBase 16 bs) (inBa
 abbrev pub anyCharacter : ℕ → CharNumber
 anyCharacter n = Char n
 
--- Refusals by place: the number and values of each case
+-- Refusals by place: the number and values of each case; document 02, K8: 25 has the values 0, 0
 unfoldable pub numberAnswer : CharNumber → Answer
 numberAnswer (Char n) = Done n 0
 numberAnswer UnexpectedSign = Refused 12 0 0
 numberAnswer InvalidNumber = Refused 13 0 0
 numberAnswer (InvalidCodepoint n) = Refused 14 n 0
 numberAnswer IllegalCharacter = Refused 15 0 0
+numberAnswer Forbidden = Refused 25 0 0
 
 -- RFC 3629, section 3: the bytes of a character
 unfoldable pub encode : ℕ → List ℕ

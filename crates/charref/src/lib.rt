@@ -16,13 +16,15 @@ enum Parsed {
     NoNumber,
 }
 
-// A character, or the refusal of its number: refusals::UNEXPECTED_SIGN, 13, 14 with the value, 15.
+// A character, or the refusal of its number: refusals::UNEXPECTED_SIGN, 13, 14 with the value, 15; 25, a character that the rule of the
+// reading does not allow (document 02, K8).
 pub enum CharNumber {
     Char(u32),
     UnexpectedSign,
     InvalidNumber,
     InvalidCodepoint(u32),
     IllegalCharacter,
+    Forbidden,
 }
 
 // A character, and the `;` after its digits; where c is 0 nothing is said.
@@ -189,7 +191,7 @@ pub fn quick_number(text: &[u8], from: usize) -> Quick
     quick_digits(text, from, 10)
 }
 
-// Document 01's number and values.
+// The number and values of documents 01 and 02.
 pub fn answer_of(n: CharNumber) -> Answer
     ensures { λ r. ⌜ r ≡ numberAnswer n ⌝ }
 {
@@ -215,6 +217,11 @@ pub fn answer_of(n: CharNumber) -> Answer
         },
         CharNumber::IllegalCharacter => Answer::Refused {
             number: refusals::ILLEGAL_CHARACTER,
+            first: 0,
+            second: 0,
+        },
+        CharNumber::Forbidden => Answer::Refused {
+            number: refusals::FORBIDDEN_REFERENCE,
             first: 0,
             second: 0,
         },

@@ -27,12 +27,11 @@ use Rattle.tokens.specs.Outcome.{Outcome, done, refused, finished}
 use Rattle.canonical.specs.Canonical.{canonical}
 use Rattle.attribute.specs.Checks.{settingsCheck}
 use Rattle.attribute.specs.Form.{besides, formed}
-use Rattle.attribute.specs.Walk.{readingOf}
 use Rattle.attribute.proofs.Checked.{checked-settings}
 use Rattle.govlezna.specs.Calls.{escapeCall, checkTableCall, unescapeCall, walkCheck, walked, normalizeAttributeValueCall, canonicalFormCall}
 use Rattle.demands.specs.Demands.{Asked, ruleFor, Taken, Accepted, formOf, AskedAgain}
 use Rattle.demands.specs.CallDemands.{EmptyTable, UnescapesTo, normalizeOf, canonicalOf, Answered, Completed, valueOf, writtenOf, CallsEqualExactly, CallAgain, CallRereads}
-use Rattle.demands.proofs.Numbers.{By, Fails, TableNumbers, WalkNumbers, by-then, by-length, by-utf8, by-level, by-settings, by-table, fails-normalize, finished-done}
+use Rattle.demands.proofs.Numbers.{By, Fails, TableNumbers, WalkNumbers, by-then, by-length, by-utf8, by-level, by-settings, by-table, fails-reading, finished-done}
 use Rattle.demands.proofs.RoundTrip.{ReadsBack, unescape-write, level-reads, unescape-undeclared}
 use Rattle.demands.proofs.Demands.{demand-3-equal, demand-3-again}
 
@@ -320,7 +319,7 @@ pub normalize-answered : (a : Asked) (out : List ℕ) {words : List ℕ} {buffer
 unfolding normalizeAttributeValueCall finished
 normalize-answered a out {words} {buffers} e =
     let p = guarded-zero (checkOf a) (out ∷ []) (finished (walkedOf a) out) (check-by a) e in
-    go (walkedOf a) refl (taken-by a (p .checks)) (p .answers) (fails-normalize Not0 walk-numbers (readingOf (ruleFor a) (a .list) (a .pool) (a .limit)) (a .depth) (a .text))
+    go (walkedOf a) refl (taken-by a (p .checks)) (p .answers) (fails-reading Not0 walk-numbers (ruleFor a) (a .list) (a .pool) (a .limit) (a .depth) (a .text))
   where
     go : (o : Outcome) → walkedOf a ≡ o → Taken a → finished o out ≡ called 0 words buffers → Fails Not0 o → Normalized a out words buffers
     go (done value made) q t k f =
@@ -357,7 +356,7 @@ pub canonical-answered : (a : Asked) (scratch out : List ℕ) {words : List ℕ}
 unfolding canonicalFormCall formed
 canonical-answered a scratch out {words} {buffers} e =
     let p = guarded-zero (checkOf a) (scratch ∷ out ∷ []) (formed (ruleFor a) (walkedOf a) scratch out) (check-by a) e in
-    go (walkedOf a) refl (taken-by a (p .checks)) (p .answers) (fails-normalize Not0 walk-numbers (readingOf (ruleFor a) (a .list) (a .pool) (a .limit)) (a .depth) (a .text))
+    go (walkedOf a) refl (taken-by a (p .checks)) (p .answers) (fails-reading Not0 walk-numbers (ruleFor a) (a .list) (a .pool) (a .limit) (a .depth) (a .text))
   where
     written : (value : List ℕ) (made : ℕ) → walkedOf a ≡ done value made → Taken a → (b : Bool) → ltb (length scratch) (length value) ≡ b
         → pick b (called 18 (length value ∷ 0 ∷ []) (scratch ∷ out ∷ [])) (besides (laid value scratch) (finish (formOf a value) made out)) ≡ called 0 words buffers

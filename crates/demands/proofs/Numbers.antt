@@ -7,14 +7,15 @@ use lib.ListN.{length}
 use lib.Dec.{eqb, ltb}
 use Rattle.text.specs.Bytes.{pick, sameBytes}
 use Rattle.text.proofs.Bytes.{pick-both}
-use Rattle.text.specs.Version.{knownVersion}
+use Rattle.text.specs.Version.{Rule, knownVersion}
 use Rattle.text.specs.Call.{called, callOf, passed, andThen, laid, finish, lengthCheck, versionCheck, utf8Check}
 use Rattle.text.specs.Utf8.{utf8End}
 use Rattle.text.specs.declared.Answer.{Answer}
 use Rattle.text.specs.declared.Answer.the-variants.{Done, Refused}
-use Rattle.charref.specs.CharRef.{charNumber, numberAnswer}
+use Rattle.charref.specs.CharRef.{anyCharacter, charNumber, numberAnswer}
 use Rattle.charref.specs.declared.CharNumber.{CharNumber}
-use Rattle.charref.specs.declared.CharNumber.the-variants.{Char, UnexpectedSign, InvalidNumber, InvalidCodepoint, IllegalCharacter}
+use Rattle.charref.specs.declared.CharNumber.the-variants.{Char, UnexpectedSign, InvalidNumber, InvalidCodepoint, IllegalCharacter, Forbidden}
+use Rattle.charref.proofs.Numbers.{char-forbidden, any-passes}
 use Rattle.escape.specs.Escape.{knownLevel, levelCheck}
 use Rattle.entity.specs.Table.{tableCheck}
 use Rattle.entity.specs.Binding.{Bound, text, external, predefined, unknown}
@@ -23,7 +24,7 @@ use Rattle.tokens.specs.Tokens.{Stop, kept, space, number, named, unterminated,
 use Rattle.tokens.specs.Outcome.{Outcome, done, refused, prepend, followed, run, numbered, numberOutcome, finished}
 use Rattle.unescape.specs.Unescape.{textHead, copied, replaced, unescape}
 use Rattle.attribute.specs.Checks.{settingsCheck}
-use Rattle.attribute.specs.Walk.{Settings, opened, answer, exhausted, walk, normalize}
+use Rattle.attribute.specs.Walk.{Settings, opened, answer, exhausted, walk, normalize, reading, readingOf}
 
 -- what is said of the number of a refusal
 abbrev pub By : (ℕ → Type 0) → Answer → Type 0
@@ -111,25 +112,33 @@ module _ (P : ℕ → Type 0) where
   fails-run f h (copy b ∷ ts) n = fails-prepend (b ∷ []) (run f ts n) (fails-run f h ts n)
   fails-run f h (stop s ∷ ts) n = fails-followed (f s n) (λ m. run f ts m) (h s n) (fails-run f h ts)
 
-  by-char : NumberNumbers P → (c : CharNumber) → By P (numberAnswer c)
-  unfolding numberAnswer
-  by-char h (Char n) = tt
-  by-char h UnexpectedSign = h .twelve
-  by-char h InvalidNumber = h .thirteen
-  by-char h (InvalidCodepoint n) = h .fourteen
-  by-char h IllegalCharacter = h .fifteen
+  -- a rule for characters that forbids some of them, by 25, or none
+  abbrev pub Forbids : (ℕ → CharNumber) → Type 0
+  Forbids legal = (n : ℕ) → legal n ≡ Forbidden → P 25
 
-  pub by-number : NumberNumbers P → (legal : ℕ → CharNumber) (digits : List ℕ) → By P (numberAnswer (charNumber legal digits))
-  by-number h legal digits = by-char h (charNumber legal digits)
+  pub forbids-none : Forbids anyCharacter
+  forbids-none n e = absurd (any-passes n e)
+
+  by-char : NumberNumbers P → (c : CharNumber) → (c ≡ Forbidden → P 25) → By P (numberAnswer c)
+  unfolding numberAnswer
+  by-char h (Char n) f = tt
+  by-char h UnexpectedSign f = h .twelve
+  by-char h InvalidNumber f = h .thirteen
+  by-char h (InvalidCodepoint n) f = h .fourteen
+  by-char h IllegalCharacter f = h .fifteen
+  by-char h Forbidden f = f refl
+
+  pub by-number : NumberNumbers P → (legal : ℕ → CharNumber) → Forbids legal → (digits : List ℕ) → By P (numberAnswer (charNumber legal digits))
+  by-number h legal f digits = by-char h (charNumber legal digits) (char-forbidden legal (P 25) f digits)
 
   fails-numbered : (a : Answer) (n : ℕ) → By P a → Fails P (numbered a n)
   unfolding numbered
   fails-numbered (Done c second) n h = tt
   fails-numbered (Refused why first second) n h = h
 
-  fails-number : NumberNumbers P → (legal : ℕ → CharNumber) (digits : List ℕ) (n : ℕ) → Fails P (numberOutcome legal digits n)
+  fails-number : NumberNumbers P → (legal : ℕ → CharNumber) → Forbids legal → (digits : List ℕ) (n : ℕ) → Fails P (numberOutcome legal digits n)
   unfolding numberOutcome
-  fails-number h legal digits n = fails-numbered (numberAnswer (charNumber legal digits)) n (by-number h legal digits)
+  fails-number h legal f digits n = fails-numbered (numberAnswer (charNumber legal digits)) n (by-number h legal f digits)
 
   fails-copied : P 11 → P 27 → (offset : ℕ) (name : List ℕ) (b : Bound) (n : ℕ) → Fails P (copied offset name b n)
   unfolding copied
@@ -142,7 +151,7 @@ module _ (P : ℕ → Type 0) where
   unfolding replaced
   fails-replaced h bind (kept b) n = tt
   fails-replaced h bind space n = tt
-  fails-replaced h bind (number digits) n = fails-number (h .numbers) _ digits n
+  fails-replaced h bind (number digits) n = fails-number (h .numbers) anyCharacter forbids-none digits n
   fails-replaced h bind (named offset name) n = fails-copied (h .eleven) (h .twenty-seven) offset name (bind name) n
   fails-replaced h bind (unterminated offset end) n = h .ten
 
@@ -150,7 +159,7 @@ module _ (P : ℕ → Type 0) where
   unfolding unescape
   fails-unescape h bind t = fails-run (replaced bind) (fails-replaced h bind) (tokens textHead 0 0 t) 0
 
-  module _ (h : WalkNumbers P) (st : Settings) where
+  module _ (h : WalkNumbers P) (st : Settings) (f : Forbids (st .legal)) where
     fails-opened : (walked : List ℕ → ℕ → Outcome) → ((t : List ℕ) (n : ℕ) → Fails P (walked t n)) → (offset : ℕ) (name : List ℕ) (b : Bound) (n : ℕ)
         → Fails P (opened (st .limit) walked offset name b n)
     unfolding opened
@@ -164,7 +173,7 @@ module _ (P : ℕ → Type 0) where
     unfolding answer
     fails-answer walked k (kept b) n = tt
     fails-answer walked k space n = tt
-    fails-answer walked k (number digits) n = fails-number (h .texts .numbers) (st .legal) digits n
+    fails-answer walked k (number digits) n = fails-number (h .texts .numbers) (st .legal) f digits n
     fails-answer walked k (named offset name) n =
         pick-both (Fails P) (sameBytes name (97 ∷ 109 ∷ 112 ∷ [])) {a = done (38 ∷ []) n} {b = opened (st .limit) walked offset name (st .bind name) n} tt
         (fails-opened walked k offset name (st .bind name) n)
@@ -177,9 +186,14 @@ module _ (P : ℕ → Type 0) where
         fails-run (answer st (λ u m. walk st (st .inner) depth u m))
         (fails-answer (λ u m. walk st (st .inner) depth u m) (fails-walk (st .inner) depth)) (tokens at 0 0 t) n
 
-    pub fails-normalize : (depth : ℕ) (t : List ℕ) → Fails P (normalize st depth t)
+    fails-normalize : (depth : ℕ) (t : List ℕ) → Fails P (normalize st depth t)
     unfolding normalize
     fails-normalize depth t = fails-walk (st .outer) depth t 0
+
+  -- of a reading of document 01, which forbids no character
+  pub fails-reading : WalkNumbers P → (r : Rule) (list pool : List ℕ) (limit depth : ℕ) (t : List ℕ) → Fails P (normalize (readingOf r list pool limit) depth t)
+  fails-reading h r list pool limit depth t =
+      fails-normalize h (readingOf r list pool limit) (unfold readingOf reading in forbids-none) depth t
 
 -- ---- how a call that walks ends
 

@@ -27,10 +27,9 @@ use Rattle.unescape.specs.Unescape.{unescape}
 use Rattle.canonical.specs.Canonical.{canonical}
 use Rattle.attribute.specs.Checks.{settingsCheck}
 use Rattle.attribute.specs.Form.{besides, formed as formOutcome}
-use Rattle.attribute.specs.Walk.{readingOf}
 use Rattle.govlezna.specs.Calls.{checkUtf8Call, parseNumberCall, escapeCall, normalizeEolsCall, trimCall, cursorLeft, cursorGuarded, cdataNextCall, checkTableCall, unescapeCall, walkCheck, walked, normalizeAttributeValueCall, canonicalFormCall}
 use Rattle.demands.specs.CallDemands.{listed, textNumbers, numberNumbers, writerNumbers, pieceNumbers, tableNumbers, unescapeNumbers, valueNumbers, formNumbers, Refuses, success, refusal, RefusesForm, formed, untouched, short, RefusesPiece, piece, stays}
-use Rattle.demands.proofs.Numbers.{By, Fails, TableNumbers, TextNumbers, WalkNumbers, by-then, by-length, by-utf8, by-version, by-level, by-settings, by-number, by-table, fails-unescape, fails-normalize, finished-done}
+use Rattle.demands.proofs.Numbers.{By, Fails, TableNumbers, TextNumbers, WalkNumbers, by-then, by-length, by-utf8, by-version, by-level, by-settings, by-number, by-table, forbids-none, fails-unescape, fails-reading, finished-done}
 
 module _ (numbers : List ℕ) where
   abbrev In : ℕ → Type 0
@@ -77,7 +76,7 @@ unfolding parseNumberCall
 parse-number-refuses text =
     let a = numberAnswer (charNumber anyCharacter text) in
     guarded-refuses numberNumbers [] (textCheck text) (callOf a []) (by-text numberNumbers refl refl text)
-    (call-refuses numberNumbers [] a (by-number (In numberNumbers) (record { twelve = refl; thirteen = refl; fourteen = refl; fifteen = refl }) anyCharacter text))
+    (call-refuses numberNumbers [] a (by-number (In numberNumbers) (record { twelve = refl; thirteen = refl; fourteen = refl; fifteen = refl }) anyCharacter (forbids-none (In numberNumbers)) text))
 
 -- Demand 1: an escape answers 0, or refuses by 1, 4, 5 or 19 and leaves the output's bytes untouched.
 pub escape-refuses : (text : List ℕ) (level : ℕ) (out : List ℕ) → Refuses writerNumbers (out ∷ []) (escapeCall text level out)
@@ -167,7 +166,7 @@ module _ (numbers : List ℕ) (text : List ℕ) (version depth limit : ℕ) (lis
       (by-table (In numbers) t list pool)
 
   fails-walked : WalkNumbers (In numbers) → Fails (In numbers) (walked text version depth limit list pool)
-  fails-walked h = fails-normalize (In numbers) h (readingOf (ruleOf version) list pool limit) depth text
+  fails-walked h = fails-reading (In numbers) h (ruleOf version) list pool limit depth text
 
 -- Demand 1: normalization answers 0, or refuses by 1 to 17 or 19 and leaves the output's bytes untouched.
 pub normalize-attribute-value-refuses : (text : List ℕ) (version depth limit : ℕ) (list pool out : List ℕ)

@@ -14,7 +14,7 @@ use Rattle.text.specs.Utf8.{WellFormed}
 use Rattle.text.proofs.Bytes.{pick-by, and-left, and-right, or-left, contrary}
 use Rattle.charref.specs.CharRef.{charNumber, anyCharacter, numberAnswer, encode}
 use Rattle.charref.specs.declared.CharNumber.{CharNumber}
-use Rattle.charref.specs.declared.CharNumber.the-variants.{Char, UnexpectedSign, InvalidNumber, InvalidCodepoint, IllegalCharacter}
+use Rattle.charref.specs.declared.CharNumber.the-variants.{Char, UnexpectedSign, InvalidNumber, InvalidCodepoint, IllegalCharacter, Forbidden}
 use Rattle.entity.specs.Table.{marked}
 use Rattle.entity.specs.Binding.{Bound, text, external, predefined, unknown, binding, GoodBound}
 use Rattle.entity.proofs.Tables.{binding-good}
@@ -62,6 +62,7 @@ character-agrees UnexpectedSign n = λ l. refl
 character-agrees InvalidNumber n = λ l. refl
 character-agrees (InvalidCodepoint k) n = λ l. refl
 character-agrees IllegalCharacter n = λ l. refl
+character-agrees Forbidden n = λ l. refl
 
 number-agrees : (legal : ℕ → CharNumber) (cs : List ℕ) (n : ℕ) → Agree [] (numberOutcome legal (encodeAll cs) n) (characterValue (charNumber legal cs))
 unfolding numberOutcome

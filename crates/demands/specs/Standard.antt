@@ -11,7 +11,7 @@ use Rattle.text.specs.Bytes.{pick, sameBytes}
 use Rattle.text.specs.Version.{Rule, xml10, xml11}
 use Rattle.charref.specs.CharRef.{charNumber}
 use Rattle.charref.specs.declared.CharNumber.{CharNumber}
-use Rattle.charref.specs.declared.CharNumber.the-variants.{Char, UnexpectedSign, InvalidNumber, InvalidCodepoint, IllegalCharacter}
+use Rattle.charref.specs.declared.CharNumber.the-variants.{Char, UnexpectedSign, InvalidNumber, InvalidCodepoint, IllegalCharacter, Forbidden}
 use Rattle.entity.specs.Binding.{Bound, text, external, predefined, unknown}
 use Rattle.tokens.specs.Tokens.{Name, ended, endless, nameAt}
 use Rattle.tokens.specs.Outcome.{Outcome, done, refused}
@@ -77,6 +77,7 @@ characterValue UnexpectedSign = none
 characterValue InvalidNumber = none
 characterValue (InvalidCodepoint n) = none
 characterValue IllegalCharacter = none
+characterValue Forbidden = none
 
 -- 3.3.3: "For an entity reference, recursively apply step 3 of this algorithm to the replacement text of the entity"
 unfoldable pub replacedBy : (List ℕ → Option (List ℕ)) → Option (List ℕ) → Option (List ℕ)

@@ -17,7 +17,7 @@ use Rattle.charref.specs.CharRef.{charNumber, anyCharacter, numberAnswer}
 use Rattle.charref.specs.Reading.{Found, Closed}
 use Rattle.charref.specs.declared.Quick.{Quick}
 use Rattle.charref.specs.declared.CharNumber.{CharNumber}
-use Rattle.charref.specs.declared.CharNumber.the-variants.{Char, UnexpectedSign, InvalidNumber, InvalidCodepoint, IllegalCharacter}
+use Rattle.charref.specs.declared.CharNumber.the-variants.{Char, UnexpectedSign, InvalidNumber, InvalidCodepoint, IllegalCharacter, Forbidden}
 use Rattle.charref.proofs.CharNumber.{the-type}
 use Rattle.charref.proofs.Encoding.{encode-1}
 use Rattle.charref.proofs.Numbers.{charNumber-character}
@@ -45,19 +45,21 @@ pub number-char : (digits : List ℕ) (next : ℕ) {c : ℕ} → charNumber anyC
 number-char digits next {c} e = (refl, charNumber-character digits c e .most, λ n. number-done digits n e)
 
 -- every case but the first is a refusal
-handed-on : (n : CharNumber) → OneOf (1 ∷ 2 ∷ 3 ∷ 4 ∷ []) (tagOf the-type n) → (digits : List ℕ) (next : ℕ) → charNumber anyCharacter digits ≡ n
+handed-on : (n : CharNumber) → OneOf (1 ∷ 2 ∷ 3 ∷ 4 ∷ 5 ∷ []) (tagOf the-type n) → (digits : List ℕ) (next : ℕ) → charNumber anyCharacter digits ≡ n
     → NumberMeans digits next (handedTo (numberAnswer n))
 unfolding numberAnswer numberOutcome numbered
 handed-on (Char c) (inl e) digits next q = absurd (omega arith)
 handed-on (Char c) (inr (inl e)) digits next q = absurd (omega arith)
 handed-on (Char c) (inr (inr (inl e))) digits next q = absurd (omega arith)
-handed-on (Char c) (inr (inr (inr e))) digits next q = absurd (omega arith)
+handed-on (Char c) (inr (inr (inr (inl e)))) digits next q = absurd (omega arith)
+handed-on (Char c) (inr (inr (inr (inr e)))) digits next q = absurd (omega arith)
 handed-on UnexpectedSign k digits next q = λ n. rw q
 handed-on InvalidNumber k digits next q = λ n. rw q
 handed-on (InvalidCodepoint v) k digits next q = λ n. rw q
 handed-on IllegalCharacter k digits next q = λ n. rw q
+handed-on Forbidden k digits next q = λ n. rw q
 
-pub number-refused : (digits : List ℕ) (next : ℕ) {n : CharNumber} {r : Meaning} → charNumber anyCharacter digits ≡ n → OneOf (1 ∷ 2 ∷ 3 ∷ 4 ∷ []) (tagOf the-type n)
+pub number-refused : (digits : List ℕ) (next : ℕ) {n : CharNumber} {r : Meaning} → charNumber anyCharacter digits ≡ n → OneOf (1 ∷ 2 ∷ 3 ∷ 4 ∷ 5 ∷ []) (tagOf the-type n)
     → r ≡ handedTo (numberAnswer n) → NumberMeans digits next r
 number-refused digits next {n} e k q = rw q (handed-on n k digits next e)
 

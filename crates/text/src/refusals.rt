@@ -39,6 +39,12 @@ pub const NO_ROOM: u32 = 19;
 
 pub const CURSOR_OUTSIDE: u32 = 20;
 
+// A reference to a character outside Char.
+pub const FORBIDDEN_REFERENCE: u32 = 25;
+
+// A raw character that the rule does not allow.
+pub const FORBIDDEN_CHARACTER: u32 = 26;
+
 pub const EXTERNAL_ENTITY: u32 = 27;
 
 // No refusal: there is no further piece.

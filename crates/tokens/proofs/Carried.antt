@@ -6,7 +6,7 @@ use mathlib.Core.List.{List, [], _∷_}
 use lib.ListN.{drop}
 use Rattle.charref.specs.CharRef.{charNumber, numberAnswer, encode}
 use Rattle.charref.specs.declared.CharNumber.{CharNumber}
-use Rattle.charref.specs.declared.CharNumber.the-variants.{Char, UnexpectedSign, InvalidNumber, InvalidCodepoint, IllegalCharacter}
+use Rattle.charref.specs.declared.CharNumber.the-variants.{Char, UnexpectedSign, InvalidNumber, InvalidCodepoint, IllegalCharacter, Forbidden}
 use Rattle.tokens.specs.Tokens.{Stop, kept, space, number, Token, copy, stop, Head, head, tokenOf, skipOf, Heads, tokens}
 use Rattle.tokens.specs.Outcome.{Outcome, done, refused, followed, run, numbered, numberOutcome}
 
@@ -81,3 +81,4 @@ module _ {legal : ℕ → CharNumber} (C : Carried legal) where
       go InvalidNumber e = C .refusal x y n 13 0 0
       go (InvalidCodepoint c) e = C .refusal x y n 14 c 0
       go IllegalCharacter e = C .refusal x y n 15 0 0
+      go Forbidden e = C .refusal x y n 25 0 0

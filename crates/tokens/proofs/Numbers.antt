@@ -11,7 +11,7 @@ use Rattle.text.specs.declared.Answer.{Answer}
 use Rattle.text.specs.declared.Answer.the-variants.{Done, Refused}
 use Rattle.charref.specs.CharRef.{charNumber, anyCharacter, numberAnswer, encode}
 use Rattle.charref.specs.declared.CharNumber.{CharNumber}
-use Rattle.charref.specs.declared.CharNumber.the-variants.{Char, UnexpectedSign, InvalidNumber, InvalidCodepoint, IllegalCharacter}
+use Rattle.charref.specs.declared.CharNumber.the-variants.{Char, UnexpectedSign, InvalidNumber, InvalidCodepoint, IllegalCharacter, Forbidden}
 use Rattle.charref.proofs.Encoding.{encode-at-most}
 use Rattle.charref.proofs.CharNumber.{the-type}
 use Rattle.tokens.specs.Outcome.{Outcome, done, refused, numbered, numberOutcome}
@@ -30,19 +30,21 @@ module _ (digits : List ℕ) (next openings : ℕ) where
   number-written e s = rw (number-done digits openings e) s
 
   -- every case but the first is a refusal
-  handed-on : (n : CharNumber) → OneOf (1 ∷ 2 ∷ 3 ∷ 4 ∷ []) (tagOf the-type n) → (old : List ℕ)
+  handed-on : (n : CharNumber) → OneOf (1 ∷ 2 ∷ 3 ∷ 4 ∷ 5 ∷ []) (tagOf the-type n) → (old : List ℕ)
       → Stepped next (numbered (numberAnswer n) openings) old old (handedOn (numberAnswer n))
   unfolding numbered numberAnswer
   handed-on (Char c) (inl e) old = absurd (omega arith)
   handed-on (Char c) (inr (inl e)) old = absurd (omega arith)
   handed-on (Char c) (inr (inr (inl e))) old = absurd (omega arith)
-  handed-on (Char c) (inr (inr (inr e))) old = absurd (omega arith)
+  handed-on (Char c) (inr (inr (inr (inl e)))) old = absurd (omega arith)
+  handed-on (Char c) (inr (inr (inr (inr e)))) old = absurd (omega arith)
   handed-on UnexpectedSign k old = record { answers = refl; writes = refl }
   handed-on InvalidNumber k old = record { answers = refl; writes = refl }
   handed-on (InvalidCodepoint v) k old = record { answers = refl; writes = refl }
   handed-on IllegalCharacter k old = record { answers = refl; writes = refl }
+  handed-on Forbidden k old = record { answers = refl; writes = refl }
 
-  pub number-handed : {n : CharNumber} {r : Step} (old : List ℕ) → charNumber anyCharacter digits ≡ n → OneOf (1 ∷ 2 ∷ 3 ∷ 4 ∷ []) (tagOf the-type n)
+  pub number-handed : {n : CharNumber} {r : Step} (old : List ℕ) → charNumber anyCharacter digits ≡ n → OneOf (1 ∷ 2 ∷ 3 ∷ 4 ∷ 5 ∷ []) (tagOf the-type n)
       → r ≡ handedOn (numberAnswer n) → Stepped next (numberOutcome anyCharacter digits openings) old old r
   unfolding numberOutcome
   number-handed {n} old e k q = rw (e, q) (handed-on n k old)

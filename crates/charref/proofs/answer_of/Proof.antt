@@ -1,4 +1,4 @@
--- `charref::answer_of` gives document 01's number and values, case by case. Assumes nothing.
+-- `charref::answer_of` gives the number and values of documents 01 and 02, case by case. Assumes nothing.
 use Rattle.charref.specs.CharRef.{numberAnswer}
 use mathlib.Core.Path.{sym, ap}
 use borrow.Author.Needs.{needs}
@@ -26,6 +26,9 @@ cast-t6 c = search needs
 enum-told-3 : tie.Need-enum-told-3
 enum-told-3 c = search needs
 
+enum-told-4 : tie.Need-enum-told-4
+enum-told-4 c = search needs
+
 returns : tie.Need-returns
 unfolding numberAnswer
 returns c = sym (ap numberAnswer (c .before .n .given .1))
@@ -46,6 +49,10 @@ returns-5 : tie.Need-returns-5
 unfolding numberAnswer
 returns-5 c = sym (ap numberAnswer (c .enum-told3 .given .1))
 
+returns-6 : tie.Need-returns-6
+unfolding numberAnswer
+returns-6 c = sym (ap numberAnswer (c .enum-told4 .given .1))
+
 pub answer-of-spec : {M : Type 1} → statement M
 answer-of-spec =
     tie.close
@@ -57,8 +64,10 @@ answer-of-spec =
     enum-known-n-2
     cast-t6
     enum-told-3
+    enum-told-4
     returns
     returns-2
     returns-3
     returns-4
-    returns-5)
+    returns-5
+    returns-6)
