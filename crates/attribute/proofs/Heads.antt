@@ -1,5 +1,5 @@
--- The heads of attribute values: a token takes up at least what it weighs, and leaves a reader of UTF-8 where the bytes after it begin.
--- Assumes nothing.
+-- The heads of attribute values: a token takes up at least what it weighs, leaves a reader of UTF-8 where the bytes after it begin, and
+-- bars no character. Assumes nothing.
 use mathlib.Core.Path.{_≡_, refl, ap, sym, _∙_}
 use Prim.Native.Nat.{ℕ, zero, suc}
 use native.Mathlib.Omega.{arith}
@@ -16,9 +16,10 @@ use Rattle.eols.specs.LineEnds.{lineEnd}
 use Rattle.eols.proofs.Normal.{line-end-settles}
 use Rattle.charref.specs.declared.CharNumber.{CharNumber}
 use Rattle.charref.specs.declared.CharNumber.the-variants.{Char}
-use Rattle.tokens.specs.Tokens.{kept, space, copy, stop, Head, head}
+use Rattle.tokens.specs.Tokens.{kept, space, copy, stop, Head, head, nameAt}
 use Rattle.tokens.proofs.Carried.{Moving}
 use Rattle.tokens.proofs.Lengths.{Fits, fits-moves, reference-fits, lengths}
+use Rattle.tokens.proofs.Barred.{Passes, BarsNothing, reference-passes}
 use Rattle.tokens.proofs.WellFormedness.{Whole, whole-moves, reference-whole, utf8}
 use Rattle.attribute.specs.Heads.{spaceOr, otherHead, attributeHead, pastHead}
 use Rattle.attribute.specs.Walk.{innerHead}
@@ -110,3 +111,32 @@ pub inner-utf8 : (legal : ℕ → CharNumber) (own : (m n : ℕ) → legal m ≡
 unfolding innerHead
 inner-utf8 legal own false r = attribute-utf8 legal own r
 inner-utf8 legal own true r = past-utf8 legal own
+
+-- ---- no character is barred
+
+space-passes : (w : ℕ) (other : Head) → Passes other → Passes (spaceOr w other)
+unfolding spaceOr
+space-passes zero other h = h
+space-passes (suc w) other h = λ p. p
+
+other-passes : (r : Rule) (b : ℕ) → Passes (otherHead r b)
+unfolding otherHead
+other-passes xml10 b = λ p. p
+other-passes xml11 b = pick-both Passes (eqb b 0xC2 || eqb b 0xE2) {a = head (stop (kept b)) 0} {b = head (copy b) 0} (λ p. p) (λ p. p)
+
+pub attribute-passes : (r : Rule) → BarsNothing (attributeHead r)
+unfolding attributeHead
+attribute-passes r offset b bs =
+    pick-both Passes (eqb b 38) (reference-passes offset bs (nameAt false bs))
+    (pick-both Passes (eqb b 9) {a = head (stop space) 0} (λ p. p) (space-passes (lineEnd r (b ∷ bs)) (otherHead r b) (other-passes r b)))
+
+pub past-passes : BarsNothing pastHead
+unfolding pastHead
+past-passes offset b bs =
+    pick-both Passes (eqb b 38) (reference-passes offset bs (nameAt false bs))
+    (pick-both Passes (eqb b 9 || eqb b 10 || eqb b 13) {a = head (stop space) 0} {b = head (copy b) 0} (λ p. p) (λ p. p))
+
+pub inner-passes : (past : Bool) (r : Rule) → BarsNothing (innerHead past r)
+unfolding innerHead
+inner-passes false r = attribute-passes r
+inner-passes true r = past-passes

@@ -17,7 +17,7 @@ use Rattle.entity.specs.declared.Binding.the-variants.{Text, External, Predefin
 use Rattle.entity.proofs.Referents.{predefined-binding}
 use Rattle.output.specs.Runs.{Plain}
 use Rattle.output.proofs.Runs.{plain-byte}
-use Rattle.tokens.specs.Tokens.{Token, copy, stop, Head, Heads, tokenOf, skipOf, nameAt, referenceAt, tokens}
+use Rattle.tokens.specs.Tokens.{Token, copy, stop, barred, Head, Heads, tokenOf, skipOf, nameAt, referenceAt, tokens}
 use Rattle.tokens.specs.Outcome.{Outcome, done, refused, run, numberOutcome}
 use Rattle.tokens.specs.Walking.{NameEnd, headAt, nextAt, outcomeOf}
 use Rattle.tokens.proofs.Progress.{run-whole}
@@ -39,6 +39,7 @@ module _ (s : Settings) where
   unfolding stopAnswer exhausted
   stop-zero depth e (copy b) i n = absurd i
   stop-zero depth e (stop x) i n = rw e
+  stop-zero depth e (barred o) i n = absurd i
 
   pub stop-deeper : (depth : ℕ) → depth ≢ 0 → (t : Token) (n : ℕ) → outcomeOf (stopAnswer s depth) t n ≡ outcomeOf (answer s (λ u m. walk s (s .inner) (depth - 1) u m)) t n
   unfolding stopAnswer

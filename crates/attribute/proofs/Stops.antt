@@ -14,7 +14,7 @@ use Rattle.text.proofs.Bytes.{pick-both, pick-by, or-left, or-right}
 use Rattle.eols.specs.LineEnds.{lineEnd}
 use Rattle.eols.specs.Stops.{ruleFor}
 use Rattle.eols.proofs.LineEnds.{none10, none11, lf-alone}
-use Rattle.tokens.specs.Tokens.{kept, space, number, named, Token, copy, stop, Head, head, Heads, tokenOf, Name, ended, endless, nameAt, referenceTo, referenceAt}
+use Rattle.tokens.specs.Tokens.{kept, space, number, named, Token, copy, stop, barred, Head, head, Heads, tokenOf, Name, ended, endless, nameAt, referenceTo, referenceAt}
 use Rattle.tokens.specs.Walking.{Copies}
 use Rattle.attribute.specs.Heads.{spaceOr, otherHead, attributeHead, pastHead}
 use Rattle.halts.specs.Halts.{stopByte}
@@ -105,6 +105,7 @@ kept-head newer b bs amp tab e z = go newer (lead newer refl)
 abbrev pub IsStop : Token → Type 0
 IsStop (copy b) = ⊥
 IsStop (stop s) = Unit {0}
+IsStop (barred o) = ⊥
 
 reference-stop : (offset : ℕ) (bs : List ℕ) (n : Name) → IsStop (tokenOf (referenceAt offset bs n))
 unfolding referenceAt referenceTo

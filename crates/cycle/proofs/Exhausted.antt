@@ -12,7 +12,7 @@ use Rattle.text.specs.declared.Answer.{Answer}
 use Rattle.text.specs.declared.Answer.the-variants.{Refused}
 use Rattle.text.proofs.Bytes.{or-left, or-right}
 use Rattle.halts.specs.Halts.{anyStop, stopByte}
-use Rattle.tokens.specs.Tokens.{Token, copy, stop, Head, Heads, tokenOf, skipOf, tokens}
+use Rattle.tokens.specs.Tokens.{Token, copy, stop, barred, Head, Heads, tokenOf, skipOf, tokens}
 use Rattle.tokens.specs.Outcome.{Outcome, done, refused, prepend, run, answerIn, leftIn}
 use Rattle.tokens.specs.Walking.{Ended, stepOf}
 use Rattle.tokens.specs.declared.Step.the-variants.{Next, Stopped}
@@ -34,6 +34,7 @@ first-stop : (x : Token) (ts : List Token) (n : ℕ) → IsStop x → Exhausts (
 unfolding run exhausted
 first-stop (copy b) ts n p = absurd p
 first-stop (stop s) ts n p = record { before = []; is = refl }
+first-stop (barred o) ts n p = absurd p
 
 or-tail : (x y : Bool) → x || y ≡ true → x ≡ false → y ≡ true
 or-tail false y e q = e

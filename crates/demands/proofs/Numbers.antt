@@ -17,14 +17,18 @@ use Rattle.charref.specs.declared.CharNumber.{CharNumber}
 use Rattle.charref.specs.declared.CharNumber.the-variants.{Char, UnexpectedSign, InvalidNumber, InvalidCodepoint, IllegalCharacter, Forbidden}
 use Rattle.charref.proofs.Numbers.{char-forbidden, any-passes}
 use Rattle.escape.specs.Escape.{knownLevel, levelCheck}
-use Rattle.entity.specs.Table.{tableCheck}
+use Rattle.entity.specs.Table.{tableCheck, marked}
 use Rattle.entity.specs.Binding.{Bound, text, external, predefined, unknown}
 use Rattle.entity.proofs.Tables.{ByNumber, table-answers}
-use Rattle.tokens.specs.Tokens.{Stop, kept, space, number, named, unterminated, Token, copy, stop, Heads, tokens}
+use Rattle.tokens.specs.Tokens.{Stop, kept, space, number, named, unterminated, Token, copy, stop, barred, Heads, tokenOf, skipOf, tokens}
 use Rattle.tokens.specs.Outcome.{Outcome, done, refused, prepend, followed, run, numbered, numberOutcome, finished}
+use Rattle.tokens.proofs.Barred.{IsBarred, BarsNothing}
 use Rattle.unescape.specs.Unescape.{textHead, copied, replaced, unescape}
+use Rattle.unescape.proofs.Unescaped.{text-passes}
 use Rattle.attribute.specs.Checks.{settingsCheck}
-use Rattle.attribute.specs.Walk.{Settings, opened, answer, exhausted, walk, normalize, reading, readingOf}
+use Rattle.attribute.specs.Heads.{attributeHead}
+use Rattle.attribute.specs.Walk.{Settings, opened, answer, exhausted, walk, normalize, innerHead, reading, readingOf}
+use Rattle.attribute.proofs.Heads.{attribute-passes, inner-passes}
 
 -- what is said of the number of a refusal
 abbrev pub By : (ℕ → Type 0) → Answer → Type 0
@@ -106,11 +110,27 @@ module _ (P : ℕ → Type 0) where
   abbrev Failing : (Stop → ℕ → Outcome) → Type 0
   Failing f = (s : Stop) (n : ℕ) → Fails P (f s n)
 
-  fails-run : (f : Stop → ℕ → Outcome) → Failing f → (ts : List Token) (n : ℕ) → Fails P (run f ts n)
+  -- heads that bar some characters, by 26, or none
+  abbrev pub Bars : Heads → Type 0
+  Bars at = (offset b : ℕ) (bs : List ℕ) → IsBarred (tokenOf (at offset b bs)) → P 26
+
+  pub bars-none : (at : Heads) → BarsNothing at → Bars at
+  bars-none at h offset b bs p = absurd (h offset b bs p)
+
+  fails-token : (f : Stop → ℕ → Outcome) → Failing f → (t : Token) → (IsBarred t → P 26) → (ts : List Token) → ((n : ℕ) → Fails P (run f ts n))
+      → (n : ℕ) → Fails P (run f (t ∷ ts) n)
   unfolding run
-  fails-run f h [] n = tt
-  fails-run f h (copy b ∷ ts) n = fails-prepend (b ∷ []) (run f ts n) (fails-run f h ts n)
-  fails-run f h (stop s ∷ ts) n = fails-followed (f s n) (λ m. run f ts m) (h s n) (fails-run f h ts)
+  fails-token f h (copy b) k ts rest n = fails-prepend (b ∷ []) (run f ts n) (rest n)
+  fails-token f h (stop s) k ts rest n = fails-followed (f s n) (λ m. run f ts m) (h s n) rest
+  fails-token f h (barred o) k ts rest n = k tt
+
+  fails-run : (at : Heads) → Bars at → (f : Stop → ℕ → Outcome) → Failing f → (t : List ℕ) (offset skip n : ℕ) → Fails P (run f (tokens at offset skip t) n)
+  unfolding run tokens
+  fails-run at k f h [] offset skip n = tt
+  fails-run at k f h (b ∷ bs) offset (suc skip) n = fails-run at k f h bs (suc offset) skip n
+  fails-run at k f h (b ∷ bs) offset zero n =
+      let skip = skipOf (at offset b bs) in
+      fails-token f h (tokenOf (at offset b bs)) (k offset b bs) (tokens at (suc offset) skip bs) (fails-run at k f h bs (suc offset) skip) n
 
   -- a rule for characters that forbids some of them, by 25, or none
   abbrev pub Forbids : (ℕ → CharNumber) → Type 0
@@ -157,7 +177,7 @@ module _ (P : ℕ → Type 0) where
 
   pub fails-unescape : TextNumbers P → (bind : List ℕ → Bound) (t : List ℕ) → Fails P (unescape bind t)
   unfolding unescape
-  fails-unescape h bind t = fails-run (replaced bind) (fails-replaced h bind) (tokens textHead 0 0 t) 0
+  fails-unescape h bind t = fails-run textHead (bars-none textHead text-passes) (replaced bind) (fails-replaced h bind) t 0 0 0
 
   module _ (h : WalkNumbers P) (st : Settings) (f : Forbids (st .legal)) where
     fails-opened : (walked : List ℕ → ℕ → Outcome) → ((t : List ℕ) (n : ℕ) → Fails P (walked t n)) → (offset : ℕ) (name : List ℕ) (b : Bound) (n : ℕ)
@@ -179,21 +199,23 @@ module _ (P : ℕ → Type 0) where
         (fails-opened walked k offset name (st .bind name) n)
     fails-answer walked k (unterminated offset end) n = h .texts .ten
 
-    fails-walk : (at : Heads) (depth : ℕ) (t : List ℕ) (n : ℕ) → Fails P (walk st at depth t n)
+    fails-walk : (at : Heads) → Bars at → Bars (st .inner) → (depth : ℕ) (t : List ℕ) (n : ℕ) → Fails P (walk st at depth t n)
     unfolding walk exhausted
-    fails-walk at zero t n = fails-run exhausted (λ s m. unfold exhausted in h .sixteen) (tokens at 0 0 t) n
-    fails-walk at (suc depth) t n =
-        fails-run (answer st (λ u m. walk st (st .inner) depth u m))
-        (fails-answer (λ u m. walk st (st .inner) depth u m) (fails-walk (st .inner) depth)) (tokens at 0 0 t) n
+    fails-walk at k i zero t n = fails-run at k exhausted (λ s m. unfold exhausted in h .sixteen) t 0 0 n
+    fails-walk at k i (suc depth) t n =
+        fails-run at k (answer st (λ u m. walk st (st .inner) depth u m))
+        (fails-answer (λ u m. walk st (st .inner) depth u m) (fails-walk (st .inner) i i depth)) t 0 0 n
 
-    fails-normalize : (depth : ℕ) (t : List ℕ) → Fails P (normalize st depth t)
+    fails-normalize : Bars (st .outer) → Bars (st .inner) → (depth : ℕ) (t : List ℕ) → Fails P (normalize st depth t)
     unfolding normalize
-    fails-normalize depth t = fails-walk (st .outer) depth t 0
+    fails-normalize k i depth t = fails-walk (st .outer) k i depth t 0
 
-  -- of a reading of document 01, which forbids no character
+  -- of a reading of document 01, which forbids and bars no character
   pub fails-reading : WalkNumbers P → (r : Rule) (list pool : List ℕ) (limit depth : ℕ) (t : List ℕ) → Fails P (normalize (readingOf r list pool limit) depth t)
+  unfolding readingOf reading
   fails-reading h r list pool limit depth t =
-      fails-normalize h (readingOf r list pool limit) (unfold readingOf reading in forbids-none) depth t
+      fails-normalize h (readingOf r list pool limit) forbids-none
+      (bars-none (attributeHead r) (attribute-passes r)) (bars-none (innerHead (marked list) r) (inner-passes (marked list) r)) depth t
 
 -- ---- how a call that walks ends
 

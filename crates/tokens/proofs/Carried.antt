@@ -7,7 +7,7 @@ use lib.ListN.{drop}
 use Rattle.charref.specs.CharRef.{charNumber, numberAnswer, encode}
 use Rattle.charref.specs.declared.CharNumber.{CharNumber}
 use Rattle.charref.specs.declared.CharNumber.the-variants.{Char, UnexpectedSign, InvalidNumber, InvalidCodepoint, IllegalCharacter, Forbidden}
-use Rattle.tokens.specs.Tokens.{Stop, kept, space, number, Token, copy, stop, Head, head, tokenOf, skipOf, Heads, tokens}
+use Rattle.tokens.specs.Tokens.{Stop, kept, space, number, Token, copy, stop, barred, Head, head, tokenOf, skipOf, Heads, tokens}
 use Rattle.tokens.specs.Outcome.{Outcome, done, refused, followed, run, numbered, numberOutcome}
 
 -- A reader of the text stands at a place, each token leads it to another, and `Holds x y n o` says what is to be said of the outcome
@@ -54,6 +54,7 @@ module _ {legal : ℕ → CharNumber} (C : Carried legal) where
   unfolding run
   token-carried f a x y (copy b) l ts h n = C .joined x y (C .end) n (done (b ∷ []) n) (λ m. run f ts m) (C .copies x y b l n) h
   token-carried f a x y (stop s) l ts h n = C .joined x y (C .end) n (f s n) (λ m. run f ts m) (a x y s l n) h
+  token-carried f a x y (barred o) l ts h n = C .refusal x (C .end) n 26 o 0
 
   -- the tokens of a text, after `skip` bytes
   pub run-carried : (at : Heads) → Moving at → (f : Stop → ℕ → Outcome) → Answering f

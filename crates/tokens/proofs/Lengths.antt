@@ -13,7 +13,7 @@ use Rattle.charref.specs.declared.CharNumber.{CharNumber}
 use Rattle.charref.specs.declared.CharNumber.the-variants.{Char, InvalidNumber}
 use Rattle.charref.proofs.Encoding.{encode-at-most}
 use Rattle.charref.proofs.Numbers.{char-none}
-use Rattle.tokens.specs.Tokens.{Stop, kept, space, number, named, unterminated, Token, copy, stop, Head, head, Name, ended, endless, longer, nameAt, referenceAt}
+use Rattle.tokens.specs.Tokens.{Stop, kept, space, number, named, unterminated, Token, copy, stop, barred, Head, head, Name, ended, endless, longer, nameAt, referenceAt}
 use Rattle.tokens.specs.Outcome.{Outcome, done, refused, prepend, followed}
 use Rattle.tokens.proofs.Carried.{Carried, Moves}
 
@@ -47,6 +47,7 @@ weighs (unterminated offset end) = 0
 abbrev pub weight : Token → ℕ
 weight (copy b) = 1
 weight (stop s) = weighs s
+weight (barred o) = 0
 
 pub number-bounded : (legal : ℕ → CharNumber) (x y : ℕ) (digits : List ℕ) (c : ℕ) → weighs (number digits) + y ≤ x → charNumber legal digits ≡ Char c
     → (n : ℕ) → Bounded x y n (done (encode c) n)

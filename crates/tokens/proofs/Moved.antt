@@ -8,7 +8,7 @@ use Rattle.text.specs.declared.Answer.{Answer}
 use Rattle.text.specs.declared.Answer.the-variants.{Done, Refused}
 use Rattle.charref.specs.CharRef.{charNumber, numberAnswer, encode}
 use Rattle.charref.specs.declared.CharNumber.{CharNumber}
-use Rattle.tokens.specs.Tokens.{Stop, number, named, unterminated, Token, copy, stop}
+use Rattle.tokens.specs.Tokens.{Stop, number, named, unterminated, Token, copy, stop, barred}
 use Rattle.tokens.specs.Outcome.{Outcome, done, refused, prepend, followed, run, numbered, numberOutcome}
 use Rattle.tokens.specs.Seen.{Shifts}
 
@@ -58,6 +58,7 @@ module _ (limit : ℕ) where
       moved-joined m n (done (b ∷ []) m) (done (b ∷ []) n) (λ a. run f ts a) (λ a. run f ts a) (moved-still m n (b ∷ [])) (λ a c. run-moved f h ts a c)
   run-moved f h (stop s ∷ ts) m n =
       moved-joined m n (f s m) (f s n) (λ a. run f ts a) (λ a. run f ts a) (h s m n) (λ a c. run-moved f h ts a c)
+  run-moved f h (barred o ∷ ts) m n = tt
 
   -- ---- character numbers
 

@@ -12,7 +12,7 @@ use borrow.Rule.Slice.PartMut.{midOf, putMid}
 use Rattle.text.specs.declared.Answer.the-variants.{Done}
 use Rattle.output.specs.Over.{over}
 use Rattle.output.proofs.Clip.{over-more, length-over}
-use Rattle.tokens.specs.Tokens.{Stop, Token, copy, stop, Head, Heads, tokens, tokenOf, skipOf}
+use Rattle.tokens.specs.Tokens.{Stop, Token, copy, stop, barred, Head, Heads, tokens, tokenOf, skipOf}
 use Rattle.tokens.specs.Outcome.{Outcome, done, refused, prepend, followed, run}
 use Rattle.output.specs.Runs.{Plain}
 use Rattle.tokens.specs.Walking.{Copies, headAt, nextAt, outcomeOf, Stepped, Walked}
@@ -36,6 +36,7 @@ run-token : (answer : Stop → ℕ → Outcome) (t : Token) (ts : List Token) (o
 unfolding run
 run-token answer (copy b) ts openings = refl
 run-token answer (stop s) ts openings = refl
+run-token answer (barred o) ts openings = refl
 
 module _ (at : Heads) (answer : Stop → ℕ → Outcome) (text : List ℕ) where
   -- the outcome of the tokens from an index on

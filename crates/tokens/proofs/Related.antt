@@ -3,7 +3,7 @@ use mathlib.Core.Path.{_≡_, refl, ap}
 use Prim.Native.Nat.{ℕ}
 use mathlib.Core.Bool.{Bool, true, false}
 use mathlib.Core.List.{List, [], _∷_}
-use Rattle.tokens.specs.Tokens.{Stop, Token, copy, stop}
+use Rattle.tokens.specs.Tokens.{Stop, Token, copy, stop, barred}
 use Rattle.tokens.specs.Outcome.{Outcome, done, refused, prepend, followed, run}
 
 pub record Related (R : Outcome → Outcome → Type 0) : Type 0 where
@@ -17,6 +17,7 @@ module _ (R : Outcome → Outcome → Type 0) (related : Related R) where
   run-related f g h (copy b ∷ ts) n =
       related .joined (done (b ∷ []) n) (done (b ∷ []) n) (λ m. run f ts m) (λ m. run g ts m) (related .same (done (b ∷ []) n)) (λ m. run-related f g h ts m)
   run-related f g h (stop s ∷ ts) n = related .joined (f s n) (g s n) (λ m. run f ts m) (λ m. run g ts m) (h s n) (λ m. run-related f g h ts m)
+  run-related f g h (barred o ∷ ts) n = related .same (refused [] n 26 o 0)
 
 -- ---- every answer of the first is the second's, but for refusals by some numbers
 

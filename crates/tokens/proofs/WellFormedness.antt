@@ -15,7 +15,7 @@ use Rattle.charref.specs.declared.CharNumber.{CharNumber}
 use Rattle.charref.specs.declared.CharNumber.the-variants.{Char}
 use Rattle.charref.proofs.Numbers.{Character, legal-character}
 use Rattle.charref.proofs.Encoding.{encode-well-formed}
-use Rattle.tokens.specs.Tokens.{kept, space, number, named, unterminated, Token, copy, stop, Head, head, Name, ended, endless, longer, nameAt, referenceAt}
+use Rattle.tokens.specs.Tokens.{kept, space, number, named, unterminated, Token, copy, stop, barred, Head, head, Name, ended, endless, longer, nameAt, referenceAt}
 use Rattle.tokens.specs.Outcome.{Outcome, done, refused, prepend, followed}
 use Rattle.tokens.proofs.Carried.{Carried, Moves}
 
@@ -40,6 +40,7 @@ Leaves s (stop space) s′ = settle s ≡ s′
 Leaves s (stop (number digits)) s′ = (s ≡ between) × (s′ ≡ between)
 Leaves s (stop (named offset name)) s′ = (s ≡ between) × (s′ ≡ between)
 Leaves s (stop (unterminated offset end)) s′ = Unit {0}
+Leaves s (barred o) s′ = Unit {0}
 
 pub one-byte : (s s′ : State) (c : ℕ) → next s c ≡ s′ → after s (c ∷ []) ≡ s′
 unfolding after

@@ -9,7 +9,7 @@ use Rattle.text.specs.declared.Answer.{Answer}
 use Rattle.text.specs.declared.Answer.the-variants.{Done, Refused}
 use Rattle.charref.specs.CharRef.{charNumber, numberAnswer, encode}
 use Rattle.charref.specs.declared.CharNumber.{CharNumber}
-use Rattle.tokens.specs.Tokens.{Stop, Token, copy, stop}
+use Rattle.tokens.specs.Tokens.{Stop, Token, copy, stop, barred}
 
 -- Attribute walk: the value and the openings made; or the bytes before the refusal, the openings made until then, and the
 -- refusal's number, first and second
@@ -26,11 +26,13 @@ abbrev pub followed : Outcome → (ℕ → Outcome) → Outcome
 followed (done value openings) rest = prepend value (rest openings)
 followed (refused before openings number first second) rest = refused before openings number first second
 
--- the tokens from left to right, each stop answered by `answer`, which is told the openings so far
+-- the tokens from left to right, each stop answered by `answer`, which is told the openings so far; document 02, K8: 26, whatever the
+-- depth
 unfoldable pub run : (Stop → ℕ → Outcome) → List Token → ℕ → Outcome
 run answer [] openings = done [] openings
 run answer (copy b ∷ ts) openings = prepend (b ∷ []) (run answer ts openings)
 run answer (stop s ∷ ts) openings = followed (answer s openings) (λ n. run answer ts n)
+run answer (barred offset ∷ ts) openings = refused [] openings 26 offset 0
 
 -- Character numbers: the character copied, or the refusal passed upward as it came
 unfoldable pub numbered : Answer → ℕ → Outcome

@@ -1,4 +1,5 @@
--- A text as a list of tokens: bytes that are copied, and stops (document 01, Attribute walk and Unescaping). Assumes nothing.
+-- A text as a list of tokens: bytes that are copied, stops, and characters that are not allowed (document 01, Attribute walk and
+-- Unescaping; document 02, K8). Assumes nothing.
 use Prim.Native.Nat.{ℕ, zero, suc, _+_}
 use mathlib.Core.Bool.{Bool, _&&_}
 use mathlib.Core.List.{List, [], _∷_}
@@ -15,9 +16,11 @@ pub data Stop : Type 0 where
   named : ℕ → List ℕ → Stop
   unterminated : ℕ → ℕ → Stop
 
+-- document 02, K8: `barred` is a raw character that the rule of the reading does not allow, with its offset
 pub data Token : Type 0 where
   copy : ℕ → Token
   stop : Stop → Token
+  barred : ℕ → Token
 
 -- the token at the head of a text, and how many bytes after the first belong to it
 pub data Head : Type 0 where

@@ -7,7 +7,7 @@ use lib.ListN.{length, getD, take, drop}
 use Rattle.text.specs.declared.Answer.{Answer}
 use Rattle.text.specs.declared.Answer.the-variants.{Done, Refused}
 use Rattle.output.specs.Over.{over}
-use Rattle.tokens.specs.Tokens.{Stop, Token, copy, stop, Head, head, Heads, skipOf, ended, endless, nameAt}
+use Rattle.tokens.specs.Tokens.{Stop, Token, copy, stop, barred, Head, head, Heads, skipOf, ended, endless, nameAt}
 use Rattle.tokens.specs.Outcome.{Outcome, done, refused, produced, answerOf, answerIn, leftIn}
 use Rattle.tokens.specs.declared.Step.{Step}
 use Rattle.tokens.specs.declared.Step.the-variants.{Next, Stopped}
@@ -36,6 +36,7 @@ nextAt at text i = i + 1 + skipOf (headAt at text i)
 abbrev pub outcomeOf : (Stop → ℕ → Outcome) → Token → ℕ → Outcome
 outcomeOf answer (copy b) openings = done (b ∷ []) openings
 outcomeOf answer (stop s) openings = answer s openings
+outcomeOf answer (barred offset) openings = refused [] openings 26 offset 0
 
 -- a single step: the next offset, the length written and the openings; or the refusal
 abbrev pub stepOf : ℕ → Outcome → Step

@@ -1,4 +1,5 @@
--- Unescaped texts: no opening is made, and UTF-8 is kept. Instances of what is carried along a run. Assumes nothing.
+-- Unescaped texts: no opening is made, UTF-8 is kept, and no character is barred. The first two are instances of what is carried along a
+-- run. Assumes nothing.
 use mathlib.Core.Path.{_≡_, refl, subst}
 use Prim.Native.Nat.{ℕ, suc, _+_}
 use mathlib.Core.Bool.{true}
@@ -7,13 +8,14 @@ use lib.ListN.{length}
 use lib.Dec.{eqb}
 use borrow.Author.Tests.{eqb-true}
 use Rattle.text.specs.Utf8.{State, between, next, after, WellFormed}
-use Rattle.text.proofs.Bytes.{pick-by}
+use Rattle.text.proofs.Bytes.{pick-by, pick-both}
 use Rattle.charref.specs.CharRef.{anyCharacter}
 use Rattle.entity.specs.Binding.{Bound, text, external, predefined, unknown, GoodBound}
-use Rattle.tokens.specs.Tokens.{kept, space, number, named, unterminated, copy, stop, head}
+use Rattle.tokens.specs.Tokens.{kept, space, number, named, unterminated, copy, stop, head, nameAt}
 use Rattle.tokens.specs.Outcome.{done}
 use Rattle.tokens.proofs.Carried.{Carried, Moving, Answering, run-carried, number-carried}
 use Rattle.tokens.proofs.Openings.{openingsOf, noneMade, none-moving}
+use Rattle.tokens.proofs.Barred.{Passes, BarsNothing, reference-passes}
 use Rattle.tokens.proofs.WellFormedness.{between-brings, Whole, whole-moves, reference-whole, utf8, any-own}
 use Rattle.unescape.specs.Unescape.{textHead, copied, replaced, unescape}
 
@@ -80,3 +82,9 @@ module _ (bind : List ℕ → Bound) (good : (name : List ℕ) → GoodBound (bi
   pub unescape-well-formed : (t value : List ℕ) (openings : ℕ) → WellFormed t → unescape bind t ≡ done value openings → WellFormed value
   unfolding WellFormed
   unescape-well-formed t value openings h e = rw e at (unescape-carried bind (utf8 anyCharacter any-own) utf8-copying text-utf8 between t h)
+
+-- ---- no character is barred
+
+pub text-passes : BarsNothing textHead
+unfolding textHead
+text-passes offset b bs = pick-both Passes (eqb b 38) {b = head (copy b) 0} (reference-passes offset bs (nameAt true bs)) (λ p. p)
