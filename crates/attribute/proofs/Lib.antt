@@ -4,6 +4,7 @@ pub mod Values
 pub mod Stops
 pub mod Blanks
 pub mod Single
+pub mod Guards
 pub mod Reread
 pub mod Deeper
 pub mod Outer

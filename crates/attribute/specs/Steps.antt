@@ -2,9 +2,14 @@
 use Prim.Native.Nat.{ℕ, zero, suc, _+_, _-_, _≤_}
 use mathlib.Core.Path.{_≡_}
 use mathlib.Core.List.{List, [], _∷_}
+use mathlib.Core.Bool.{Bool, false}
 use lib.Dec.{eqb}
 use lib.ListN.{length}
 use Rattle.text.specs.Bytes.{pick, sameBytes}
+use Rattle.text.specs.Version.{xml10, xml11}
+use Rattle.charref.specs.CharRef.{anyCharacter}
+use Rattle.charref.specs.declared.CharNumber.{CharNumber}
+use Rattle.legal.specs.FirstFault.{mayBy, faultsBy}
 use Rattle.eols.specs.Stops.{ruleFor}
 use Rattle.eols.specs.declared.Step.{Step}
 use Rattle.entity.specs.Binding.{Bound, predefined}
@@ -12,10 +17,11 @@ use Rattle.text.specs.declared.Answer.{Answer}
 use Rattle.text.specs.declared.Answer.the-variants.{Done, Refused}
 use Rattle.tokens.specs.declared.Step.{Step as Onward}
 use Rattle.tokens.specs.declared.Step.the-variants.{Next, Stopped}
-use Rattle.tokens.specs.Tokens.{Stop, Heads, tokenOf}
+use Rattle.tokens.specs.Tokens.{Stop, Heads, tokenOf, nameAt, referenceAt}
 use Rattle.tokens.specs.Outcome.{Outcome, done}
 use Rattle.tokens.specs.Walking.{headAt, nextAt, outcomeOf}
 use Rattle.attribute.specs.Heads.{attributeHead, pastHead}
+use Rattle.attribute.specs.Strict.{guarded, onlyChar}
 use Rattle.attribute.specs.Walk.{Settings, answer, exhausted, walk}
 
 -- Attribute walk: a stop at a depth
@@ -27,6 +33,28 @@ stopAnswer s (suc depth) = answer s (λ u n. walk s (s .inner) depth u n)
 -- how a text is read, by the code's number: 0 as XML 1.0, 1 as XML 1.1, 2 past line ends
 abbrev pub headsBy : ℕ → Heads
 headsBy how = pick (eqb how 2) pastHead (attributeHead (ruleFor (eqb how 1)))
+
+-- what may stand in a text, by the code's number: 0 all, else the rule of the number before it (`mayBy`)
+abbrev pub faultBy : ℕ → List ℕ → Bool
+faultBy zero bytes = false
+faultBy (suc rule) bytes = faultsBy rule bytes
+
+abbrev pub guardBy : ℕ → Heads → Heads
+guardBy zero at = at
+guardBy (suc rule) at = guarded (mayBy rule) at
+
+abbrev pub readBy : ℕ → ℕ → Heads
+readBy how guard = guardBy guard (headsBy how)
+
+-- and which characters a number may name: all, those of XML 1.0, those of XML 1.1
+abbrev pub legalBy : ℕ → ℕ → CharNumber
+legalBy zero = anyCharacter
+legalBy (suc zero) = onlyChar xml10
+legalBy (suc (suc rule)) = onlyChar xml11
+
+-- heads under which `&` starts a reference
+abbrev pub Refers : Heads → Type 0
+Refers heads = (offset : ℕ) (bs : List ℕ) → heads offset 38 bs ≡ referenceAt offset bs (nameAt false bs)
 
 -- the stop at an offset of a text, at a depth
 abbrev pub outcomeAt : Settings → Heads → ℕ → List ℕ → ℕ → ℕ → Outcome

@@ -18,7 +18,7 @@ use Rattle.charref.specs.CharRef.{digitValue, digit, numberFrom, small, 
 use Rattle.charref.specs.declared.Parsed.{Parsed}
 use Rattle.charref.specs.declared.Parsed.the-variants.{Value, Signed, NoNumber}
 use Rattle.charref.specs.declared.CharNumber.{CharNumber}
-use Rattle.charref.specs.declared.CharNumber.the-variants.{Char, InvalidNumber, InvalidCodepoint, IllegalCharacter, Forbidden}
+use Rattle.charref.specs.declared.CharNumber.the-variants.{Char, UnexpectedSign, InvalidNumber, InvalidCodepoint, IllegalCharacter, Forbidden}
 use Rattle.charref.proofs.Encoding.{encode-well-formed}
 
 -- ---- a digit at a time
@@ -191,6 +191,32 @@ any-passes n e = let z : _≡_ {A = ℕ} 0 1 = cc in absurd (omega arith)
 -- Under that rule no character number is forbidden.
 pub charNumber-passes : (text : List ℕ) → charNumber anyCharacter text ≡ Forbidden → ⊥
 charNumber-passes text e = char-forbidden anyCharacter ⊥ any-passes text e
+
+-- another rule for the characters that 12 to 15 let pass
+abbrev pub relegal : (ℕ → CharNumber) → CharNumber → CharNumber
+relegal legal (Char n) = legal n
+relegal legal UnexpectedSign = UnexpectedSign
+relegal legal InvalidNumber = InvalidNumber
+relegal legal (InvalidCodepoint n) = InvalidCodepoint n
+relegal legal IllegalCharacter = IllegalCharacter
+relegal legal Forbidden = Forbidden
+
+relegal-judge : (legal : ℕ → CharNumber) (p : Parsed) → judge legal p ≡ relegal legal (judge anyCharacter p)
+unfolding judge
+relegal-judge legal Signed = refl
+relegal-judge legal NoNumber = refl
+relegal-judge legal (Value n) = go (eqb n 0) (within 0xD800 0xDFFF n || ltb 1114111 n)
+  where
+    go : (z s : Bool) → pick z IllegalCharacter (pick s (InvalidCodepoint n) (legal n)) ≡ relegal legal (pick z IllegalCharacter (pick s (InvalidCodepoint n) (Char n)))
+    go true s = refl
+    go false true = refl
+    go false false = refl
+
+-- Under any rule a number is what the lenient one says, but for characters.
+pub relegal-number : (legal : ℕ → CharNumber) (text : List ℕ) → charNumber legal text ≡ relegal legal (charNumber anyCharacter text)
+unfolding charNumber
+relegal-number legal [] = relegal-judge legal (inBase 10 [])
+relegal-number legal (b ∷ bs) = relegal-judge legal (pick (eqb b 120) (inBase 16 bs) (inBase 10 (b ∷ bs)))
 
 -- A character number that is read is not 0, no surrogate, and at most U+10FFFF.
 pub charNumber-character : (text : List ℕ) (n : ℕ) → charNumber anyCharacter text ≡ Char n → Character n

@@ -17,7 +17,7 @@ use Rattle.tokens.specs.Tokens.{Heads}
 use Rattle.tokens.specs.declared.Step.{Step}
 use Rattle.tokens.specs.declared.Step.the-variants.{Next, Stopped}
 use Rattle.attribute.specs.Walk.{Settings, walk}
-use Rattle.attribute.specs.Steps.{headsBy, stepFrom}
+use Rattle.attribute.specs.Steps.{readBy, stepFrom}
 use Rattle.memory.specs.Slots.{slotOf, Kept}
 use Rattle.memory.specs.Levels.{settingsOf, Level, levelOf, innerLevel, Came, Opens, Reaches, Lent, Onward, FlatKeeps, StepsKeep, StepKeeps}
 use Rattle.memory.specs.declared.Reading.{Reading}
@@ -35,7 +35,7 @@ use Rattle.cycle.specs.Cycle.{Bottom, innerStart, LentInner}
 
 -- what the walk of the text is set to that the step opens
 abbrev pub below : Reading → Place → Reading
-below r p = record { how = r .inner; inner = r .inner; depth = r .depth - 1; limit = r .limit; base = r .base + p .len }
+below r p = record { how = r .inner; inner = r .inner; guard = r .inguard; inguard = r .inguard; depth = r .depth - 1; limit = r .limit; base = r .base + p .len }
 
 module _ (r : Reading) (p : Place) (list pool : List ℕ) (command : ℕ) where
   abbrev settings : Settings
@@ -61,21 +61,21 @@ module _ (r : Reading) (p : Place) (list pool : List ℕ) (command : ℕ) where
         → StepsKeep (levelOf (below r p) list pool t) (r .base + p .len) (innerStart p) old seen new kept a
         → StepKeeps settings list pool (r .depth) command (r .base) p old seen new kept (stepFrom (p .at) b)
     step-of room {old} {seen} {new} {kept} {a} {b} q k =
-        let few : p .openings < settings .limit = subst (λ (n : ℕ). p .openings < n) (sym (by-limit (r .inner) list pool (r .limit))) room in
+        let few : p .openings < settings .limit = subst (λ (n : ℕ). p .openings < n) (sym (by-limit (r .inner) (r .inguard) list pool (r .limit))) room in
         step-walked settings list pool (r .depth) command (r .base) p few
         (subst (λ (l : Level). StepsKeep l (r .base + p .len) (innerStart p) old seen new kept b) (sym level-is)
         (subst (StepsKeep (levelOf (below r p) list pool t) (r .base + p .len) (innerStart p) old seen new kept) q k))
 
     -- at depth 1
     pub step-bottom : r .depth ≡ 1 → {old seen new : List ℕ} {a : Step}
-        → ((s : Settings) → Bottom (walk s (headsBy (r .inner)) 0 t (p .openings + 1)) (p .at) old new a)
+        → ((s : Settings) → Bottom (walk s (readBy (r .inner) (r .inguard)) 0 t (p .openings + 1)) (p .at) old new a)
         → StepKeeps settings list pool (r .depth) command (r .base) p old seen new seen a
     step-bottom one {old} {seen} {new} {a} any =
-        let heads = headsBy (r .inner) in
+        let heads = readBy (r .inner) (r .inguard) in
         let b = any settings in
         let z : r .depth - 1 ≡ 0 = omega (arith, one) in
         let e : walk settings (settings .inner) (r .depth - 1) (commandText list pool command) (p .openings + 1) ≡ walk settings heads 0 t (p .openings + 1) =
-        ap (λ (h : Heads). walk settings h (r .depth - 1) (commandText list pool command) (p .openings + 1)) (by-inner (r .inner) list pool (r .limit))
+        ap (λ (h : Heads). walk settings h (r .depth - 1) (commandText list pool command) (p .openings + 1)) (by-inner (r .inner) (r .inguard) list pool (r .limit))
         ∙ ap (λ (d : ℕ). walk settings heads d (commandText list pool command) (p .openings + 1)) z
         ∙ ap (λ (x : List ℕ). walk settings heads 0 x (p .openings + 1)) is in
         record {
@@ -126,7 +126,7 @@ module _ (r : Reading) (list pool text : List ℕ) (p : Place) {old seen out wor
   level = levelOf r list pool text
 
   limit-is : settingsOf r list pool .limit ≡ r .limit
-  limit-is = by-limit (r .inner) list pool (r .limit)
+  limit-is = by-limit (r .inner) (r .inguard) list pool (r .limit)
 
   -- the part between two openings is asked what the walker was
   pub goes-lent : Lent level (r .base) old seen p → Lent level (r .base) out words (placeOf at len made)
@@ -183,7 +183,7 @@ module _ (r : Reading) (list pool text : List ℕ) (p : Place) {old seen out wor
       module _ (bytes : (k : ℕ) → getD list k 0 < 0x100) {w : ℕ} {part after : List ℕ} (least : w ≡ min before (length new)) {q : Step}
           (k : StepIn r list pool command next before now w new kept part after q) where
         brief : Brief (settingsOf r list pool)
-        brief = by-brief (r .inner) list pool (r .limit) bytes
+        brief = by-brief (r .inner) (r .inguard) list pool (r .limit) bytes
 
         answered : {y : Step} → q ≡ y → StepIn r list pool command next before now w new kept part after y
         answered to = subst (StepIn r list pool command next before now w new kept part after) to k

@@ -4,10 +4,12 @@ use Prim.Native.Nat.{ℕ, _+_, _≤_, _<_}
 use mathlib.Core.Path.{_≡_}
 use mathlib.Core.Logic.{_≢_}
 use mathlib.Core.List.{List}
-use lib.ListN.{length}
-use Rattle.tokens.specs.Outcome.{Outcome, done}
+use lib.ListN.{length, take}
+use Rattle.tokens.specs.Outcome.{Outcome, done, refused}
 use Rattle.tokens.specs.Walking.{stepOf}
 use Rattle.tokens.specs.declared.Step.{Step}
+use Rattle.attribute.specs.Walk.{Settings, walk}
+use Rattle.attribute.specs.Steps.{headsBy, readBy}
 use Rattle.memory.specs.Levels.{settingsOf, innerLevel, Fitted, Lent}
 use Rattle.memory.specs.declared.Reading.{Reading}
 use Rattle.memory.specs.declared.Place.{Place}
@@ -18,6 +20,11 @@ pub record Bottom (o : Outcome) (next : ℕ) (old new : List ℕ) (r : Step) : T
   pub answers : r ≡ stepOf next o
   pub buffer : length new ≡ length old
   pub fitted : (value : List ℕ) (made : ℕ) → o ≡ done value made → Fitted value old new
+
+-- a character at `r` may not stand there, and no stop comes before it; or, at the end, such a character has no say
+pub record BottomFault (how guard : ℕ) (text : List ℕ) (r : ℕ) : Type 0 where
+  pub barred : r ≢ length text → (s : Settings) (n : ℕ) → walk s (readBy how guard) 0 text n ≡ refused (take r text) n 26 r 0
+  pub other : r ≡ length text → (s : Settings) (n : ℕ) → walk s (readBy how guard) 0 text n ≡ walk s (headsBy how) 0 text n
 
 -- ---- what the two functions are asked
 

@@ -5,9 +5,9 @@ ghost use lib.ListN.{length};
 ghost use Rattle.entity.specs.Table.{ValidTable};
 ghost use Rattle.entity.specs.Commands.{Defines};
 ghost use Rattle.attribute.specs.Walk.{Settings, walk};
-ghost use Rattle.attribute.specs.Steps.{headsBy};
+ghost use Rattle.attribute.specs.Steps.{readBy};
 ghost use Rattle.memory.specs.Levels.{settingsOf, levelOf, Lent, StepKeeps, StepsKeep};
-ghost use Rattle.cycle.specs.Cycle.{Bottom, Openable, LentInner, Walkable};
+ghost use Rattle.cycle.specs.Cycle.{Bottom, BottomFault, Openable, LentInner, Walkable};
 use memory::Place;
 use memory::Reached;
 use memory::Reading;
@@ -15,10 +15,36 @@ use text::Answer;
 use text::refusals;
 use tokens::Step;
 
-// A text at depth 0: refused where there is any stop, else its own value.
-fn bottom_step(text: &[u8], how: u8, next: usize, openings: u64, out: &mut [u8]) -> Step
-    ensures { λ r. ⌜ ((s : Settings) → Bottom (walk s (headsBy how) 0 (now (text .entry)) openings) next (now (out .entry)) (now (out .exit)) r) ⌝ }
+// The first character of a text at depth 0 that may not stand there, where no stop comes before it; else the text's end.
+pub fn bottom_fault(text: &[u8], how: u8, guard: u8) -> usize
+    ensures { λ r. ⌜ BottomFault how guard (now (text .entry)) r ⌝ }
 {
+    let n = text.len();
+    if guard == 0 {
+        return n;
+    }
+    let fault = legal::first_fault(text, 0, n, guard - 1);
+    if fault == n {
+        return n;
+    }
+    if halts::has_stop(&text[..fault], how == 1) {
+        return n;
+    }
+    fault
+}
+
+// A text at depth 0: refused where there is a fault or a stop, else its own value.
+fn bottom_step(text: &[u8], how: u8, guard: u8, next: usize, openings: u64, out: &mut [u8]) -> Step
+    ensures { λ r. ⌜ ((s : Settings) → Bottom (walk s (readBy how guard) 0 (now (text .entry)) openings) next (now (out .entry)) (now (out .exit)) r) ⌝ }
+{
+    let fault = bottom_fault(text, how, guard);
+    if fault != text.len() {
+        return Step::Stopped {
+            number: refusals::FORBIDDEN_CHARACTER,
+            first: fault as u64,
+            second: 0,
+        };
+    }
     if halts::has_stop(text, how == 1) {
         return Step::Stopped {
             number: refusals::TOO_DEEP,
@@ -59,7 +85,14 @@ fn normalize_attr_step(
     let next = place.at;
     let openings = place.openings + 1;
     if depth == 1 {
-        return bottom_step(&pool[start..end], reading.inner, next, openings, out);
+        return bottom_step(
+            &pool[start..end],
+            reading.inner,
+            reading.inguard,
+            next,
+            openings,
+            out,
+        );
     }
     let begun = Place {
         at: 0,
@@ -69,6 +102,8 @@ fn normalize_attr_step(
     let below = Reading {
         how: reading.inner,
         inner: reading.inner,
+        guard: reading.inguard,
+        inguard: reading.inguard,
         depth: depth - 1,
         limit: reading.limit,
         base: reading.base + place.len,

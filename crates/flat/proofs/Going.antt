@@ -1,5 +1,5 @@
 -- The loop between two openings: what it keeps (`Going`, from `going-start`, by `going-next`), and its four ends (`going-end`, `going-opens`,
--- `going-paused`, `going-stopped`). Assumes nothing.
+-- `going-paused`, `going-stopped`), and `going-barred`. Assumes nothing.
 use mathlib.Core.Path.{_≡_, refl, sym, _∙_}
 use mathlib.Core.Logic.{_≢_}
 use mathlib.Core.List.{List}
@@ -8,13 +8,16 @@ use native.Mathlib.Omega.{arith}
 use native.Mathlib.Nat.{le-refl}
 use lib.Dec.{eqb}
 use lib.ListN.{length, take, drop}
-use Rattle.halts.specs.Halts.{HaltAt, blanksSpaced}
+use Rattle.legal.specs.FirstFault.{Clean, FirstFault}
+use Rattle.halts.specs.Halts.{Smooth, HaltAt, blanksSpaced}
+use Rattle.attribute.specs.Steps.{faultBy}
 use Rattle.memory.specs.Levels.{Level, levelOf, Adds, Came, Lent, FlatKeeps}
 use Rattle.memory.specs.declared.Reading.{Reading}
 use Rattle.memory.specs.declared.Place.{Place}
 use Rattle.memory.specs.declared.Reached.the-variants.{End, Opening, Paused, Stopped}
 use Rattle.memory.proofs.Levels.{placeOf, came-end}
-use Rattle.memory.proofs.Readings.{came-run, lent-room, lent-within}
+use Rattle.memory.proofs.Stretches.{smooth-part}
+use Rattle.memory.proofs.Readings.{came-run, run-barred, lent-room, lent-within}
 use Rattle.flat.specs.Between.{HaltKeeps}
 use Rattle.flat.specs.declared.Halted.the-variants.{Next}
 use Rattle.flat.specs.declared.Halted.the-variants.{Opening as Opens, Paused as Pauses, Stopped as Stops}
@@ -49,14 +52,27 @@ module _ (r : Reading) (t list pool : List ℕ) (p : Place) (old₀ seen₀ : Li
     pub going-within : made ≤ r .limit
     going-within = lent-within r list pool t going-lent
 
-    -- after the run up to the halt
-    module _ {new : List ℕ} (adds : Adds (blanksSpaced (take (end - at) (drop at t))) len old new) where
+    -- a character of the run may not stand: refusal 26, before the run is written
+    pub going-barred : {fault : ℕ} → FirstFault (faultBy (r .guard)) t at end fault → fault ≢ end → FlatKeeps l (r .base) p old₀ seen₀ old seen (Stopped 26 fault 0)
+    going-barred {fault} f other =
+        let inside : fault < end = omega (arith, f .within, other) in
+        let smooth : Smooth (eqb (r .how) 1) t at fault = smooth-part (g .halt .smooth) (f .clean .from) (f .within) in
+        record {
+          onward = tt;
+          buffer = g .buffer;
+          words = g .words;
+          reaches = λ v whole begun e c.
+              run-barred r list pool t deep v whole begun (g .came v whole begun e c) smooth (f .clean) (omega (arith, inside, g .halt .smooth .to)) (f .found inside);
+        }
+
+    -- after the run up to the halt, in which every character may stand
+    module _ (clean : Clean (faultBy (r .guard)) t at end) {new : List ℕ} (adds : Adds (blanksSpaced (take (end - at) (drop at t))) len old new) where
       abbrev here : Place
       here = placeOf end (len + (end - at)) made
 
       run-came : (v whole : List ℕ) (begun : ℕ) → length v ≡ r .base → Came l v whole begun old₀ seen₀ (p .at) (p .len) (p .openings)
           → Came l v whole begun new seen end (len + (end - at)) made
-      run-came v whole begun e c = came-run r list pool t deep v whole begun (g .came v whole begun e c) (g .halt .smooth) adds
+      run-came v whole begun e c = came-run r list pool t deep v whole begun (g .came v whole begun e c) (g .halt .smooth) clean adds
 
       pub run-lent : Lent l (r .base) new seen here
       run-lent =

@@ -11,9 +11,13 @@ use lib.Dec.{eqb, ltb}
 use lib.ListN.{length, getD, set, take, drop, length-take}
 use lib.Seq.{take-all}
 use borrow.Author.Tests.{eq-eqb, eqb-true, ne-eqb, ltb-true, ltb-false}
-use Rattle.charref.specs.CharRef.{anyCharacter, encode}
+use Rattle.charref.specs.CharRef.{encode}
+use Rattle.charref.specs.declared.CharNumber.{CharNumber}
+use Rattle.charref.specs.declared.CharNumber.the-variants.{Forbidden}
+use Rattle.charref.specs.declared.CharNumber.the-variants.{Char as Character}
+use Rattle.legal.specs.FirstFault.{Clean}
 use Rattle.charref.proofs.Encoding.{encode-at-most}
-use Rattle.halts.specs.Halts.{Smooth, blanksSpaced}
+use Rattle.halts.specs.Halts.{halts, Smooth, blanksSpaced}
 use Rattle.text.specs.declared.Answer.the-variants.{Done, Refused}
 use Rattle.entity.specs.Table.{littleEndian, part, declarations, ValidTable}
 use Rattle.entity.proofs.Commands.{long-list}
@@ -24,8 +28,9 @@ use Rattle.tokens.specs.Tokens.{named, stop, Token, Heads, tokenOf}
 use Rattle.tokens.specs.Outcome.{done, refused}
 use Rattle.tokens.specs.Walking.{headAt, outcomeOf}
 use Rattle.attribute.specs.Walk.{Settings, answer, opened, walk}
-use Rattle.attribute.specs.Steps.{headsBy, stopAnswer, Blank}
-use Rattle.attribute.proofs.Single.{stop-deeper, at-external, at-unknown, at-predefined, walk-predefined}
+use Rattle.attribute.specs.Steps.{headsBy, faultBy, readBy, legalBy, Refers, stopAnswer, Blank}
+use Rattle.attribute.proofs.Single.{stop-deeper, at-external, at-unknown, at-predefined}
+use Rattle.attribute.proofs.Guards.{read-refers, guard-blank, halt-clean, read-predefined}
 use Rattle.memory.specs.Slots.{slotOf, Kept, Noted, Memory}
 use Rattle.memory.specs.Levels.{settingsOf, Level, levelOf, Adds, Came, Taken}
 use Rattle.memory.specs.declared.Reading.{Reading}
@@ -34,7 +39,7 @@ use Rattle.memory.proofs.Fitted.{adds-byte}
 use Rattle.memory.proofs.Levels.{left-done, came-on, came-stop, came-token}
 use Rattle.memory.proofs.Keeping.{memory-more, kept-length, noted-length, memory-noted}
 use Rattle.memory.proofs.Readings.{by-bind, by-inner, by-limit, by-legal, token-named, next-named, read-opens, read-taken, came-leaf, came-blank}
-use Rattle.flat.specs.Between.{ForChar, ForName, nameOf, Answers, HaltKeeps, Referred}
+use Rattle.flat.specs.Between.{Leaf, ForChar, ForName, nameOf, Answers, HaltKeeps, Referred}
 use Rattle.flat.specs.declared.Halted.the-variants.{Next, Opening, Stopped}
 
 -- ---- a reference to the text of a command
@@ -47,12 +52,12 @@ module _ (r : Reading) (t list pool : List ℕ) (p : Place) {command next : ℕ}
   S = settingsOf r list pool
 
   limit-is : S .limit ≡ r .limit
-  limit-is = by-limit (r .inner) list pool (r .limit)
+  limit-is = by-limit (r .inner) (r .inguard) list pool (r .limit)
 
   bound : S .bind (k .name) ≡ text (commandText list pool command)
-  bound = by-bind (r .inner) list pool (r .limit) (k .name) ∙ defines-binding (k .defines) (k .name) (k .same)
+  bound = by-bind (r .inner) (r .inguard) list pool (r .limit) (k .name) ∙ defines-binding (k .defines) (k .name) (k .same)
 
-  at-limit : p .openings ≡ r .limit → outcomeOf (stopAnswer S (r .depth)) (tokenOf (headAt (headsBy (r .how)) t (p .at))) (p .openings) ≡ refused [] (p .openings) 17 (p .at) 0
+  at-limit : p .openings ≡ r .limit → outcomeOf (stopAnswer S (r .depth)) (tokenOf (headAt (readBy (r .how) (r .guard)) t (p .at))) (p .openings) ≡ refused [] (p .openings) 17 (p .at) 0
   unfolding answer opened
   at-limit q =
       ap (λ (x : Token). outcomeOf (stopAnswer S (r .depth)) x (p .openings)) (k .is)
@@ -96,10 +101,10 @@ module _ (r : Reading) (t list pool : List ℕ) (p : Place) {command next : ℕ}
           }
 
       -- a text without halts is copied, and kept
-      pub halt-leaf : r .depth ≢ 1 → Smooth (eqb (r .inner) 1) value 0 (length value) → {new after : List ℕ}
+      pub halt-leaf : r .depth ≢ 1 → Leaf (eqb (r .inner) 1) (r .inguard) value → {new after : List ℕ}
           → Adds (blanksSpaced (take (length value - 0) (drop 0 value))) (p .len) old new → Kept seen slot command (slotOf 2 (r .base + p .len) (length value) 1) after
           → HaltKeeps l (r .base) p old seen new after (Next next (length value) (p .openings + 1))
-      halt-leaf two smooth {new} {after} adds kept =
+      halt-leaf two leaf {new} {after} adds kept =
           let all : take (length value - 0) (drop 0 value) ≡ value = take-all (length value - 0) value (omega arith) in
           let e = k .text-is in
           record {
@@ -109,7 +114,8 @@ module _ (r : Reading) (t list pool : List ℕ) (p : Place) {command next : ℕ}
             goes = λ v whole begun b c.
                 subst (λ (n : ℕ). Came l v whole begun new after next (p .len + n) (p .openings + 1)) (sym (ap length e))
                 (came-leaf r list pool t (k .deep) v whole begun c (k .bytes) b (k .name) (k .inside) (k .on) (k .to) (k .next-is) (k .is) (k .no-amp) (k .defines) (k .same)
-                two (omega (arith, room, limit-is, c .within)) (subst (λ (x : List ℕ). Smooth (eqb (r .inner) 1) x 0 (length x)) e smooth) known
+                two (omega (arith, room, limit-is, c .within)) (subst (λ (x : List ℕ). Smooth (eqb (r .inner) 1) x 0 (length x)) e (leaf .smooth))
+                (subst (λ (x : List ℕ). Clean (faultBy (r .inguard)) x 0 (length x)) e (leaf .clean)) known
                 (subst (λ (x : List ℕ). Adds (blanksSpaced x) (p .len) old new) (all ∙ e) adds)
                 (subst (λ (n : ℕ). Kept seen slot command (slotOf 2 (r .base + p .len) n 1) after) (ap length e) kept));
           }
@@ -130,8 +136,8 @@ referred r t list pool p {end} {command} {start} {last} deep bytes f k =
       inside = omega (arith, f .ends .from, f .inside);
       on = omega (arith, f .ends .from);
       to = omega (arith, f .inside);
-      next-is = next-named (r .how) t (p .at) end (f .amp) (f .ends) (f .inside) (f .no-number);
-      is = token-named (r .how) t (p .at) end (f .amp) (f .ends) (f .inside) (f .no-number);
+      next-is = next-named (r .how) (r .guard) t (p .at) end (f .amp) (f .ends) (f .inside) (f .no-number);
+      is = token-named (r .how) (r .guard) t (p .at) end (f .amp) (f .ends) (f .inside) (f .no-number);
       no-amp = f .no-amp;
       defines = k .defines;
       same = k .same;
@@ -145,21 +151,31 @@ module _ (r : Reading) (t list pool : List ℕ) (p : Place) (deep : r .depth ≢
   abbrev reads : Settings
   reads = settingsOf r list pool
 
-  legal : reads .legal ≡ anyCharacter
-  legal = by-legal (r .inner) list pool (r .limit)
+  legal : reads .legal ≡ legalBy (r .inguard)
+  legal = by-legal (r .inner) (r .inguard) list pool (r .limit)
+
+  abbrev heads : Heads
+  heads = readBy (r .how) (r .guard)
+
+  refers : Refers (readBy (r .how) (r .guard))
+  refers = read-refers (r .how) (r .guard)
+
+  -- what the rule says of a character, as the settings have it
+  judged : (c : ℕ) {x : CharNumber} → legalBy (r .inguard) c ≡ x → reads .legal c ≡ x
+  judged c e = ap (λ (f : ℕ → CharNumber). f c) legal ∙ e
 
   -- a reference that stands for a character
-  pub halt-char : {c next more : ℕ} → ForChar t (p .at) c next → {new : List ℕ} → more ≡ length (encode c) → Adds (encode c) (p .len) old new
+  pub halt-char : {c next more : ℕ} → ForChar t (p .at) c next → legalBy (r .inguard) c ≡ Character c → {new : List ℕ} → more ≡ length (encode c) → Adds (encode c) (p .len) old new
       → HaltKeeps level (r .base) p old seen new seen (Next next more (p .openings))
-  halt-char {c} {next} {more} f {new} n adds =
+  halt-char {c} {next} {more} f may {new} n adds =
       record {
         past = (omega (arith, f .on), f .to);
         buffer = adds .buffer;
         words = refl;
         goes = λ v whole begun e k.
             subst (λ (m : ℕ). Came level v whole begun new seen next (p .len + m) (p .openings)) (sym n)
-            (came-token level v whole begun k (encode c) (omega (arith, f .on, f .to)) (f .next-is (r .how)) (f .to)
-            (f .given (r .how) reads legal (r .depth) deep (p .openings)) (omega (arith, encode-at-most c, f .on))
+            (came-token level v whole begun k (encode c) (omega (arith, f .on, f .to)) (f .next-is heads refers) (f .to)
+            (f .given heads refers reads (judged c may) (r .depth) deep (p .openings)) (omega (arith, encode-at-most c, f .on))
             adds);
       }
 
@@ -171,7 +187,19 @@ module _ (r : Reading) (t list pool : List ℕ) (p : Place) (deep : r .depth ≢
         past = tt;
         buffer = refl;
         words = refl;
-        goes = λ v whole begun e k. came-stop level v whole begun k [] (p .openings) inside (f (r .how) reads legal (r .depth) deep (p .openings));
+        goes = λ v whole begun e k. came-stop level v whole begun k [] (p .openings) inside (f heads refers reads tt (r .depth) deep (p .openings));
+      }
+
+  -- refusal 25
+  pub halt-forbidden : {c next : ℕ} → p .at < length t → ForChar t (p .at) c next → c ≢ 38 → legalBy (r .inguard) c ≡ Forbidden
+      → HaltKeeps level (r .base) p old seen old seen (Stopped 25 0 0)
+  halt-forbidden {c} inside f other may =
+      record {
+        past = tt;
+        buffer = refl;
+        words = refl;
+        goes = λ v whole begun e k.
+            came-stop level v whole begun k [] (p .openings) inside (f .forbidden other heads refers reads (judged c may) (r .depth) deep (p .openings));
       }
 
   module _ {end : ℕ} (f : ForName t (p .at) end) where
@@ -182,7 +210,7 @@ module _ (r : Reading) (t list pool : List ℕ) (p : Place) (deep : r .depth ≢
     inside = omega (arith, f .ends .from, f .inside)
 
     bind : reads .bind name ≡ binding list pool name
-    bind = by-bind (r .inner) list pool (r .limit) name
+    bind = by-bind (r .inner) (r .inguard) list pool (r .limit) name
 
     -- refusal 27, whatever the openings so far
     pub halt-external : binding list pool name ≡ external → HaltKeeps level (r .base) p old seen old seen (Stopped 27 (p .at) 0)
@@ -194,7 +222,7 @@ module _ (r : Reading) (t list pool : List ℕ) (p : Place) (deep : r .depth ≢
           words = refl;
           goes = λ v whole begun b k.
               came-stop level v whole begun k [] (p .openings) inside
-              (at-external (r .how) reads legal (r .depth) deep t (p .at) (p .openings) end (f .amp) (f .ends) (f .inside) (f .no-number) (binding list pool name) bind pool
+              (at-external heads refers reads (r .depth) deep t (p .at) (p .openings) end (f .amp) (f .ends) (f .inside) (f .no-number) (binding list pool name) bind pool
               (rw (f .no-amp, e)));
         }
 
@@ -208,7 +236,7 @@ module _ (r : Reading) (t list pool : List ℕ) (p : Place) (deep : r .depth ≢
           words = refl;
           goes = λ v whole begun b k.
               came-stop level v whole begun k [] (p .openings) inside
-              (at-unknown (r .how) reads legal (r .depth) deep t (p .at) (p .openings) end (f .amp) (f .ends) (f .inside) (f .no-number) (binding list pool name) bind pool
+              (at-unknown heads refers reads (r .depth) deep t (p .at) (p .openings) end (f .amp) (f .ends) (f .inside) (f .no-number) (binding list pool name) bind pool
               (rw (f .no-amp, e)));
         }
 
@@ -224,7 +252,7 @@ module _ (r : Reading) (t list pool : List ℕ) (p : Place) (deep : r .depth ≢
           goes = λ v whole begun x k.
               came-on level v whole begun k (b ∷ [])
               (left-done level (p .at) (p .openings) (end + 1) (p .openings) (b ∷ []) inside
-              (next-named (r .how) t (p .at) end (f .amp) (f .ends) (f .inside) (f .no-number)) (given (p .openings))) refl
+              (next-named (r .how) (r .guard) t (p .at) end (f .amp) (f .ends) (f .inside) (f .no-number)) (given (p .openings))) refl
               (adds .fits (k .value) whole (k .size) (k .fitted))
               (keeps _ (memory-more reads list pool (k .memory) (b ∷ [])))
               (omega (arith, f .inside)) (le-refl _) (k .within) (omega (arith, f .ends .from));
@@ -235,12 +263,12 @@ module _ (r : Reading) (t list pool : List ℕ) (p : Place) (deep : r .depth ≢
 
         itself : (n : ℕ) → walk reads (reads .inner) (r .depth - 1) (b ∷ []) n ≡ done (b ∷ []) n
         itself n =
-            ap (λ (h : Heads). walk reads h (r .depth - 1) (b ∷ []) n) (by-inner (r .inner) list pool (r .limit))
-            ∙ walk-predefined reads (r .inner) list pool name (r .depth - 1) b n (f .no-amp) e
+            ap (λ (h : Heads). walk reads h (r .depth - 1) (b ∷ []) n) (by-inner (r .inner) (r .inguard) list pool (r .limit))
+            ∙ read-predefined reads (r .inner) (r .inguard) list pool name (r .depth - 1) b n (f .no-amp) e
 
-        given : (n : ℕ) → outcomeOf (stopAnswer reads (r .depth)) (tokenOf (headAt (headsBy (r .how)) t (p .at))) n ≡ done (b ∷ []) n
+        given : (n : ℕ) → outcomeOf (stopAnswer reads (r .depth)) (tokenOf (headAt (readBy (r .how) (r .guard)) t (p .at))) n ≡ done (b ∷ []) n
         given n =
-            at-predefined (r .how) reads legal (r .depth) deep t (p .at) n end (f .amp) (f .ends) (f .inside) (f .no-number) (binding list pool name) bind pool b
+            at-predefined heads refers reads (r .depth) deep t (p .at) n end (f .amp) (f .ends) (f .inside) (f .no-number) (binding list pool name) bind pool b
             (rw (f .no-amp, e)) (λ x y. itself n)
 
     -- that the table does not define it is kept, or was known
@@ -255,15 +283,16 @@ module _ (r : Reading) (t list pool : List ℕ) (p : Place) (deep : r .depth ≢
 -- ---- a space, for a line end or a blank
 
 pub halt-blank : (r : Reading) (t list pool : List ℕ) (p : Place) → r .depth ≢ 0 → (old seen : List ℕ) → p .at < length t → {w : ℕ}
-    → Blank (headsBy (r .how)) t (p .at) (record { byte = 32; width = w }) → {new : List ℕ} → new ≡ set old (p .len) 32
+    → halts (eqb (r .how) 1) (drop (p .at) t) ≡ true → Blank (headsBy (r .how)) t (p .at) (record { byte = 32; width = w }) → {new : List ℕ} → new ≡ set old (p .len) 32
     → HaltKeeps (levelOf r list pool t) (r .base) p old seen new seen (Next (p .at + w) 1 (p .openings))
-halt-blank r t list pool p deep old seen inside {w} blank {new} q =
+halt-blank r t list pool p deep old seen inside {w} halt blank {new} q =
+    let read = guard-blank t (p .at) inside (r .guard) (headsBy (r .how)) (halt-clean (r .guard) (eqb (r .how) 1) (drop (p .at) t) halt) blank in
     let adds = subst (Adds (32 ∷ []) (p .len) old) (sym q) (adds-byte 32 (p .len) old) in
     record {
       past = (omega (arith, blank .some), blank .inside);
       buffer = adds .buffer;
       words = refl;
-      goes = λ v whole begun b c. came-blank r list pool t deep v whole begun c (record { byte = 32; width = w }) inside blank adds;
+      goes = λ v whole begun b c. came-blank r list pool t deep v whole begun c (record { byte = 32; width = w }) inside read adds;
     }
 
 -- ---- a table

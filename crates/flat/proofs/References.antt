@@ -20,7 +20,7 @@ use Rattle.charref.specs.declared.CharNumber.{CharNumber}
 use Rattle.charref.specs.declared.CharNumber.the-variants.{Char, UnexpectedSign, InvalidNumber, InvalidCodepoint, IllegalCharacter, Forbidden}
 use Rattle.charref.proofs.CharNumber.{the-type}
 use Rattle.charref.proofs.Encoding.{encode-1}
-use Rattle.charref.proofs.Numbers.{charNumber-character}
+use Rattle.charref.proofs.Numbers.{charNumber-character, charNumber-passes, relegal, relegal-number}
 use Rattle.text.proofs.Patterns.{at-head}
 use Rattle.entity.specs.Binding.{Bound, predefined, predefinedOf, boundTo}
 use Rattle.entity.specs.Commands.{Unhidden}
@@ -28,12 +28,10 @@ use Rattle.entity.specs.declared.Binding.the-variants.{Predefined}
 use Rattle.tokens.specs.Outcome.{done, numbered, numberOutcome}
 use Rattle.tokens.specs.Walking.{NameEnd, nextAt}
 use Rattle.tokens.proofs.Names.{closed-name, closed-reference}
-use Rattle.tokens.proofs.Numbers.{number-done}
-use Rattle.attribute.specs.Walk.{Settings}
-use Rattle.attribute.specs.Steps.{headsBy, ampOr}
+use Rattle.tokens.specs.Tokens.{Heads}
+use Rattle.attribute.specs.Steps.{Refers, ampOr}
 use Rattle.attribute.proofs.Single.{at-none, at-number, at-predefined, next-offset}
 use Rattle.memory.specs.Levels.{settingsBy}
-use Rattle.memory.proofs.Readings.{by-legal}
 use Rattle.flat.specs.Between.{Answers, ForPlain, nameOf, Means, handedTo, NumberMeans}
 use Rattle.flat.specs.declared.Meaning.{Meaning}
 use Rattle.flat.specs.declared.Meaning.the-variants.{Refused, Name}
@@ -42,7 +40,15 @@ use Rattle.flat.specs.declared.Meaning.the-variants.{Char as Character}
 -- ---- a number
 
 pub number-char : (digits : List ℕ) (next : ℕ) {c : ℕ} → charNumber anyCharacter digits ≡ Char c → NumberMeans digits next (Character c next)
-number-char digits next {c} e = (refl, charNumber-character digits c e .most, λ n. number-done digits n e)
+unfolding numberOutcome numbered
+number-char digits next {c} e =
+    (refl, charNumber-character digits c e .most, λ legal n. ap (λ (x : CharNumber). numbered (numberAnswer x) n) (relegal-number legal digits ∙ ap (relegal legal) e))
+
+-- what is asked of a number by any rule, where the lenient one gives another case than a character
+other-number : (legal : ℕ → CharNumber) (digits : List ℕ) (n : ℕ) {x : CharNumber} → charNumber anyCharacter digits ≡ x
+    → numberOutcome legal digits n ≡ numbered (numberAnswer (relegal legal x)) n
+unfolding numberOutcome
+other-number legal digits n e = ap (λ (y : CharNumber). numbered (numberAnswer y) n) (relegal-number legal digits ∙ ap (relegal legal) e)
 
 -- every case but the first is a refusal
 handed-on : (n : CharNumber) → OneOf (1 ∷ 2 ∷ 3 ∷ 4 ∷ 5 ∷ []) (tagOf the-type n) → (digits : List ℕ) (next : ℕ) → charNumber anyCharacter digits ≡ n
@@ -53,11 +59,11 @@ handed-on (Char c) (inr (inl e)) digits next q = absurd (omega arith)
 handed-on (Char c) (inr (inr (inl e))) digits next q = absurd (omega arith)
 handed-on (Char c) (inr (inr (inr (inl e)))) digits next q = absurd (omega arith)
 handed-on (Char c) (inr (inr (inr (inr e)))) digits next q = absurd (omega arith)
-handed-on UnexpectedSign k digits next q = λ n. rw q
-handed-on InvalidNumber k digits next q = λ n. rw q
-handed-on (InvalidCodepoint v) k digits next q = λ n. rw q
-handed-on IllegalCharacter k digits next q = λ n. rw q
-handed-on Forbidden k digits next q = λ n. rw q
+handed-on UnexpectedSign k digits next q = λ legal n. other-number legal digits n q
+handed-on InvalidNumber k digits next q = λ legal n. other-number legal digits n q
+handed-on (InvalidCodepoint v) k digits next q = λ legal n. other-number legal digits n q
+handed-on IllegalCharacter k digits next q = λ legal n. other-number legal digits n q
+handed-on Forbidden k digits next q = absurd (charNumber-passes digits q)
 
 pub number-refused : (digits : List ℕ) (next : ℕ) {n : CharNumber} {r : Meaning} → charNumber anyCharacter digits ≡ n → OneOf (1 ∷ 2 ∷ 3 ∷ 4 ∷ 5 ∷ []) (tagOf the-type n)
     → r ≡ handedTo (numberAnswer n) → NumberMeans digits next r
@@ -67,26 +73,28 @@ number-refused digits next {n} e k q = rw q (handed-on n k digits next e)
 
 module _ (t : List ℕ) (at : ℕ) (amp : getD t at 0 ≡ 38) {end : ℕ} (e : NameEnd false t (at + 1) end) where
   pub means-none : end ≡ length t → Means t at (Refused 10 at end)
-  means-none q = λ how s legal depth deep n. at-none how s legal depth deep t at n end amp e q
+  means-none q = λ heads refers s such depth deep n. at-none heads refers s depth deep t at n end amp e q
 
   module _ (h : end < length t) where
-    goes-to : (how : ℕ) → nextAt (headsBy how) t at ≡ end + 1
-    goes-to how =
-        let s : Settings = settingsBy 0 [] [] 0 in
-        next-offset how s (by-legal 0 [] [] 0) 1 (λ z. omega (arith, z)) t at 0 end amp e h
+    goes-to : (heads : Heads) → Refers heads → nextAt heads t at ≡ end + 1
+    goes-to heads refers = next-offset heads refers (settingsBy 0 0 [] [] 0) 1 (λ z. omega (arith, z)) t at 0 end amp e h
 
     pub means-number : getD t (at + 1) 0 ≡ 35 → (r : Meaning) → NumberMeans (take (end - (at + 1 + 1)) (drop (at + 1 + 1) t)) (end + 1) r → Means t at r
+    unfolding numberAnswer numbered
     means-number b (Character c after) m =
         let to = m .0 in
         record {
           small = m .1;
           on = omega (arith, to, e .from);
           to = omega (arith, to, h);
-          next-is = λ how. goes-to how ∙ sym to;
-          given = λ how s legal depth deep n. at-number how s legal depth deep t at n end amp e h b ∙ m .2 n;
+          next-is = λ heads refers. goes-to heads refers ∙ sym to;
+          given = λ heads refers s is depth deep n.
+              at-number heads refers s depth deep t at n end amp e h b ∙ m .2 (s .legal) n ∙ ap (λ (x : CharNumber). numbered (numberAnswer x) n) is;
+          forbidden = λ other heads refers s is depth deep n.
+              at-number heads refers s depth deep t at n end amp e h b ∙ m .2 (s .legal) n ∙ ap (λ (x : CharNumber). numbered (numberAnswer x) n) is;
         }
     means-number b (Name x) m = absurd m
-    means-number b (Refused number first second) m = λ how s legal depth deep n. at-number how s legal depth deep t at n end amp e h b ∙ m n
+    means-number b (Refused number first second) m = λ heads refers s such depth deep n. at-number heads refers s depth deep t at n end amp e h b ∙ m (s .legal) n
 
     module _ (b : getD t (at + 1) 0 ≢ 35) where
       pub means-amp : sameBytes (nameOf t at end) (97 ∷ 109 ∷ 112 ∷ []) ≡ true → Means t at (Character 38 (end + 1))
@@ -97,15 +105,16 @@ module _ (t : List ℕ) (at : ℕ) (amp : getD t at 0 ≡ 38) {end : ℕ} (e : N
             on = omega (arith, e .from);
             to = omega (arith, h);
             next-is = goes-to;
-            given = λ how s legal depth deep n. given-amp how s legal depth deep n ∙ ap (λ (x : List ℕ). done x n) (sym (encode-1 38 (omega arith)));
+            given = λ heads refers s is depth deep n. given-amp heads refers s tt depth deep n ∙ ap (λ (x : List ℕ). done x n) (sym (encode-1 38 (omega arith)));
+            forbidden = λ other. absurd (other refl);
           }
         where
           is-amp : (bound : Bound) → boundTo [] (Predefined 38) ≡ ampOr (nameOf t at end) bound
           is-amp bound = rw q
 
           given-amp : Answers t at (λ n. done (38 ∷ []) n)
-          given-amp how s legal depth deep n =
-              at-predefined how s legal depth deep t at n end amp e h b (s .bind (nameOf t at end)) refl [] 38 (is-amp (s .bind (nameOf t at end)))
+          given-amp heads refers s such depth deep n =
+              at-predefined heads refers s depth deep t at n end amp e h b (s .bind (nameOf t at end)) refl [] 38 (is-amp (s .bind (nameOf t at end)))
               (λ f g. absurd (true≢false (sym q ∙ f)))
 
       pub means-name : sameBytes (nameOf t at end) (97 ∷ 109 ∷ 112 ∷ []) ≡ false → Means t at (Name end)

@@ -9,14 +9,19 @@ use Rattle.text.specs.Bytes.{sameBytes}
 use Rattle.text.specs.declared.Answer.{Answer}
 use Rattle.text.specs.declared.Answer.the-variants.{Done}
 use Rattle.text.specs.declared.Answer.the-variants.{Refused as Refusal}
-use Rattle.charref.specs.CharRef.{anyCharacter, encode}
+use Rattle.charref.specs.CharRef.{numberAnswer, encode}
+use Rattle.charref.specs.declared.CharNumber.{CharNumber}
+use Rattle.charref.specs.declared.CharNumber.the-variants.{Forbidden}
+use Rattle.charref.specs.declared.CharNumber.the-variants.{Char as Character}
+use Rattle.legal.specs.FirstFault.{Clean}
+use Rattle.halts.specs.Halts.{Smooth}
 use Rattle.entity.specs.Binding.{predefined, predefinedOf, binding}
 use Rattle.entity.specs.Commands.{commandName, commandText, Defines}
-use Rattle.tokens.specs.Tokens.{named, stop, tokenOf}
-use Rattle.tokens.specs.Outcome.{Outcome, done, refused, numberOutcome}
+use Rattle.tokens.specs.Tokens.{named, stop, Heads, tokenOf}
+use Rattle.tokens.specs.Outcome.{Outcome, done, refused, numbered, numberOutcome}
 use Rattle.tokens.specs.Walking.{NameEnd, headAt, nextAt}
 use Rattle.attribute.specs.Walk.{Settings}
-use Rattle.attribute.specs.Steps.{headsBy, outcomeAt}
+use Rattle.attribute.specs.Steps.{faultBy, readBy, Refers, outcomeAt}
 use Rattle.memory.specs.Levels.{Level, Came, Refuses, Opens}
 use Rattle.memory.specs.declared.Reading.{Reading}
 use Rattle.memory.specs.declared.Place.{Place}
@@ -25,20 +30,31 @@ use Rattle.flat.specs.declared.Meaning.the-variants.{Char, Name, Refused
 use Rattle.flat.specs.declared.Halted.{Halted}
 use Rattle.flat.specs.declared.Halted.the-variants.{Next, Opening, Paused, Stopped}
 
+-- ---- a text that is copied where it is referred to
+
+-- it has no halt, and every character in it may stand
+pub record Leaf (newer : Bool) (guard : ℕ) (text : List ℕ) : Type 0 where
+  pub smooth : Smooth newer text 0 (length text)
+  pub clean : Clean (faultBy guard) text 0 (length text)
+
 -- ---- references
 
--- the outcome of the `&` at an offset, however the text is read, in every lenient reading and at every depth that is not used up
+-- the outcome of the `&` at an offset, however the text is read, in every such reading and at every depth that is not used up
+abbrev pub AnswersWhere : (Settings → Type 0) → List ℕ → ℕ → (ℕ → Outcome) → Type 0
+AnswersWhere such text at outcome =
+    (heads : Heads) → Refers heads → (s : Settings) → such s → (depth : ℕ) → depth ≢ 0 → (n : ℕ) → outcomeAt s heads depth text at n ≡ outcome n
+
 abbrev pub Answers : List ℕ → ℕ → (ℕ → Outcome) → Type 0
-Answers text at outcome =
-    (how : ℕ) (s : Settings) → s .legal ≡ anyCharacter → (depth : ℕ) → depth ≢ 0 → (n : ℕ) → outcomeAt s (headsBy how) depth text at n ≡ outcome n
+Answers text at outcome = AnswersWhere (λ s. Unit {0}) text at outcome
 
 -- the `&` at an offset stands for a character; what comes after it starts at `next`
 pub record ForChar (text : List ℕ) (at c next : ℕ) : Type 0 where
   pub small : c ≤ 1114111
   pub on : at + 2 ≤ next
   pub to : next ≤ length text
-  pub next-is : (how : ℕ) → nextAt (headsBy how) text at ≡ next
-  pub given : Answers text at (λ n. done (encode c) n)
+  pub next-is : (heads : Heads) → Refers heads → nextAt heads text at ≡ next
+  pub given : AnswersWhere (λ s. s .legal c ≡ Character c) text at (λ n. done (encode c) n)
+  pub forbidden : c ≢ 38 → AnswersWhere (λ s. s .legal c ≡ Forbidden) text at (λ n. refused [] n 25 0 0)
 
 -- the name between `&` and `;`
 abbrev pub nameOf : List ℕ → ℕ → ℕ → List ℕ
@@ -71,9 +87,10 @@ handedTo (Refusal number first second) = Refused number first second
 
 -- a character number, with the text after `#`
 abbrev pub NumberMeans : List ℕ → ℕ → Meaning → Type 0
-NumberMeans digits next (Char c after) = (after ≡ next) × (c ≤ 1114111) × ((n : ℕ) → numberOutcome anyCharacter digits n ≡ done (encode c) n)
+NumberMeans digits next (Char c after) =
+    (after ≡ next) × (c ≤ 1114111) × ((legal : ℕ → CharNumber) (n : ℕ) → numberOutcome legal digits n ≡ numbered (numberAnswer (legal c)) n)
 NumberMeans digits next (Name end) = ⊥
-NumberMeans digits next (Refused number first second) = (n : ℕ) → numberOutcome anyCharacter digits n ≡ refused [] n number first second
+NumberMeans digits next (Refused number first second) = (legal : ℕ → CharNumber) (n : ℕ) → numberOutcome legal digits n ≡ refused [] n number first second
 
 -- ---- a halt
 
@@ -106,8 +123,8 @@ pub record Referred (r : Reading) (text list pool : List ℕ) (p : Place) (comma
   pub inside : p .at < length text
   pub on : p .at < next
   pub to : next ≤ length text
-  pub next-is : nextAt (headsBy (r .how)) text (p .at) ≡ next
-  pub is : tokenOf (headAt (headsBy (r .how)) text (p .at)) ≡ stop (named (p .at) name)
+  pub next-is : nextAt (readBy (r .how) (r .guard)) text (p .at) ≡ next
+  pub is : tokenOf (headAt (readBy (r .how) (r .guard)) text (p .at)) ≡ stop (named (p .at) name)
   pub no-amp : sameBytes name (97 ∷ 109 ∷ 112 ∷ []) ≡ false
   pub defines : Defines list pool command
   pub same : sameBytes (commandName list pool command) name ≡ true

@@ -8,13 +8,16 @@ ghost use mathlib.Core.List.{List};
 ghost use Prim.Native.Nat.{ℕ, _+_, _-_, _≤_, _<_};
 ghost use lib.Dec.{eqb};
 ghost use lib.ListN.{length, getD, take, drop};
+ghost use Rattle.text.specs.Bytes.{pick};
 ghost use Rattle.charref.specs.CharRef.{encode};
-ghost use Rattle.halts.specs.Halts.{halts, Smooth, HaltAt, blanksSpaced};
+ghost use Rattle.charref.specs.declared.CharNumber.the-variants.{Char, Forbidden};
+ghost use Rattle.legal.specs.FirstFault.{FirstFault};
+ghost use Rattle.halts.specs.Halts.{halts, HaltAt, blanksSpaced};
 ghost use Rattle.entity.specs.Table.{ValidTable};
-ghost use Rattle.attribute.specs.Steps.{headsBy, Blank};
+ghost use Rattle.attribute.specs.Steps.{headsBy, faultBy, legalBy, Blank};
 ghost use Rattle.memory.specs.Slots.{Trusts};
 ghost use Rattle.memory.specs.Levels.{Adds, Bounds, Lent, FlatKeeps, levelOf};
-ghost use Rattle.flat.specs.Between.{Means, ForName, ForPlain, handedTo, NumberMeans, HaltKeeps, Referred};
+ghost use Rattle.flat.specs.Between.{Leaf, Means, ForName, ForPlain, handedTo, NumberMeans, HaltKeeps, Referred};
 use charref::CharNumber;
 use entity::Referent;
 use memory::Had;
@@ -171,14 +174,30 @@ fn read_reference(text: &[u8], at: usize) -> Meaning
 
 // ---- halts
 
-// Is it a short text without halts? It is copied where it is referred to, and needs no opening of its own.
-fn is_leaf(text: &[u8], newer: bool) -> bool
-    ensures { λ r. ⌜ (r ≡ true → Smooth newer (now (text .entry)) 0 (length (now (text .entry)))) ⌝ }
+// The first character of a run that may not stand there, or the run's end.
+pub fn run_fault(text: &[u8], from: usize, to: usize, guard: u8) -> usize
+    requires { ⌜ (from ≤ to) × (to ≤ length (now text)) ⌝ }
+    ensures { λ r. ⌜ FirstFault (faultBy guard) (now (text .entry)) from to r ⌝ }
 {
-    if 64 < text.len() {
+    if guard == 0 {
+        return to;
+    }
+    legal::first_fault(text, from, to, guard - 1)
+}
+
+// Is it a short text without halts, in which every character may stand? It is copied where it is referred to, and needs no opening of
+// its own.
+fn is_leaf(text: &[u8], newer: bool, guard: u8) -> bool
+    ensures { λ r. ⌜ (r ≡ true → Leaf newer guard (now (text .entry))) ⌝ }
+{
+    let n = text.len();
+    if 64 < n {
         return false;
     }
-    halts::next_halt(text, 0, newer) == text.len()
+    if halts::next_halt(text, 0, newer) != n {
+        return false;
+    }
+    run_fault(text, 0, n, guard) == n
 }
 
 // A reference to the text of a command: kept, short and without halts, or one to open.
@@ -215,7 +234,7 @@ fn text_step(
         };
     }
     if reading.depth != 1 {
-        if is_leaf(value, reading.inner == 1) {
+        if is_leaf(value, reading.inner == 1, reading.inguard) {
             let n = value.len();
             write_run(value, 0, n, place.len, out);
             memory::keep(command, slot, 2, reading.base + place.len, n, 1, seen);
@@ -320,6 +339,17 @@ fn quick_plain(text: &[u8], at: usize, seen: &[u64], list: &[u8]) -> u8
     0
 }
 
+// Does the rule of the reading forbid the character that a number names?
+fn is_forbidden(c: u32, guard: u8) -> bool
+    ensures { λ r. ⌜ legalBy guard c ≡ pick r Forbidden (Char c) ⌝ }
+    ensures { λ r. ⌜ (c ≡ 38 → r ≡ false) ⌝ }
+{
+    if guard == 0 {
+        return false;
+    }
+    !legal::is_char(c, 1 < guard)
+}
+
 // How many bytes the one space stands for that is written at a halt other than `&`: a line end, or past line ends a CR alone.
 fn blank_width(text: &[u8], at: usize, how: u8) -> usize
     requires { ⌜ (at < length (now text)) × (length (now text) ≤ 16777216) ⌝ }
@@ -371,6 +401,13 @@ fn halt_step(
     }
     match read_reference(text, at) {
         Meaning::Char { c, next } => {
+            if is_forbidden(c, reading.inguard) {
+                return Halted::Stopped {
+                    number: refusals::FORBIDDEN_REFERENCE,
+                    first: 0,
+                    second: 0,
+                };
+            }
             let more = write_char(c, len, out);
             Halted::Next {
                 at: next,
@@ -432,6 +469,14 @@ pub fn normalize_flat(
     let mut made = place.openings;
     let mut met: u64 = 0;
     loop {
+        let fault = run_fault(text, at, end, reading.guard);
+        if fault != end {
+            return Reached::Stopped {
+                number: refusals::FORBIDDEN_CHARACTER,
+                first: fault as u64,
+                second: 0,
+            };
+        }
         write_run(text, at, end, len, out);
         len += end - at;
         if end == text.len() {

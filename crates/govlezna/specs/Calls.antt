@@ -1,4 +1,5 @@
 -- Each call whole: from the arguments to number, answer words and lent buffers (document 01, and the C header). Assumes nothing.
+use mathlib.Core.Bool.{true}
 use mathlib.Core.List.{List, [], _∷_}
 use Prim.Native.Nat.{ℕ}
 use lib.ListN.{length}
@@ -19,6 +20,7 @@ use Rattle.tokens.specs.Outcome.{Outcome, finished}
 use Rattle.unescape.specs.Unescape.{unescape}
 use Rattle.attribute.specs.Checks.{settingsCheck}
 use Rattle.attribute.specs.Walk.{normalize, readingOf}
+use Rattle.attribute.specs.Strict.{readingBy}
 use Rattle.attribute.specs.Form.{formed}
 use Rattle.charref.specs.CharRef.{charNumber, anyCharacter, numberAnswer}
 
@@ -89,3 +91,18 @@ normalizeAttributeValueCall text version depth limit list pool out =
 unfoldable pub canonicalFormCall : List ℕ → ℕ → ℕ → ℕ → List ℕ → List ℕ → List ℕ → List ℕ → Called
 canonicalFormCall text version depth limit list pool scratch out =
     guarded (walkCheck text version depth limit list pool) (scratch ∷ out ∷ []) (formed (ruleOf version) (walked text version depth limit list pool) scratch out)
+
+-- document 02, K8: what the strict walk makes of a text
+abbrev pub walkedStrictly : List ℕ → ℕ → ℕ → ℕ → List ℕ → List ℕ → Outcome
+walkedStrictly text version depth limit list pool = normalize (readingBy true (ruleOf version) list pool limit) depth text
+
+-- document 02, K8: as the lenient call, and 25 and 26
+unfoldable pub normalizeAttributeValueStrictCall : List ℕ → ℕ → ℕ → ℕ → List ℕ → List ℕ → List ℕ → Called
+normalizeAttributeValueStrictCall text version depth limit list pool out =
+    guarded (walkCheck text version depth limit list pool) (out ∷ []) (finished (walkedStrictly text version depth limit list pool) out)
+
+-- document 02, K8: as the lenient call, and 25 and 26
+unfoldable pub canonicalFormStrictCall : List ℕ → ℕ → ℕ → ℕ → List ℕ → List ℕ → List ℕ → List ℕ → Called
+canonicalFormStrictCall text version depth limit list pool scratch out =
+    guarded (walkCheck text version depth limit list pool) (scratch ∷ out ∷ [])
+    (formed (ruleOf version) (walkedStrictly text version depth limit list pool) scratch out)

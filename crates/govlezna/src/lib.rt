@@ -1,12 +1,13 @@
 // The calls that C sees: integers, byte slices and references to numbers, no `requires`. Each promise is one equation.
 use checks::put;
+use normalize::Wanted;
 use text::Answer;
 use text::simple;
 use utils::Cursor;
 ghost use mathlib.Core.Path.{_≡_};
 ghost use mathlib.Core.List.{[], _∷_};
 ghost use Rattle.text.specs.Call.{called};
-ghost use Rattle.govlezna.specs.Calls.{checkUtf8Call, parseNumberCall, escapeCall, normalizeEolsCall, trimCall, cursorLeft, cdataNextCall, checkTableCall, unescapeCall, normalizeAttributeValueCall, canonicalFormCall};
+ghost use Rattle.govlezna.specs.Calls.{checkUtf8Call, parseNumberCall, escapeCall, normalizeEolsCall, trimCall, cursorLeft, cdataNextCall, checkTableCall, unescapeCall, normalizeAttributeValueCall, canonicalFormCall, normalizeAttributeValueStrictCall, canonicalFormStrictCall};
 ghost use Rattle.govlezna.specs.declared.CDataNext.{CDataNext};
 ghost use Rattle.utils.specs.Trim.{trimStart, trimEnd, trimSpaces};
 
@@ -129,7 +130,60 @@ pub extern "C" fn govlezna_normalize_attribute_value(
         return put(walk_checked, answer);
     };
     put(
-        normalize::normalize_attribute_value(text, simple, version, depth, limit, list, pool, out),
+        normalize::normalize_attribute_value(
+            text,
+            simple,
+            Wanted {
+                version,
+                strict: false,
+                depth,
+                limit,
+            },
+            list,
+            pool,
+            out,
+        ),
+        answer,
+    )
+}
+
+// The same, and every character has to be one of the version (K8). Success: the length written, the openings.
+#[no_mangle]
+pub extern "C" fn govlezna_normalize_attribute_value_strict(
+    text: &[u8],
+    version: u8,
+    depth: u64,
+    limit: u64,
+    list: &[u8],
+    pool: &[u8],
+    out: &mut [u8],
+    answer: &mut [u64; 2],
+) -> u32
+    ensures { λ r. ⌜ called r (now (answer .exit)) (now (out .exit) ∷ []) ≡ normalizeAttributeValueStrictCall (now (text .entry)) version depth limit (now (list .entry)) (now (pool .entry)) (now (out .entry)) ⌝ }
+{
+    let simple = simple::is_simple(text);
+    let strict_checked = checks::check_walk(text, simple, version, depth, limit, list, pool);
+    let Answer::Done {
+        first: _,
+        second: _,
+    } = strict_checked
+    else {
+        return put(strict_checked, answer);
+    };
+    put(
+        normalize::normalize_attribute_value(
+            text,
+            simple,
+            Wanted {
+                version,
+                strict: true,
+                depth,
+                limit,
+            },
+            list,
+            pool,
+            out,
+        ),
         answer,
     )
 }
@@ -158,7 +212,60 @@ pub extern "C" fn govlezna_canonical_form(
         return put(form_checked, answer);
     };
     put(
-        normalize::canonical_form(text, version, depth, limit, list, pool, scratch, out),
+        normalize::canonical_form(
+            text,
+            Wanted {
+                version,
+                strict: false,
+                depth,
+                limit,
+            },
+            list,
+            pool,
+            scratch,
+            out,
+        ),
+        answer,
+    )
+}
+
+// The canonical form of the value that is normalized so, which the scratch takes. Success: the length written, the openings.
+#[no_mangle]
+pub extern "C" fn govlezna_canonical_form_strict(
+    text: &[u8],
+    version: u8,
+    depth: u64,
+    limit: u64,
+    list: &[u8],
+    pool: &[u8],
+    scratch: &mut [u8],
+    out: &mut [u8],
+    answer: &mut [u64; 2],
+) -> u32
+    ensures { λ r. ⌜ called r (now (answer .exit)) (now (scratch .exit) ∷ now (out .exit) ∷ []) ≡ canonicalFormStrictCall (now (text .entry)) version depth limit (now (list .entry)) (now (pool .entry)) (now (scratch .entry)) (now (out .entry)) ⌝ }
+{
+    let strict_form_checked = checks::check_walk(text, false, version, depth, limit, list, pool);
+    let Answer::Done {
+        first: _,
+        second: _,
+    } = strict_form_checked
+    else {
+        return put(strict_form_checked, answer);
+    };
+    put(
+        normalize::canonical_form(
+            text,
+            Wanted {
+                version,
+                strict: true,
+                depth,
+                limit,
+            },
+            list,
+            pool,
+            scratch,
+            out,
+        ),
         answer,
     )
 }

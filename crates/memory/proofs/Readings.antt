@@ -12,7 +12,8 @@ use lib.Dec.{eqb}
 use lib.ListN.{length, getD, take, drop, length-drop, length-append}
 use lib.Seq.{length-take-le}
 use Rattle.text.specs.Bytes.{sameBytes}
-use Rattle.charref.specs.CharRef.{anyCharacter}
+use Rattle.charref.specs.declared.CharNumber.{CharNumber}
+use Rattle.legal.specs.FirstFault.{Clean}
 use Rattle.eols.specs.Stops.{ruleFor}
 use Rattle.eols.specs.declared.Step.{Step}
 use Rattle.halts.proofs.Spaces.{spaced-length}
@@ -21,59 +22,78 @@ use Rattle.entity.specs.Binding.{binding}
 use Rattle.entity.specs.Commands.{commandName, commandText, Defines}
 use Rattle.entity.proofs.Tables.{binding-short}
 use Rattle.tokens.specs.Tokens.{named, stop, Head, Heads, head, tokenOf, skipOf}
-use Rattle.tokens.specs.Walking.{NameEnd, headAt, nextAt}
+use Rattle.tokens.specs.Outcome.{refused, prepend, produced}
+use Rattle.tokens.proofs.Openings.{openingsOf}
+use Rattle.tokens.specs.Walking.{NameEnd, headAt, nextAt, outcomeOf}
 use Rattle.tokens.proofs.Carried.{Moving}
 use Rattle.tokens.proofs.Lengths.{lengths}
 use Rattle.tokens.proofs.References.{reference-named}
-use Rattle.attribute.specs.Walk.{Settings}
-use Rattle.attribute.specs.Steps.{headsBy, Blank}
+use Rattle.attribute.specs.Walk.{Settings, walk}
+use Rattle.attribute.specs.Steps.{headsBy, faultBy, readBy, legalBy, stopAnswer, Blank}
 use Rattle.attribute.proofs.Heads.{attribute-lengths, past-lengths}
-use Rattle.attribute.proofs.Stops.{by-how, heads-refer}
-use Rattle.attribute.proofs.Values.{walk-most}
+use Rattle.attribute.proofs.Stops.{by-how}
+use Rattle.attribute.proofs.Guards.{read-refers, read-barred, guard-lengths}
+use Rattle.attribute.proofs.Values.{walk-most, walk-within}
 use Rattle.memory.specs.Slots.{slotOf, Stands, Trusts, Kept}
-use Rattle.memory.specs.Levels.{settingsBy, settingsOf, Level, levelOf, innerLevel, Adds, Came, Opens, Lent, Taken, Bounds}
+use Rattle.memory.specs.Levels.{settingsBy, settingsOf, Level, levelOf, innerLevel, left, Adds, Came, Refuses, Opens, Lent, Taken, Bounds}
 use Rattle.memory.specs.declared.Reading.{Reading}
 use Rattle.memory.specs.declared.Place.{Place}
 use Rattle.memory.proofs.Keeping.{memory-more, memory-kept, memory-trusts}
 use Rattle.memory.proofs.Stretches.{run-blank, smooth-run, leaf-opening, leaf-stands}
-use Rattle.memory.proofs.Levels.{Brief, came-past, came-opens, came-taken, came-kept, came-room}
+use Rattle.memory.proofs.Levels.{Brief, left-refused, came-past, came-opens, came-taken, came-kept, came-room}
 use Rattle.memory.proofs.Hits.{memory-bounds}
 
 -- ---- the settings of a walk
 
-module _ (inner : ℕ) (list pool : List ℕ) (limit : ℕ) where
-  pub by-brief : ((k : ℕ) → getD list k 0 < 0x100) → Brief (settingsBy inner list pool limit)
-  unfolding settingsBy
-  by-brief bytes depth n t =
-      let moving = by-how inner (λ newer at. Moving (lengths anyCharacter) at) (past-lengths anyCharacter) (λ newer. attribute-lengths anyCharacter (ruleFor newer)) in
-      walk-most (settingsBy inner list pool limit) (binding-short list pool bytes) moving (headsBy inner) moving depth t n
+read-lengths : (legal : ℕ → CharNumber) (how guard : ℕ) → Moving (lengths legal) (readBy how guard)
+read-lengths legal how guard =
+    guard-lengths legal (headsBy how)
+    (by-how how (λ newer at. Moving (lengths legal) at) (past-lengths legal) (λ newer. attribute-lengths legal (ruleFor newer))) guard
 
-  pub by-inner : settingsBy inner list pool limit .inner ≡ headsBy inner
+module _ (inner guard : ℕ) (list pool : List ℕ) (limit : ℕ) where
+  -- a text read in any such way
+  pub by-most : ((k : ℕ) → getD list k 0 < 0x100) → (how bar depth n : ℕ) (t : List ℕ)
+      → length (produced (walk (settingsBy inner guard list pool limit) (readBy how bar) depth t n)) + 65535 * n
+      ≤ length t + 65535 * openingsOf (walk (settingsBy inner guard list pool limit) (readBy how bar) depth t n)
+  unfolding settingsBy
+  by-most bytes how bar depth n t =
+      walk-most (settingsBy inner guard list pool limit) (binding-short list pool bytes) (read-lengths (legalBy guard) inner guard) (readBy how bar)
+      (read-lengths (legalBy guard) how bar) depth t n
+
+  pub by-within : (at : Heads) (depth : ℕ) (t : List ℕ) → openingsOf (walk (settingsBy inner guard list pool limit) at depth t 0) ≤ limit
+  unfolding settingsBy
+  by-within at depth t = walk-within (settingsBy inner guard list pool limit) at depth t 0 (omega arith)
+
+  pub by-brief : ((k : ℕ) → getD list k 0 < 0x100) → Brief (settingsBy inner guard list pool limit)
+  unfolding settingsBy
+  by-brief bytes depth n t = by-most bytes inner guard depth n t
+
+  pub by-inner : settingsBy inner guard list pool limit .inner ≡ readBy inner guard
   unfolding settingsBy
   by-inner = refl
 
-  pub by-bind : (name : List ℕ) → settingsBy inner list pool limit .bind name ≡ binding list pool name
+  pub by-bind : (name : List ℕ) → settingsBy inner guard list pool limit .bind name ≡ binding list pool name
   unfolding settingsBy
   by-bind name = refl
 
-  pub by-limit : settingsBy inner list pool limit .limit ≡ limit
+  pub by-limit : settingsBy inner guard list pool limit .limit ≡ limit
   unfolding settingsBy
   by-limit = refl
 
-  pub by-legal : settingsBy inner list pool limit .legal ≡ anyCharacter
+  pub by-legal : settingsBy inner guard list pool limit .legal ≡ legalBy guard
   unfolding settingsBy
   by-legal = refl
 
 -- ---- the token of a reference to a name
 
-module _ (how : ℕ) (t : List ℕ) (at end : ℕ) (amp : getD t at 0 ≡ 38) (e : NameEnd false t (at + 1) end) (h : end < length t) (b : getD t (at + 1) 0 ≢ 35) where
-  head-named : headAt (headsBy how) t at ≡ head (stop (named at (take (end - (at + 1)) (drop (at + 1) t)))) (end - at)
-  head-named = ap (λ (x : ℕ). headsBy how at x (drop (at + 1) t)) amp ∙ heads-refer how at (drop (at + 1) t) ∙ reference-named false t at end e h b
+module _ (how guard : ℕ) (t : List ℕ) (at end : ℕ) (amp : getD t at 0 ≡ 38) (e : NameEnd false t (at + 1) end) (h : end < length t) (b : getD t (at + 1) 0 ≢ 35) where
+  head-named : headAt (readBy how guard) t at ≡ head (stop (named at (take (end - (at + 1)) (drop (at + 1) t)))) (end - at)
+  head-named = ap (λ (x : ℕ). readBy how guard at x (drop (at + 1) t)) amp ∙ read-refers how guard at (drop (at + 1) t) ∙ reference-named false t at end e h b
 
-  pub token-named : tokenOf (headAt (headsBy how) t at) ≡ stop (named at (take (end - (at + 1)) (drop (at + 1) t)))
+  pub token-named : tokenOf (headAt (readBy how guard) t at) ≡ stop (named at (take (end - (at + 1)) (drop (at + 1) t)))
   token-named = ap tokenOf head-named
 
-  pub next-named : nextAt (headsBy how) t at ≡ end + 1
+  pub next-named : nextAt (readBy how guard) t at ≡ end + 1
   next-named =
       let m : at + 1 + (end - at) ≡ end + 1 = omega (arith, e .from) in
       ap (λ (x : Head). at + 1 + skipOf x) head-named ∙ m
@@ -88,7 +108,7 @@ module _ (r : Reading) (list pool t : List ℕ) where
   S = settingsOf r list pool
 
   limit-is : r .limit ≡ S .limit
-  limit-is = sym (by-limit (r .inner) list pool (r .limit))
+  limit-is = sym (by-limit (r .inner) (r .inguard) list pool (r .limit))
 
   -- what is asked of a level gives what its calls ask
   module _ {base : ℕ} {out words : List ℕ} {p : Place} (n : Lent level base out words p) where
@@ -111,31 +131,45 @@ module _ (r : Reading) (list pool t : List ℕ) where
 
   module _ (deep : r .depth ≢ 0) (v whole : List ℕ) (begun : ℕ) {out words : List ℕ} {i len made : ℕ} (c : Came level v whole begun out words i len made) where
     -- a run up to a halt, its blanks as spaces
-    pub came-run : {e : ℕ} {new : List ℕ} → Smooth (eqb (r .how) 1) t i e → Adds (blanksSpaced (take (e - i) (drop i t))) len out new
+    pub came-run : {e : ℕ} {new : List ℕ} → Smooth (eqb (r .how) 1) t i e → Clean (faultBy (r .guard)) t i e → Adds (blanksSpaced (take (e - i) (drop i t))) len out new
         → Came level v whole begun new words e (len + (e - i)) made
-    came-run {e} {new} p f =
+    came-run {e} {new} p clean f =
         let n : length (blanksSpaced (take (e - i) (drop i t))) ≡ e - i =
         spaced-length (take (e - i) (drop i t)) ∙ length-take-le (e - i) (drop i t) (rw length-drop (omega (arith, p .from, p .to))) in
-        came-past level v whole begun c (blanksSpaced (take (e - i) (drop i t))) (smooth-run S (r .how) (r .depth) deep t made p) n
+        came-past level v whole begun c (blanksSpaced (take (e - i) (drop i t))) (smooth-run S (r .how) (r .guard) (r .depth) deep t made p clean) n
         (f .fits (c .value) whole (c .size) (c .fitted)) (p .to) (le-refl _) (c .within) (omega (arith, p .from))
 
+    -- a fault in it: refusal 26
+    pub run-barred : {e : ℕ} → Smooth (eqb (r .how) 1) t i e → Clean (faultBy (r .guard)) t i e → e < length t → faultBy (r .guard) (drop e t) ≡ true
+        → Refuses level begun 26 e 0
+    run-barred {e} p clean h fault =
+        let run = blanksSpaced (take (e - i) (drop i t)) in
+        let q = read-barred t e h (r .guard) (headsBy (r .how)) fault in
+        let stopped : left level e made ≡ refused [] made 26 e 0 =
+        left-refused level e made made 26 e 0 [] h (ap (λ (d : Head). outcomeOf (stopAnswer S (r .depth)) (tokenOf d) made) q) in
+        record {
+          before = c .value ++ (run ++ []);
+          made = made;
+          outcome = c .outcome ∙ ap (prepend (c .value)) (smooth-run S (r .how) (r .guard) (r .depth) deep t made p clean ∙ ap (prepend run) stopped);
+        }
+
     -- a line end
-    pub came-blank : (x : Step) {new : List ℕ} → i < length t → Blank (headsBy (r .how)) t i x → Adds (x .byte ∷ []) len out new
+    pub came-blank : (x : Step) {new : List ℕ} → i < length t → Blank (readBy (r .how) (r .guard)) t i x → Adds (x .byte ∷ []) len out new
         → Came level v whole begun new words (i + x .width) (len + 1) made
     came-blank x h b f =
-        came-past level v whole begun c (x .byte ∷ []) (run-blank S (r .how) (r .depth) deep t i made x h b) refl
+        came-past level v whole begun c (x .byte ∷ []) (run-blank S (r .how) (r .guard) (r .depth) deep t i made x h b) refl
         (f .fits (c .value) whole (c .size) (c .fitted)) (b .inside) (le-refl _) (c .within) (omega (arith, b .some))
 
     -- a reference to the text of a command
     module _ (bytes : (k : ℕ) → getD list k 0 < 0x100) (at-base : length v ≡ r .base) {command : ℕ} (name : List ℕ) {j : ℕ}
-        (inside : i < length t) (on : i < j) (to : j ≤ length t) (next : nextAt (headsBy (r .how)) t i ≡ j)
-        (is : tokenOf (headAt (headsBy (r .how)) t i) ≡ stop (named i name)) (amp : sameBytes name (97 ∷ 109 ∷ 112 ∷ []) ≡ false)
+        (inside : i < length t) (on : i < j) (to : j ≤ length t) (next : nextAt (readBy (r .how) (r .guard)) t i ≡ j)
+        (is : tokenOf (headAt (readBy (r .how) (r .guard)) t i) ≡ stop (named i name)) (amp : sameBytes name (97 ∷ 109 ∷ 112 ∷ []) ≡ false)
         (d : Defines list pool command) (same : sameBytes (commandName list pool command) name ≡ true) where
       brief : Brief (settingsOf r list pool)
-      brief = by-brief (r .inner) list pool (r .limit) bytes
+      brief = by-brief (r .inner) (r .inguard) list pool (r .limit) bytes
 
       bind : (settingsOf r list pool) .bind name ≡ binding list pool name
-      bind = by-bind (r .inner) list pool (r .limit) name
+      bind = by-bind (r .inner) (r .inguard) list pool (r .limit) name
 
       -- refusal 17 aside it is opened
       pub read-opens : {slot : ℕ} → slot < 16 → made ≢ r .limit → Opens level v whole begun out words i j command slot len made
@@ -150,29 +184,29 @@ module _ (r : Reading) (list pool t : List ℕ) where
 
       -- a text without halts, at depth 2 or more: kept with the depth 2
       pub came-leaf : r .depth ≢ 1 → made < r .limit → Smooth (eqb (r .inner) 1) (commandText list pool command) 0 (length (commandText list pool command))
-          → {new after : List ℕ} {slot : ℕ} → slot < 16 → Adds (blanksSpaced (commandText list pool command)) len out new
+          → Clean (faultBy (r .inguard)) (commandText list pool command) 0 (length (commandText list pool command)) → {new after : List ℕ} {slot : ℕ} → slot < 16 → Adds (blanksSpaced (commandText list pool command)) len out new
           → Kept words slot command (slotOf 2 (r .base + len) (length (commandText list pool command)) 1) after
           → Came level v whole begun new after j (len + length (commandText list pool command)) (made + 1)
-      came-leaf two room p {new} {after} {slot} k f kept =
+      came-leaf two room p clean {new} {after} {slot} k f kept =
           let x = commandText list pool command in
           let y = blanksSpaced x in
           let n : length y ≡ length x = spaced-length x in
-          let inner = by-inner (r .inner) list pool (r .limit) in
+          let inner = by-inner (r .inner) (r .inguard) list pool (r .limit) in
           let q : length (v ++ c .value) ≡ r .base + len = rw (length-append, at-base, c .size) in
           let st = subst (λ (k : ℕ). Stands S x ((v ++ c .value) ++ y) (slotOf 2 k (length y) 1)) q
-          (leaf-stands S (r .inner) inner x p (v ++ c .value) (omega (arith, room, limit-is))) in
+          (leaf-stands S (r .inner) (r .inguard) inner x p clean (v ++ c .value) (omega (arith, room, limit-is))) in
           let st2 = subst (λ (k : ℕ). Stands S x ((v ++ c .value) ++ y) (slotOf 2 (r .base + len) k 1)) n st in
           subst (λ (k : ℕ). Came level v whole begun new after j (len + k) (made + 1)) n
           (came-kept level v whole begun c deep name inside on to next is amp bind d same brief y (made + 1) (omega (arith, room, limit-is))
-          (leaf-opening S (r .inner) inner x p (r .depth) made (omega (arith, deep, two))) (f .fits (c .value) whole (c .size) (c .fitted))
+          (leaf-opening S (r .inner) (r .inguard) inner x p clean (r .depth) made (omega (arith, deep, two))) (f .fits (c .value) whole (c .size) (c .fitted))
           (memory-kept S list pool (memory-more S list pool (c .memory) y) k d st2 kept))
 
 -- the level of an opened text, as a level of a reading
 pub inner-level : (r : Reading) (list pool : List ℕ) (command base : ℕ)
     → innerLevel (settingsOf r list pool) list pool (r .depth) command
-    ≡ levelOf (record { how = r .inner; inner = r .inner; depth = r .depth - 1; limit = r .limit; base = base }) list pool (commandText list pool command)
+    ≡ levelOf (record { how = r .inner; inner = r .inner; guard = r .inguard; inguard = r .inguard; depth = r .depth - 1; limit = r .limit; base = base }) list pool (commandText list pool command)
 inner-level r list pool command base =
-    ap (λ (h : Heads). the-level h) (by-inner (r .inner) list pool (r .limit))
+    ap (λ (h : Heads). the-level h) (by-inner (r .inner) (r .inguard) list pool (r .limit))
   where
     the-level : Heads → Level
     the-level h =

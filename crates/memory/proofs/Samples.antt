@@ -11,6 +11,7 @@ use Rattle.text.proofs.Bytes.{and-left, and-right}
 use Rattle.entity.specs.Binding.{text, binding}
 use Rattle.entity.specs.Table.{part, littleEndian}
 use Rattle.entity.specs.Commands.{commandName, commandText, Defines}
+use Rattle.legal.specs.FirstFault.{Clean}
 use Rattle.halts.specs.Halts.{halts, Smooth}
 use Rattle.text.specs.declared.Answer.the-variants.{Done}
 use Rattle.tokens.specs.Tokens.{named}
@@ -18,7 +19,7 @@ use Rattle.tokens.specs.Outcome.{done, refused}
 use Rattle.attribute.specs.Walk.{Settings, walk}
 use Rattle.tokens.specs.declared.Step.the-variants.{Next}
 use Rattle.attribute.specs.Heads.{attributeHead}
-use Rattle.attribute.specs.Steps.{stopAnswer}
+use Rattle.attribute.specs.Steps.{faultBy, stopAnswer}
 use Rattle.memory.specs.Slots.{opening, slotOf, plainWord, Memory, keptIn}
 use Rattle.memory.specs.Levels.{settingsBy, Level, levelOf, Came, Opens, Finishes, Opened}
 use Rattle.memory.proofs.Keeping.{memory-start}
@@ -67,7 +68,7 @@ pool = 101 ∷ 9 ∷ 102 ∷ 38 ∷ 101 ∷ 59 ∷ 97 ∷ 109 ∷ 112 ∷ 88 ∷
 
 -- with limit 2
 s : Settings
-s = settingsBy 0 list pool 2
+s = settingsBy 0 0 list pool 2
 
 -- a leaf with a blank is refused at depth 1 and stands at depth 2: the 2 is needed
 leaf-depth : (opening s 1 (9 ∷ []) 0 ≡ refused [] 1 16 0 0) × (opening s 2 (9 ∷ []) 0 ≡ done (32 ∷ []) 1)
@@ -116,15 +117,19 @@ smooth-e = record { from = omega arith; to = omega arith; none = none }
     none zero g h = refl
     none (suc k) g h = absurd (omega (arith, h))
 
+clean-e : Clean (faultBy 0) (commandText list pool 0) 0 (length (commandText list pool 0))
+unfolding part littleEndian
+clean-e = record { from = omega arith; to = omega arith; none = λ k g h. refl }
+
 -- the reading as XML 1.0, at a depth
 abbrev rd : ℕ → Reading
-rd depth = record { how = 0; inner = 0; depth = depth; limit = 2; base = 0 }
+rd depth = record { how = 0; inner = 0; guard = 0; inguard = 0; depth = depth; limit = 2; base = 0 }
 
 abbrev outer : ℕ → List ℕ → Level
 outer depth t = levelOf (rd depth) list pool t
 
 abbrev S : Settings
-S = settingsBy 0 list pool 2
+S = settingsBy 0 0 list pool 2
 
 abbrev bytesOnly : List ℕ → Bool
 bytesOnly [] = true
@@ -150,7 +155,7 @@ after-leaf : Came (outer 2 ee) [] [] 0 [] (keptE (replicate 84 0) 0) 3 1 1
 unfolding attributeHead part littleEndian
 after-leaf =
     came-leaf (rd 2) list pool ee (λ q. omega (arith, q)) [] [] 0 begun bytes refl (101 ∷ []) (omega arith) (omega arith) (omega arith) refl refl refl
-    defines-e refl (λ q. omega (arith, q)) (omega arith) smooth-e {slot = 5} (omega arith) (adds-none _ 0 [] (omega arith))
+    defines-e refl (λ q. omega (arith, q)) (omega arith) smooth-e clean-e {slot = 5} (omega arith) (adds-none _ 0 [] (omega arith))
     (record { none = λ q. absurd (omega (arith, q)); enters = λ q. refl })
 
 after-again : Came (outer 2 ee) [] [] 0 [] (keptE (replicate 84 0) 0) 6 2 2
@@ -184,7 +189,7 @@ module _ (v : List ℕ) (none : length v ≡ 0) (m : Memory S list pool v (repli
   unfolding attributeHead part littleEndian
   inner-leaf =
       came-leaf (rd 2) list pool toE (λ q. omega (arith, q)) v [] 1 inner-begun bytes none (101 ∷ []) (omega arith) (omega arith) (omega arith) refl refl refl
-      defines-e refl (λ q. omega (arith, q)) (omega arith) smooth-e {slot = 5} (omega arith) (adds-none _ 0 [] (omega arith))
+      defines-e refl (λ q. omega (arith, q)) (omega arith) smooth-e clean-e {slot = 5} (omega arith) (adds-none _ 0 [] (omega arith))
       (record { none = λ q. absurd (omega (arith, q)); enters = λ q. refl })
 
   inner-whole : Finishes (outer 2 toE) v [] 1 [] (keptE (replicate 84 0) 0) (Done 1 2)
@@ -209,6 +214,6 @@ f-opens =
 -- after it both e and f are kept
 f-opened : Came (outer 3 toF) [] [] 0 [] (keptIn (keptE (replicate 84 0) 0) 7 12 (slotOf 3 0 1 2)) 3 1 2
 f-opened =
-    opened-next (outer 3 toF) [] [] 0 f-opens refl {w = 0} {part = []} refl (by-brief 0 list pool 2 bytes)
+    opened-next (outer 3 toF) [] [] 0 f-opens refl {w = 0} {part = []} refl (by-brief 0 0 list pool 2 bytes)
     (inner-walked (f-opens .came .value) (f-opens .came .size) (f-opens .came .memory))
     (record { none = λ q. absurd (omega (arith, q)); enters = λ q. refl }) .1

@@ -7,7 +7,6 @@ use mathlib.Core.List.{List, _++_}
 use lib.ListN.{length, getD, take, drop}
 use Rattle.text.specs.Call.{laid}
 use Rattle.text.specs.declared.Answer.{Answer}
-use Rattle.charref.specs.CharRef.{anyCharacter}
 use Rattle.entity.specs.Binding.{binding}
 use Rattle.entity.specs.Commands.{commandText, Defines}
 use Rattle.tokens.specs.Tokens.{Heads, tokens}
@@ -15,7 +14,7 @@ use Rattle.tokens.specs.Outcome.{Outcome, done, refused, prepend, followed, run
 use Rattle.tokens.specs.Walking.{stepOf}
 use Rattle.tokens.specs.declared.Step.{Step}
 use Rattle.attribute.specs.Walk.{Settings}
-use Rattle.attribute.specs.Steps.{headsBy, stopAnswer}
+use Rattle.attribute.specs.Steps.{readBy, legalBy, stopAnswer}
 use Rattle.memory.specs.Slots.{opening, Slot, slotAt, Memory}
 use Rattle.memory.specs.declared.Reading.{Reading}
 use Rattle.memory.specs.declared.Place.{Place}
@@ -26,14 +25,14 @@ use Rattle.memory.specs.declared.Reached.the-variants.{End, Opening, Pau
 
 -- ---- what the code's numbers mean
 
--- the settings of a walk whose replacement texts are read so (`headsBy`), with a table and a limit; it asks nothing of the outer heads
-unfoldable pub settingsBy : ℕ → List ℕ → List ℕ → ℕ → Settings
+-- the settings of a walk whose replacement texts are read so (`readBy`), with a table and a limit; it asks nothing of the outer heads
+unfoldable pub settingsBy : ℕ → ℕ → List ℕ → List ℕ → ℕ → Settings
 unfolding binding
-settingsBy inner list pool limit =
-    record { outer = headsBy inner; inner = headsBy inner; bind = binding list pool; limit = limit; legal = anyCharacter }
+settingsBy inner guard list pool limit =
+    record { outer = readBy inner guard; inner = readBy inner guard; bind = binding list pool; limit = limit; legal = legalBy guard }
 
 abbrev pub settingsOf : Reading → List ℕ → List ℕ → Settings
-settingsOf r list pool = settingsBy (r .inner) list pool (r .limit)
+settingsOf r list pool = settingsBy (r .inner) (r .inguard) list pool (r .limit)
 
 -- ---- a level
 
@@ -48,7 +47,7 @@ pub record Level : Type 0 where
 
 abbrev pub levelOf : Reading → List ℕ → List ℕ → List ℕ → Level
 levelOf r list pool text =
-    record { settings = settingsOf r list pool; at = headsBy (r .how); depth = r .depth; text = text; list = list; pool = pool }
+    record { settings = settingsOf r list pool; at = readBy (r .how) (r .guard); depth = r .depth; text = text; list = list; pool = pool }
 
 -- the level of a text that is opened
 abbrev pub innerLevel : Settings → List ℕ → List ℕ → ℕ → ℕ → Level

@@ -20,10 +20,13 @@ use entity::Binding;
 use entity::Referent;
 
 // What a level of a walk is set to: how its text is read and how the texts inside it are (0 as XML 1.0, 1 as XML 1.1, 2 past line ends),
-// its depth, the opening limit, and where its value starts in the whole call's value.
+// which characters may stand in it and in these (0 all, else the rule of that number less one of crate legal), its depth, the opening
+// limit, and where its value starts in the whole call's value.
 pub struct Reading {
     pub how: u8,
     pub inner: u8,
+    pub guard: u8,
+    pub inguard: u8,
     pub depth: u64,
     pub limit: u64,
     pub base: usize,

@@ -1,43 +1,47 @@
 -- The walk over the text of a call: its first pass, without a memory (`start-lent`, `text-end`, `text-stopped`), and on from a text to open or
 -- a pause (`text-opens`, `text-pauses`, `opened-walks`); how a call ends that walks twice (`walks-refused`, `walks-short`, `walks-held`,
--- `walks-written`); and which walk a call asks for (`walk-for`, `call-bottom`, `call-spaced`, `call-read`, `call-short`,
+-- `walks-written`); and which walk a call asks for (`walk-for`, `call-bottom`, `call-spaced`, `call-barred`, `call-read`, `call-short`,
 -- `call-formed`). Assumes nothing.
 use mathlib.Core.Path.{_≡_, refl, sym, ap, subst, _∙_}
 use mathlib.Core.Logic.{_≢_}
-use mathlib.Core.Bool.{Bool, true, false}
+use mathlib.Core.Bool.{Bool, true, false, not}
 use mathlib.Core.List.{List, [], _∷_}
-use Prim.Native.Nat.{ℕ, _≤_, _<_}
+use Prim.Native.Nat.{ℕ, zero, suc, _+_, _-_, _*_, _≤_, _<_}
 use native.Mathlib.Omega.{arith}
 use lib.Dec.{eqb, ltb}
-use lib.ListN.{length, getD, take, replicate}
+use lib.ListN.{length, getD, take, drop, replicate}
 use Rattle.text.specs.Bytes.{pick}
 use Rattle.text.specs.Call.{callOf, finish, laid}
 use Rattle.text.specs.Version.{Rule, ruleOf}
 use Rattle.text.specs.declared.Answer.{Answer}
 use Rattle.text.specs.declared.Answer.the-variants.{Done, Refused}
 use Rattle.output.specs.Over.{over}
-use Rattle.output.specs.Runs.{Plain}
 use Rattle.output.proofs.Clip.{over-fits}
 use Rattle.eols.specs.Stops.{ruleFor}
 use Rattle.text.specs.Simple.{Simple}
 use Rattle.eols.proofs.LineEnds.{version-rule}
+use Rattle.legal.specs.Legal.{inValue, mayStand}
+use Rattle.legal.specs.FirstFault.{mayBy, Clean, FirstFault}
+use Rattle.legal.proofs.Clean.{simple-clean}
 use Rattle.halts.proofs.Smooth.{simple-plain}
-use Rattle.attribute.proofs.Single.{walk-plain}
+use Rattle.attribute.proofs.Single.{walk-run, walk-plain}
+use Rattle.attribute.proofs.Guards.{walk-clear, clear-of, read-barred}
 use Rattle.canonical.specs.Canonical.{canonical}
-use Rattle.halts.specs.Halts.{Smooth, HaltAt, anyStop, stopByte, blanksSpaced}
+use Rattle.halts.specs.Halts.{Smooth, HaltAt, blanksSpaced}
 use Rattle.entity.specs.Table.{marked}
-use Rattle.entity.specs.Binding.{binding}
-use Rattle.tokens.specs.Tokens.{Heads}
-use Rattle.tokens.specs.Outcome.{Outcome, done, refused, produced}
-use Rattle.tokens.specs.Walking.{Walked, Ended}
+use Rattle.tokens.specs.Tokens.{Head, Heads, tokenOf, skipOf}
+use Rattle.tokens.specs.Outcome.{Outcome, done, refused, prepend, followed, produced, answerIn, leftIn}
+use Rattle.tokens.specs.Walking.{outcomeOf, Walked, Ended}
+use Rattle.tokens.proofs.Openings.{openingsOf}
+use Rattle.tokens.proofs.Progress.{fromOn, run-at}
 use Rattle.tokens.proofs.Finished.{ended-refused, ended-short, ended-written, ended-held, whole-short, whole-written}
 use Rattle.attribute.specs.Heads.{attributeHead}
 use Rattle.attribute.specs.Walk.{Settings, walk, normalize, innerHead, reading, readingOf}
-use Rattle.attribute.specs.Steps.{headsBy}
+use Rattle.attribute.specs.Strict.{guarded, strictly, readingBy}
+use Rattle.attribute.specs.Steps.{headsBy, faultBy, readBy, stopAnswer}
 use Rattle.attribute.specs.Form.{formed}
 use Rattle.attribute.proofs.Formed.{Filled, formed-written}
 use Rattle.attribute.proofs.Outer.{withOuter, walk-outer}
-use Rattle.attribute.proofs.Values.{table-length, openings-within}
 use Rattle.memory.specs.Levels.{settingsBy, settingsOf, Level, levelOf, left, Fitted, Came, Reaches, Finishes, Lent, FlatKeeps, StepsKeep}
 use Rattle.memory.specs.declared.Reading.{Reading}
 use Rattle.memory.specs.declared.Place.{Place}
@@ -45,12 +49,13 @@ use Rattle.memory.specs.declared.Reached.{Reached}
 use Rattle.memory.specs.declared.Reached.the-variants.{End, Opening, Paused, Stopped}
 use Rattle.memory.proofs.Keeping.{memory-start, memory-none}
 use Rattle.halts.proofs.Spaces.{spaced-length}
-use Rattle.memory.proofs.Stretches.{smooth-whole}
+use Rattle.memory.proofs.Stretches.{smooth-part, smooth-run, smooth-whole}
+use Rattle.memory.proofs.Readings.{by-most, by-within}
 use Rattle.memory.proofs.Levels.{placeOf, walk-left, came-start, came-memory}
 use Rattle.memory.proofs.Turns.{turn-end, turn-stopped}
 use Rattle.cycle.specs.Cycle.{Walkable}
-use Rattle.cycle.proofs.Exhausted.{ended-exhausted, ended-plain}
-use Rattle.normalize.specs.Calls.{readingFor, walkOf, Walks, WalksOn}
+use Rattle.normalize.specs.declared.Wanted.{Wanted}
+use Rattle.normalize.specs.Calls.{readingFor, outcomeFor, walkOf, Walks, WalksOn}
 
 -- ---- the walk
 
@@ -179,109 +184,166 @@ module _ (short : ℕ) (t out : List ℕ) where
 
 -- ---- the walk that a call asks for
 
--- what holds however a text is read holds of the version's heads
-pub by-version : (newer : Bool) (P : Bool → Heads → Type 0) → P (eqb (pick newer 1 0) 1) (headsBy (pick newer 1 0)) → P newer (attributeHead (ruleFor newer))
-by-version true P h = h
-by-version false P h = h
+pub not-true : (x : Bool) → not x ≡ true → x ≡ false
+not-true true e = sym e
+not-true false e = refl
 
--- at depth 0
-module _ (newer : Bool) (s : Settings) (t : List ℕ) (short : ℕ) (out : List ℕ) where
-  pub bottom-refused : anyStop (stopByte newer) t ≡ true → Ended short (walk s (attributeHead (ruleFor newer)) 0 t 0) out out (Refused 16 0 0)
-  bottom-refused =
-      by-version newer (λ n at. anyStop (stopByte n) t ≡ true → Ended short (walk s at 0 t 0) out out (Refused 16 0 0)) (ended-exhausted (pick newer 1 0) s t 0 short out)
+pub not-false : (x : Bool) → not x ≡ false → x ≡ true
+not-false true e = refl
+not-false false e = sym e
 
-  pub bottom-plain : {last : List ℕ} {r : Answer} → anyStop (stopByte newer) t ≡ false → Ended short (done t 0) out last r
-      → Ended short (walk s (attributeHead (ruleFor newer)) 0 t 0) out last r
-  bottom-plain {last} {r} =
-      by-version newer (λ n at. anyStop (stopByte n) t ≡ false → Ended short (done t 0) out last r → Ended short (walk s at 0 t 0) out last r)
-      (ended-plain (pick newer 1 0) s t 0 short out)
+pub ended-same : (short : ℕ) (out : List ℕ) {o p : Outcome} {last : List ℕ} {a : Answer} → o ≡ p → Ended short p out last a → Ended short o out last a
+ended-same short out {o} {p} {last} {a} e k = subst (λ (x : Outcome). Ended short x out last a) (sym e) k
 
-normalize-walk : (rule : Rule) (list pool : List ℕ) (limit depth : ℕ) (t : List ℕ)
-    → normalize (readingOf rule list pool limit) depth t ≡ walk (readingOf rule list pool limit) (attributeHead rule) depth t 0
-unfolding normalize readingOf reading
-normalize-walk rule list pool limit depth t = refl
+pub ended-26 : {o : Outcome} {before : List ℕ} {n at : ℕ} (short : ℕ) (out : List ℕ) → o ≡ refused before n 26 at 0 → Ended short o out out (Refused 26 at 0)
+unfolding answerIn leftIn
+ended-26 short out e = ended-same short out e (refl, refl)
+
+-- the heads of the value itself, and those of the texts of the table
+abbrev outerHeads : Bool → Bool → Heads
+outerHeads false newer = attributeHead (ruleFor newer)
+outerHeads true newer = guarded (mayStand inValue (ruleFor newer)) (attributeHead (ruleFor newer))
+
+outer-is : (strict newer : Bool) → readBy (pick newer 1 0) (pick strict (pick newer 2 1) 0) ≡ outerHeads strict newer
+unfolding guarded mayBy mayStand
+outer-is false true = refl
+outer-is false false = refl
+outer-is true true = refl
+outer-is true false = refl
+
+normalize-walk : (strict newer : Bool) (list pool : List ℕ) (limit depth : ℕ) (t : List ℕ)
+    → normalize (readingBy strict (ruleFor newer) list pool limit) depth t ≡ walk (readingBy strict (ruleFor newer) list pool limit) (outerHeads strict newer) depth t 0
+unfolding normalize readingBy strictly readingOf reading
+normalize-walk false newer list pool limit depth t = refl
+normalize-walk true newer list pool limit depth t = refl
 
 -- the settings of the walk are those of the reading, the outer heads aside
-settings-for : (newer : Bool) (list pool : List ℕ) (limit : ℕ) (past : Bool) → marked list ≡ past
-    → settingsBy (pick past 2 (pick newer 1 0)) list pool limit ≡ withOuter (headsBy (pick past 2 (pick newer 1 0))) (readingOf (ruleFor newer) list pool limit)
-unfolding settingsBy readingOf reading innerHead
-settings-for newer list pool limit true e = rw e
-settings-for true list pool limit false e = rw e
-settings-for false list pool limit false e = rw e
+settings-for : (strict newer : Bool) (list pool : List ℕ) (limit : ℕ) (past : Bool) → marked list ≡ past
+    → settingsBy (pick past 2 (pick newer 1 0)) (pick strict (pick newer 3 1) 0) list pool limit
+    ≡ withOuter (readBy (pick past 2 (pick newer 1 0)) (pick strict (pick newer 3 1) 0)) (readingBy strict (ruleFor newer) list pool limit)
+unfolding settingsBy readingBy strictly readingOf reading innerHead guarded mayBy mayStand
+settings-for false true list pool limit true e = rw e
+settings-for false false list pool limit true e = rw e
+settings-for false true list pool limit false e = rw e
+settings-for false false list pool limit false e = rw e
+settings-for true true list pool limit true e = rw e
+settings-for true false list pool limit true e = rw e
+settings-for true true list pool limit false e = rw e
+settings-for true false list pool limit false e = rw e
 
-module _ (version : ℕ) (list pool : List ℕ) (limit depth : ℕ) (t : List ℕ) where
+simple-faults : (t : List ℕ) → Simple t → (guard k : ℕ) → k < length t → faultBy guard (drop k t) ≡ false
+simple-faults t x zero k h = refl
+simple-faults t x (suc rule) k h = simple-clean t x rule .none k (omega arith) h
+
+module _ (w : Wanted) (list pool t : List ℕ) where
   abbrev newer : Bool
-  newer = ltb 1 version
+  newer = ltb 1 (w .version)
+
+  abbrev strict : Bool
+  strict = w .strict
 
   abbrev asked : Outcome
-  asked = normalize (readingOf (ruleOf version) list pool limit) depth t
+  asked = outcomeFor w list pool t
 
-  asked-is : walk (readingOf (ruleFor newer) list pool limit) (attributeHead (ruleFor newer)) depth t 0 ≡ asked
+  -- how the value itself is read
+  abbrev how : ℕ
+  how = pick newer 1 0
+
+  abbrev guard : ℕ
+  guard = pick (w .strict) (pick newer 2 1) 0
+
+  abbrev s : Settings
+  s = readingBy (w .strict) (ruleFor newer) list pool (w .limit)
+
+  asked-is : walk s (readBy how guard) (w .depth) t 0 ≡ asked
   asked-is =
-      sym (normalize-walk (ruleFor newer) list pool limit depth t)
-      ∙ ap (λ (rule : Rule). normalize (readingOf rule list pool limit) depth t) (version-rule version newer refl)
+      ap (λ (h : Heads). walk s h (w .depth) t 0) (outer-is (w .strict) newer)
+      ∙ sym (normalize-walk (w .strict) newer list pool (w .limit) (w .depth) t)
+      ∙ ap (λ (rule : Rule). normalize (readingBy (w .strict) rule list pool (w .limit)) (w .depth) t) (version-rule (w .version) newer refl)
 
-  walk-for : walkOf (readingFor newer (marked list) depth limit) list pool t ≡ asked
+  walk-for : walkOf (readingFor w (marked list)) list pool t ≡ asked
   walk-for =
       let inner : ℕ = pick (marked list) 2 (pick newer 1 0) in
-      let s = readingOf (ruleFor newer) list pool limit in
-      by-version newer (λ n at. walk (settingsBy inner list pool limit) (headsBy (pick newer 1 0)) depth t 0 ≡ walk s at depth t 0)
-      (ap (λ (x : Settings). walk x (headsBy (pick newer 1 0)) depth t 0) (settings-for newer list pool limit (marked list) refl)
-      ∙ walk-outer (headsBy inner) s (headsBy (pick newer 1 0)) depth t 0)
+      let inguard : ℕ = pick (w .strict) (pick newer 3 1) 0 in
+      ap (λ (x : Settings). walk x (readBy how guard) (w .depth) t 0) (settings-for (w .strict) newer list pool (w .limit) (marked list) refl)
+      ∙ walk-outer (readBy inner inguard) s (readBy how guard) (w .depth) t 0
       ∙ asked-is
 
-  module _ (short : ℕ) (out : List ℕ) {last : List ℕ} {a : Answer} where
-    pub call-bottom : depth ≡ 0 → ((s : Settings) → Ended short (walk s (attributeHead (ruleFor newer)) 0 t 0) out last a) → Ended short asked out last a
-    call-bottom z e =
-        let s = readingOf (ruleFor newer) list pool limit in
-        let q : walk s (attributeHead (ruleFor newer)) 0 t 0 ≡ asked = ap (λ (d : ℕ). walk s (attributeHead (ruleFor newer)) d t 0) (sym z) ∙ asked-is in
-        subst (λ (o : Outcome). Ended short o out last a) q (e s)
+  flag : (x : Bool) → eqb (pick x 1 0) 1 ≡ x
+  flag true = refl
+  flag false = refl
 
-    pub call-spaced : depth ≢ 0 → {first : ℕ} → HaltAt newer t 0 first → first ≡ length t → Ended short (done (blanksSpaced t) 0) out last a
-        → Ended short asked out last a
-    call-spaced deep h z e =
-        let s = readingOf (ruleFor newer) list pool limit in
-        let q =
-        by-version newer (λ n at. Smooth n t 0 (length t) → walk s at depth t 0 ≡ done (blanksSpaced t) 0) (smooth-whole s (pick newer 1 0) depth deep t 0)
-        (subst (Smooth newer t 0) z (h .smooth)) in
-        subst (λ (o : Outcome). Ended short o out last a) (sym q ∙ asked-is) e
+  module _ {r : Reading} (is : r ≡ readingFor w (marked list)) where
+    -- what the walk over the text is asked
+    pub read-asked : w .depth ≢ 0 → w .limit ≤ 1000000 → length t ≤ 16777216 → {first : ℕ} → HaltAt (eqb (r .how) 1) t 0 first
+        → ((r .base ≡ 0) × Walkable r t) × HaltAt (eqb (r .how) 1) t 0 first
+    read-asked deep most short {first} h =
+        (subst (λ (x : Reading). (x .base ≡ 0) × Walkable x t) (sym is) (refl, record { deep = deep; most = most; short = short }), h)
 
-    pub call-read : {r : Reading} → r ≡ readingFor newer (marked list) depth limit → Ended short (walkOf r list pool t) out last a → Ended short asked out last a
-    call-read {r} is e =
-        subst (λ (o : Outcome). Ended short o out last a) (ap (λ (x : Reading). walkOf x list pool t) is ∙ walk-for) e
+    reads-as : readBy (r .how) (r .guard) ≡ readBy how guard
+    reads-as = ap (λ (x : Reading). readBy (x .how) (x .guard)) is
+
+    value-is : walk s (readBy (r .how) (r .guard)) (w .depth) t 0 ≡ asked
+    value-is = ap (λ (x : Heads). walk s x (w .depth) t 0) reads-as ∙ asked-is
+
+    module _ (short : ℕ) (out : List ℕ) where
+      pub call-bottom : {last : List ℕ} {a : Answer} → w .depth ≡ 0 → ((s : Settings) → Ended short (walk s (readBy (r .how) (r .guard)) 0 t 0) out last a)
+          → Ended short asked out last a
+      call-bottom z e =
+          ended-same short out (sym value-is ∙ ap (λ (d : ℕ). walk s (readBy (r .how) (r .guard)) d t 0) z) (e s)
+
+      pub call-read : {last : List ℕ} {a : Answer} → Ended short (walkOf r list pool t) out last a → Ended short asked out last a
+      call-read e = ended-same short out (sym (ap (λ (x : Reading). walkOf x list pool t) is ∙ walk-for)) e
+
+      -- a text without halts
+      module _ (deep : w .depth ≢ 0) {first : ℕ} (h : HaltAt (eqb (r .how) 1) t 0 first) (z : first ≡ length t) {fault : ℕ}
+          (f : FirstFault (faultBy (r .guard)) t 0 first fault) where
+        -- every character of it may stand
+        pub call-spaced : {last : List ℕ} {a : Answer} → fault ≡ first → Ended short (done (blanksSpaced t) 0) out last a → Ended short asked out last a
+        call-spaced q e =
+            let clean = subst (λ (k : ℕ). Clean (faultBy (r .guard)) t 0 k) (q ∙ z) (f .clean) in
+            let smooth = subst (Smooth (eqb (r .how) 1) t 0) z (h .smooth) in
+            ended-same short out (sym value-is ∙ smooth-whole s (r .how) (r .guard) (w .depth) deep t 0 smooth clean) e
+
+        -- or one may not: refusal 26
+        pub call-barred : fault ≢ first → Ended short asked out out (Refused 26 fault 0)
+        call-barred q =
+            let inside : fault < length t = omega (arith, f .within, q, z) in
+            let part = smooth-part (h .smooth) (f .clean .from) (f .within) in
+            let heads = readBy (r .how) (r .guard) in
+            let answers = stopAnswer s (w .depth) in
+            let stopped : fromOn (readBy (r .how) (r .guard)) (stopAnswer s (w .depth)) t fault 0 ≡ refused [] 0 26 fault 0 =
+            run-at heads answers t fault 0 inside
+            ∙ ap (λ (d : Head). followed (outcomeOf answers (tokenOf d) 0) (λ m. fromOn heads answers t (fault + 1 + skipOf d) m))
+            (read-barred t fault inside (r .guard) (headsBy (r .how)) (f .found (omega (arith, f .within, q)))) in
+            ended-26 short out
+            (sym value-is
+            ∙ walk-run s heads (w .depth) t 0
+            ∙ smooth-run s (r .how) (r .guard) (w .depth) deep t 0 part (f .clean)
+            ∙ ap (prepend (blanksSpaced (take (fault - 0) t))) stopped)
 
   -- so no sum overflows
-  pub call-short : {value : List ℕ} {made : ℕ} → asked ≡ done value made → ((k : ℕ) → getD list k 0 < 0x100) → length t ≤ 16777216 → limit ≤ 1000000
+  pub call-short : {value : List ℕ} {made : ℕ} → asked ≡ done value made → ((k : ℕ) → getD list k 0 < 0x100) → length t ≤ 16777216 → w .limit ≤ 1000000
       → length value ≤ 0x1000000000000
   call-short {value} {made} e bytes h m =
-      let n = table-length (ruleOf version) list pool limit depth t value made e bytes in
-      let w : made ≤ limit = openings-within (ruleOf version) (marked list) (binding list pool) limit depth t value made (unfold readingOf in e) in
-      omega (arith, n, w, h, m)
+      let inner : ℕ = pick (marked list) 2 (pick newer 1 0) in
+      let inguard : ℕ = pick (w .strict) (pick newer 3 1) 0 in
+      let o = walk-for ∙ e in
+      let n : length value + 65535 * 0 ≤ length t + 65535 * made =
+      subst (λ (x : Outcome). length (produced x) + 65535 * 0 ≤ length t + 65535 * openingsOf x) o (by-most inner inguard list pool (w .limit) bytes how guard (w .depth) 0 t) in
+      let k : made ≤ w .limit = subst (λ (x : Outcome). openingsOf x ≤ w .limit) o (by-within inner inguard list pool (w .limit) (readBy how guard) (w .depth) t) in
+      omega (arith, n, k, h, m)
 
   -- the canonical form of the value that the scratch holds
   pub call-formed : {scratch last : List ℕ} {len made : ℕ} → Filled asked scratch last len made → (out new : List ℕ) (q : Answer)
-      → callOf q (new ∷ []) ≡ finish (canonical (ruleFor newer) (take len last)) made out → callOf q (last ∷ new ∷ []) ≡ formed (ruleOf version) asked scratch out
+      → callOf q (new ∷ []) ≡ finish (canonical (ruleFor newer) (take len last)) made out → callOf q (last ∷ new ∷ []) ≡ formed (ruleOf (w .version)) asked scratch out
   call-formed {scratch} {last} {len} {made} f out new q e =
-      formed-written f (ruleOf version) out new q
-      (subst (λ (rule : Rule). callOf q (new ∷ []) ≡ finish (canonical rule (take len last)) made out) (version-rule version newer refl) e)
+      formed-written f (ruleOf (w .version)) out new q
+      (subst (λ (rule : Rule). callOf q (new ∷ []) ≡ finish (canonical rule (take len last)) made out) (version-rule (w .version) newer refl) e)
 
--- what the walk over the text is asked
-pub read-asked : (version : ℕ) (list : List ℕ) (limit depth : ℕ) (t : List ℕ) {r : Reading} → r ≡ readingFor (ltb 1 version) (marked list) depth limit
-    → depth ≢ 0 → limit ≤ 1000000 → length t ≤ 16777216 → {first : ℕ} → HaltAt (ltb 1 version) t 0 first
-    → ((r .base ≡ 0) × Walkable r t) × HaltAt (eqb (r .how) 1) t 0 first
-read-asked version list limit depth t is deep most short {first} h =
-    subst (λ (x : Reading). ((x .base ≡ 0) × Walkable x t) × HaltAt (eqb (x .how) 1) t 0 first) (sym is)
-    ((refl, record { deep = deep; most = most; short = short }), subst (λ (n : Bool). HaltAt n t 0 first) (flag (ltb 1 version)) h)
-  where
-    flag : (newer : Bool) → newer ≡ eqb (pick newer 1 0) 1
-    flag true = refl
-    flag false = refl
-
--- a text that stands for itself is its own value
-pub simple-value : (version limit depth : ℕ) (list pool t : List ℕ) → Simple t → normalize (readingOf (ruleOf version) list pool limit) depth t ≡ done t 0
-unfolding normalize readingOf reading
-simple-value version limit depth list pool t s =
-    let newer = ltb 1 version in
-    subst (λ (r : Rule). normalize (readingOf r list pool limit) depth t ≡ done t 0) (version-rule version newer refl)
-    (by-version newer (λ n at. Plain (stopByte n) t 0 (length t) → walk (readingOf (ruleFor newer) list pool limit) at depth t 0 ≡ done t 0)
-    (walk-plain (readingOf (ruleFor newer) list pool limit) (pick newer 1 0) depth t 0) (simple-plain newer t s))
+  -- a text that stands for itself is its own value
+  pub simple-value : Simple t → asked ≡ done t 0
+  simple-value x =
+      sym asked-is
+      ∙ walk-clear s guard (headsBy how) (w .depth) t 0 (clear-of guard t (simple-faults t x guard))
+      ∙ walk-plain s how (w .depth) t 0 (simple-plain (eqb how 1) t x)

@@ -3,22 +3,40 @@ use Prim.Native.Nat.{ℕ}
 use mathlib.Core.Path.{_≡_}
 use mathlib.Core.Bool.{Bool}
 use mathlib.Core.List.{List, []}
+use lib.Dec.{ltb}
 use lib.ListN.{length}
 use Rattle.text.specs.Bytes.{pick}
+use Rattle.text.specs.Version.{ruleOf}
 use Rattle.text.specs.declared.Answer.{Answer}
 use Rattle.tokens.specs.Outcome.{Outcome, done, answerOf}
-use Rattle.attribute.specs.Steps.{headsBy}
-use Rattle.attribute.specs.Walk.{walk}
+use Rattle.attribute.specs.Steps.{readBy}
+use Rattle.attribute.specs.Walk.{walk, normalize}
+use Rattle.attribute.specs.Strict.{readingBy}
 use Rattle.memory.specs.Levels.{settingsOf, Level, left, Fitted, Came}
 use Rattle.memory.specs.declared.Reading.{Reading}
 use Rattle.memory.specs.declared.Place.{Place}
+use Rattle.normalize.specs.declared.Wanted.{Wanted}
 
--- what the walk over the text of a call is set to, by its version and by whether its list is marked
-abbrev pub readingFor : Bool → Bool → ℕ → ℕ → Reading
-readingFor newer past depth limit = record { how = pick newer 1 0; inner = pick past 2 (pick newer 1 0); depth = depth; limit = limit; base = 0 }
+-- what the walk over the text of a call is set to, and by whether its list is marked
+abbrev pub readingFor : Wanted → Bool → Reading
+readingFor w past =
+    let newer = ltb 1 (w .version) in
+    record {
+      how = pick newer 1 0;
+      inner = pick past 2 (pick newer 1 0);
+      guard = pick (w .strict) (pick newer 2 1) 0;
+      inguard = pick (w .strict) (pick newer 3 1) 0;
+      depth = w .depth;
+      limit = w .limit;
+      base = 0;
+    }
+
+-- the outcome that a call asks for
+abbrev pub outcomeFor : Wanted → List ℕ → List ℕ → List ℕ → Outcome
+outcomeFor w list pool text = normalize (readingBy (w .strict) (ruleOf (w .version)) list pool (w .limit)) (w .depth) text
 
 abbrev pub walkOf : Reading → List ℕ → List ℕ → List ℕ → Outcome
-walkOf r list pool text = walk (settingsOf r list pool) (headsBy (r .how)) (r .depth) text 0
+walkOf r list pool text = walk (settingsOf r list pool) (readBy (r .how) (r .guard)) (r .depth) text 0
 
 -- its answer, and in the buffer the value where all of it fits
 pub record Walks (o : Outcome) (old new : List ℕ) (r : Answer) : Type 0 where

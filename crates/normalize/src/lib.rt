@@ -6,6 +6,7 @@ ghost use mathlib.Core.List.{[], _∷_};
 ghost use Prim.Native.Nat.{_≤_};
 ghost use lib.Dec.{eqb};
 ghost use lib.ListN.{length};
+ghost use Rattle.text.specs.Bytes.{pick};
 ghost use Rattle.text.specs.Call.{callOf, finish, laid};
 ghost use Rattle.text.specs.Version.{ruleOf};
 ghost use Rattle.text.specs.Simple.{Simple};
@@ -15,17 +16,25 @@ ghost use Rattle.halts.specs.Halts.{HaltAt, blanksSpaced};
 ghost use Rattle.entity.specs.Table.{marked, ValidTable};
 ghost use Rattle.tokens.specs.Outcome.{done, finished};
 ghost use Rattle.tokens.specs.Walking.{Ended};
-ghost use Rattle.attribute.specs.Heads.{attributeHead};
-ghost use Rattle.attribute.specs.Walk.{Settings, walk, normalize, readingOf};
+ghost use Rattle.attribute.specs.Walk.{Settings, walk};
+ghost use Rattle.attribute.specs.Steps.{readBy};
 ghost use Rattle.attribute.specs.Form.{formed};
 ghost use Rattle.memory.specs.Levels.{levelOf, Lent};
 ghost use Rattle.cycle.specs.Cycle.{Walkable};
-ghost use Rattle.normalize.specs.Calls.{readingFor, walkOf, Walks, WalksOn};
+ghost use Rattle.normalize.specs.Calls.{readingFor, outcomeFor, walkOf, Walks, WalksOn};
 use memory::Place;
 use memory::Reached;
 use memory::Reading;
 use text::Answer;
 use text::refusals;
+
+// What a call is asked: its version byte, whether its characters have to be the version's, depth and opening limit.
+pub struct Wanted {
+    pub version: u8,
+    pub strict: bool,
+    pub depth: u64,
+    pub limit: u64,
+}
 
 // ---- the walk over the text of a call
 
@@ -160,11 +169,19 @@ fn normalize_into(
 
 // ---- the calls
 
-// The text of a call at depth 0: refused where there is any stop, else its own value.
-fn normalize_bottom(text: &[u8], newer: bool, short: u32, out: &mut [u8]) -> Answer
-    ensures { λ r. ⌜ ((s : Settings) → Ended short (walk s (attributeHead (ruleFor newer)) 0 (now (text .entry)) 0) (now (out .entry)) (now (out .exit)) r) ⌝ }
+// The text of a call at depth 0: refused where there is a fault or a stop, else its own value.
+fn normalize_bottom(text: &[u8], how: u8, guard: u8, short: u32, out: &mut [u8]) -> Answer
+    ensures { λ r. ⌜ ((s : Settings) → Ended short (walk s (readBy how guard) 0 (now (text .entry)) 0) (now (out .entry)) (now (out .exit)) r) ⌝ }
 {
-    if halts::has_stop(text, newer) {
+    let fault = cycle::bottom_fault(text, how, guard);
+    if fault != text.len() {
+        return Answer::Refused {
+            number: refusals::FORBIDDEN_CHARACTER,
+            first: fault as u64,
+            second: 0,
+        };
+    }
+    if halts::has_stop(text, how == 1) {
         return Answer::Refused {
             number: refusals::TOO_DEEP,
             first: 0,
@@ -193,17 +210,39 @@ fn spaced_whole(text: &[u8], short: u32, out: &mut [u8]) -> Answer
     }
 }
 
-// What the walk over the text of a call is set to: the texts of a marked list are past line ends.
-fn reading_for(list: &[u8], newer: bool, depth: u64, limit: u64) -> Reading
-    ensures { λ r. ⌜ r ≡ readingFor newer (marked (now (list .entry))) depth limit ⌝ }
+// What may stand in the value itself, and in a text of the table: all, or what the version lets stand there.
+fn outer_guard(strict: bool, newer: bool) -> u8
+    ensures { λ r. ⌜ r ≡ pick strict (pick newer 2 1) 0 ⌝ }
 {
+    if !strict {
+        return 0;
+    }
+    if newer { 2 } else { 1 }
+}
+
+fn inner_guard(strict: bool, newer: bool) -> u8
+    ensures { λ r. ⌜ r ≡ pick strict (pick newer 3 1) 0 ⌝ }
+{
+    if !strict {
+        return 0;
+    }
+    if newer { 3 } else { 1 }
+}
+
+// What the walk over the text of a call is set to: the texts of a marked list are past line ends.
+fn reading_for(list: &[u8], wanted: Wanted) -> Reading
+    ensures { λ r. ⌜ r ≡ readingFor wanted (marked (now (list .entry))) ⌝ }
+{
+    let newer = 1 < wanted.version;
     let how = if newer { 1 } else { 0 };
     let inner = if entity::is_marked(list) { 2 } else { how };
     Reading {
         how,
         inner,
-        depth,
-        limit,
+        guard: outer_guard(wanted.strict, newer),
+        inguard: inner_guard(wanted.strict, newer),
+        depth: wanted.depth,
+        limit: wanted.limit,
         base: 0,
     }
 }
@@ -211,9 +250,7 @@ fn reading_for(list: &[u8], newer: bool, depth: u64, limit: u64) -> Reading
 // The value of the text of a call, in a buffer that is refused by the number given where it is too short.
 fn normalized(
     text: &[u8],
-    version: u8,
-    depth: u64,
-    limit: u64,
+    wanted: Wanted,
     list: &[u8],
     pool: &[u8],
     short: u32,
@@ -221,19 +258,26 @@ fn normalized(
 ) -> Answer
     requires { ⌜ ValidTable (now list) (now pool) ⌝ }
     requires { ⌜ length (now text) ≤ 16777216 ⌝ }
-    requires { ⌜ limit ≤ 1000000 ⌝ }
-    ensures { λ r. ⌜ Ended short (normalize (readingOf (ruleOf version) (now (list .entry)) (now (pool .entry)) limit) depth (now (text .entry))) (now (out .entry)) (now (out .exit)) r ⌝ }
+    requires { ⌜ wanted .limit ≤ 1000000 ⌝ }
+    ensures { λ r. ⌜ Ended short (outcomeFor wanted (now (list .entry)) (now (pool .entry)) (now (text .entry))) (now (out .entry)) (now (out .exit)) r ⌝ }
 {
-    let newer = 1 < version;
-    if depth == 0 {
-        return normalize_bottom(text, newer, short, out);
+    let reading = reading_for(list, wanted);
+    if wanted.depth == 0 {
+        return normalize_bottom(text, reading.how, reading.guard, short, out);
     }
-    let first = halts::first_halt(text, newer);
-    if first == text.len() {
-        return spaced_whole(text, short, out);
+    let first = halts::first_halt(text, reading.how == 1);
+    if first != text.len() {
+        return normalize_into(text, first, reading, list, pool, short, out);
     }
-    let reading = reading_for(list, newer, depth, limit);
-    normalize_into(text, first, reading, list, pool, short, out)
+    let fault = flat::run_fault(text, 0, first, reading.guard);
+    if fault != first {
+        return Answer::Refused {
+            number: refusals::FORBIDDEN_CHARACTER,
+            first: fault as u64,
+            second: 0,
+        };
+    }
+    spaced_whole(text, short, out)
 }
 
 // The attribute value normalized. Success: the length written, the openings. A text of which it is known that it is simple is its own
@@ -241,9 +285,7 @@ fn normalized(
 pub fn normalize_attribute_value(
     text: &[u8],
     simple: bool,
-    version: u8,
-    depth: u64,
-    limit: u64,
+    wanted: Wanted,
     list: &[u8],
     pool: &[u8],
     out: &mut [u8],
@@ -251,22 +293,13 @@ pub fn normalize_attribute_value(
     requires { ⌜ (simple ≡ true → Simple (now text)) ⌝ }
     requires { ⌜ ValidTable (now list) (now pool) ⌝ }
     requires { ⌜ length (now text) ≤ 16777216 ⌝ }
-    requires { ⌜ limit ≤ 1000000 ⌝ }
-    ensures { λ r. ⌜ callOf r (now (out .exit) ∷ []) ≡ finished (normalize (readingOf (ruleOf version) (now (list .entry)) (now (pool .entry)) limit) depth (now (text .entry))) (now (out .entry)) ⌝ }
+    requires { ⌜ wanted .limit ≤ 1000000 ⌝ }
+    ensures { λ r. ⌜ callOf r (now (out .exit) ∷ []) ≡ finished (outcomeFor wanted (now (list .entry)) (now (pool .entry)) (now (text .entry))) (now (out .entry)) ⌝ }
 {
     if simple {
         return tokens::copied_whole(text, refusals::NO_ROOM, out);
     }
-    normalized(
-        text,
-        version,
-        depth,
-        limit,
-        list,
-        pool,
-        refusals::NO_ROOM,
-        out,
-    )
+    normalized(text, wanted, list, pool, refusals::NO_ROOM, out)
 }
 
 // The canonical form of a value that a scratch holds. Where the output has six times its length there is room: no count is needed.
@@ -294,9 +327,7 @@ fn canonical_into(value: &[u8], newer: bool, openings: u64, out: &mut [u8]) -> A
 // The value goes to the scratch, its canonical form to the output. Success: the length written, the openings.
 pub fn canonical_form(
     text: &[u8],
-    version: u8,
-    depth: u64,
-    limit: u64,
+    wanted: Wanted,
     list: &[u8],
     pool: &[u8],
     scratch: &mut [u8],
@@ -304,19 +335,10 @@ pub fn canonical_form(
 ) -> Answer
     requires { ⌜ ValidTable (now list) (now pool) ⌝ }
     requires { ⌜ length (now text) ≤ 16777216 ⌝ }
-    requires { ⌜ limit ≤ 1000000 ⌝ }
-    ensures { λ r. ⌜ callOf r (now (scratch .exit) ∷ now (out .exit) ∷ []) ≡ formed (ruleOf version) (normalize (readingOf (ruleOf version) (now (list .entry)) (now (pool .entry)) limit) depth (now (text .entry))) (now (scratch .entry)) (now (out .entry)) ⌝ }
+    requires { ⌜ wanted .limit ≤ 1000000 ⌝ }
+    ensures { λ r. ⌜ callOf r (now (scratch .exit) ∷ now (out .exit) ∷ []) ≡ formed (ruleOf (wanted .version)) (outcomeFor wanted (now (list .entry)) (now (pool .entry)) (now (text .entry))) (now (scratch .entry)) (now (out .entry)) ⌝ }
 {
-    let filled = normalized(
-        text,
-        version,
-        depth,
-        limit,
-        list,
-        pool,
-        refusals::NO_SCRATCH,
-        scratch,
-    );
+    let filled = normalized(text, wanted, list, pool, refusals::NO_SCRATCH, scratch);
     let Answer::Done {
         first: len,
         second: openings,
@@ -324,5 +346,5 @@ pub fn canonical_form(
     else {
         return filled;
     };
-    canonical_into(&scratch[..len as usize], 1 < version, openings, out)
+    canonical_into(&scratch[..len as usize], 1 < wanted.version, openings, out)
 }

@@ -1,37 +1,58 @@
--- `bottom_step` is refused where `has_stop` finds one; else it writes the text where all of it fits (`bottom-written`, `bottom-long`).
+-- `bottom_step` is refused at a fault that `bottom_fault` finds (`bottom-refused-26`), and where `has_stop` finds a stop; else it writes the
+-- text where all of it fits (`bottom-written`, `bottom-long`). Without such a fault the heads are those below (`unbarred`).
 use mathlib.Core.Path.{sym, _∙_}
 use native.Mathlib.Omega.{arith}
-use Rattle.cycle.proofs.Exhausted.{bottom-refused, bottom-written, bottom-long}
+use Rattle.cycle.proofs.Exhausted.{bottom-same, bottom-refused-26, bottom-refused, bottom-written, bottom-long}
 use borrow.Author.Needs.{needs}
 use Rattle.cycle.proofs.bottom_step.Statement.{statement}
 use Rattle.cycle.proofs.bottom_step.Tie as tie
 
-has-stop-requires : tie.Need-has-stop-requires
-has-stop-requires c κs = tt
+abbrev entry : tie.After-bottom-fault → tie.Start
+entry c = c .before .before .before
+
+bottom-fault-requires : tie.Need-bottom-fault-requires
+bottom-fault-requires c κs = tt
 
 returns : tie.Need-returns
 returns c =
-    let a = c .before .before .before .before .args in
-    λ s. bottom-refused (a .how) s (a .text .now) (a .openings) (a .next) (a .out .now) (sym (c .before .has-stop .ensures) ∙ c .if1 .taken)
+    let looked = c .before in
+    let a = entry looked .args in
+    λ s. bottom-refused-26 (a .next) (a .out .now) (looked .bottom-fault .ensures .barred (c .if1 .taken) s (a .openings))
+
+has-stop-requires : tie.Need-has-stop-requires
+has-stop-requires c κs = tt
+
+returns-2 : tie.Need-returns-2
+returns-2 c =
+    let looked = c .before .before .before in
+    let a = entry looked .args in
+    λ s. bottom-same (looked .bottom-fault .ensures .other (c .before .before .if1 .left) s (a .openings))
+    (bottom-refused (a .how) s (a .text .now) (a .openings) (a .next) (a .out .now) (sym (c .before .has-stop .ensures) ∙ c .if2 .taken))
 
 put-run-requires : tie.Need-put-run-requires
-put-run-requires c κs = omega (arith, c .before .if2 .taken)
+put-run-requires c κs = omega (arith, c .before .if3 .taken)
 
 same-length : tie.Need-same-length
 same-length c = search needs
 
-returns-2 : tie.Need-returns-2
-returns-2 c =
-    let a = c .before .before .before .before .before .before .before .before .before .args in
-    let none = sym (c .before .before .before .before .before .before .has-stop .ensures) ∙ c .before .before .before .before .before .if1 .left in
-    λ s. bottom-written (a .how) s (a .text .now) (a .openings) (a .next) none (omega (arith, c .before .before .before .before .if2 .taken)) (c .before .before .put-run .ensures)
-
 returns-3 : tie.Need-returns-3
 returns-3 c =
-    let a = c .before .before .before .before .before .args in
-    let none = sym (c .before .before .has-stop .ensures) ∙ c .before .if1 .left in
-    λ s. bottom-long (a .how) s (a .text .now) (a .openings) (a .next) none (omega (arith, c .if2 .left))
+    let test = c .before .before .before .before .before in
+    let looked = test .before .before .before in
+    let a = entry looked .args in
+    let none = sym (test .before .has-stop .ensures) ∙ test .if2 .left in
+    λ s. bottom-same (looked .bottom-fault .ensures .other (test .before .before .if1 .left) s (a .openings))
+    (bottom-written (a .how) s (a .text .now) (a .openings) (a .next) none (omega (arith, c .before .before .before .before .if3 .taken)) (c .before .before .put-run .ensures))
+
+returns-4 : tie.Need-returns-4
+returns-4 c =
+    let test = c .before in
+    let looked = test .before .before .before in
+    let a = entry looked .args in
+    let none = sym (test .before .has-stop .ensures) ∙ test .if2 .left in
+    λ s. bottom-same (looked .bottom-fault .ensures .other (test .before .before .if1 .left) s (a .openings))
+    (bottom-long (a .how) s (a .text .now) (a .openings) (a .next) none (omega (arith, c .if3 .left)))
 
 pub bottom-step-spec : {M : Type 1} → statement M
 bottom-step-spec =
-    tie.close (tie.spec has-stop-requires returns put-run-requires same-length returns-2 returns-3)
+    tie.close (tie.spec bottom-fault-requires returns has-stop-requires returns-2 put-run-requires same-length returns-3 returns-4)

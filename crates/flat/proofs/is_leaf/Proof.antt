@@ -1,9 +1,11 @@
--- A text is without halts when its next halt from 0 on is its end.
+-- A text is without halts when its next halt from 0 on is its end, and without faults when the search for one comes to its end.
 use mathlib.Core.Path.{sym, subst}
 use mathlib.Core.Bool.{true≢false}
 use lib.ListN.{length}
 use borrow.Author.Tests.{eqb-true}
+use Rattle.legal.specs.FirstFault.{Clean}
 use Rattle.halts.specs.Halts.{Smooth}
+use Rattle.attribute.specs.Steps.{faultBy}
 use borrow.Author.Needs.{needs}
 use Rattle.flat.proofs.is_leaf.Statement.{statement}
 use Rattle.flat.proofs.is_leaf.Tie as tie
@@ -15,9 +17,18 @@ next-halt-requires : tie.Need-next-halt-requires
 next-halt-requires c κs = search needs
 
 returns-2 : tie.Need-returns-2
-returns-2 c = λ q.
-    let a = c .before .before .before .args in
-    subst (Smooth (a .newer) (a .text .now) 0) (eqb-true (c .next-halt .result) (length (a .text .now)) q) (c .next-halt .ensures .smooth)
+returns-2 c = λ q. absurd (true≢false (sym q))
+
+run-fault-requires : tie.Need-run-fault-requires
+run-fault-requires c κs = search needs
+
+returns-3 : tie.Need-returns-3
+returns-3 c = λ q.
+    let a = c .before .before .before .before .before .args in
+    record {
+      smooth = subst (Smooth (a .newer) (a .text .now) 0) (c .before .if2 .left) (c .before .before .next-halt .ensures .smooth);
+      clean = subst (Clean (faultBy (a .guard)) (a .text .now) 0) (eqb-true (c .run-fault .result) (length (a .text .now)) q) (c .run-fault .ensures .clean);
+    }
 
 pub is-leaf-spec : {M : Type 1} → statement M
-is-leaf-spec = tie.close (tie.spec returns next-halt-requires returns-2)
+is-leaf-spec = tie.close (tie.spec returns next-halt-requires returns-2 run-fault-requires returns-3)

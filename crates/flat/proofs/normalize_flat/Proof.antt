@@ -3,6 +3,8 @@
 use mathlib.Core.Path.{_≡_, subst, _∙_}
 use native.Mathlib.Omega.{arith}
 use mathlib.Core.List.{List}
+use Rattle.legal.specs.FirstFault.{Clean}
+use Rattle.attribute.specs.Steps.{faultBy}
 use Rattle.flat.specs.declared.Halted.{Halted}
 use borrow.Author.Needs.{needs}
 use Rattle.memory.specs.Levels.{levelOf}
@@ -10,7 +12,7 @@ use Rattle.flat.specs.Between.{HaltKeeps}
 use Prim.Native.Nat.{ℕ, _+_, _-_, _≤_, _<_}
 use Rattle.memory.proofs.Levels.{placeOf}
 use lib.ListN.{length}
-use Rattle.flat.proofs.Going.{Going, going-start, going-room, going-within, run-lent, going-end, going-opens, going-paused, going-stopped, going-sum, going-made, going-next}
+use Rattle.flat.proofs.Going.{Going, going-start, going-barred, going-room, going-within, run-lent, going-end, going-opens, going-paused, going-stopped, going-sum, going-made, going-next}
 use Rattle.flat.proofs.normalize_flat.Statement.{statement}
 use Rattle.flat.proofs.normalize_flat.Tie as tie
 
@@ -26,6 +28,9 @@ abbrev μ-loop : tie.MeasureT-loop
 abbrev Turn : Type 0
 Turn = tie.At-loop Inv-loop μ-loop
 
+abbrev Looked : Type 0
+Looked = tie.After-run-fault Inv-loop μ-loop
+
 abbrev Ran : Type 0
 Ran = tie.After-write-run Inv-loop μ-loop
 
@@ -38,8 +43,11 @@ Passed = tie.After-known-told Inv-loop μ-loop
 abbrev entry-of : Turn → tie.Start Inv-loop μ-loop
 entry-of c = c .before .before .before .before .before .before
 
+abbrev fault-of : Ran → Looked
+fault-of c = c .before .before .before
+
 abbrev turn-of : Ran → Turn
-turn-of c = c .before .before
+turn-of c = fault-of c .before
 
 abbrev ran-of : Halt → Ran
 ran-of c = c .before .before .before .before .before .before
@@ -61,6 +69,14 @@ abbrev seen-halted : Halt → List ℕ
 seen-halted c = c .halt-step .last .1 .1 .1 .1 .1 .1 .0
 
 -- ---- facts of these places
+
+-- every character of the run may stand
+run-clean : (c : Ran)
+    → Clean (faultBy (entry-of (turn-of c) .args .reading .guard)) (entry-of (turn-of c) .args .text .now) (turn-of c .loop .at) (turn-of c .loop .end)
+run-clean c =
+    let turn = turn-of c in
+    let a = entry-of turn .args in
+    subst (λ (e : ℕ). Clean (faultBy (a .reading .guard)) (a .text .now) (turn .loop .at) e) (c .before .before .if1 .left) (fault-of c .run-fault .ensures .clean)
 
 -- what is written so far is short
 len-small : (c : Turn) → c .loop .len ≤ 0x1000000000000
@@ -107,9 +123,26 @@ loop-holds c =
     let a = start .args in
     going-start (a .reading) (a .text .now) (a .list .now) (a .pool .now) (a .place) (a .out .now) (a .seen .now) (start .pre .1 .1 .0)
 
+run-fault-requires : tie.Need-run-fault-requires Inv-loop μ-loop
+run-fault-requires c κs = let smooth = c .loop .inv .halt .smooth in (smooth .from, smooth .to)
+
+same-length : tie.Need-same-length Inv-loop μ-loop
+same-length c = c .before .before .loop .inv .words
+
+same-length-2 : tie.Need-same-length-2 Inv-loop μ-loop
+same-length-2 c = c .before .before .loop .inv .buffer
+
+returns : tie.Need-returns Inv-loop μ-loop
+returns c =
+    let turn = c .before .before in
+    let start = entry-of turn in
+    let a = start .args in
+    going-barred (a .reading) (a .text .now) (a .list .now) (a .pool .now) (a .place) (a .out .now) (a .seen .now) (turn .loop .inv) (start .pre .1 .0 .0)
+    (start .pre .1 .1 .1) (c .before .run-fault .ensures) (c .if1 .taken)
+
 write-run-requires : tie.Need-write-run-requires Inv-loop μ-loop
 write-run-requires c κs =
-    let turn = c .before in
+    let turn = c .before .before .before in
     let smooth = turn .loop .inv .halt .smooth in
     (smooth .from, smooth .to, entry-of turn .pre .1 .0 .2, len-small turn)
 
@@ -123,22 +156,22 @@ add-len c =
 
 -- ---- the end of the text
 
-same-length : tie.Need-same-length Inv-loop μ-loop
-same-length c = turn-of (c .before .before .before) .loop .inv .words
+same-length-3 : tie.Need-same-length-3 Inv-loop μ-loop
+same-length-3 c = turn-of (c .before .before .before) .loop .inv .words
 
-same-length-2 : tie.Need-same-length-2 Inv-loop μ-loop
-same-length-2 c =
+same-length-4 : tie.Need-same-length-4 Inv-loop μ-loop
+same-length-4 c =
     let ran = c .before .before .before in
     ran .write-run .ensures .buffer ∙ turn-of ran .loop .inv .buffer
 
-returns : tie.Need-returns Inv-loop μ-loop
-returns c =
+returns-2 : tie.Need-returns-2 Inv-loop μ-loop
+returns-2 c =
     let ran = c .before .before .before in
     let turn = turn-of ran in
     let start = entry-of turn in
     let a = start .args in
     going-end (a .reading) (a .text .now) (a .list .now) (a .pool .now) (a .place) (a .out .now) (a .seen .now) (turn .loop .inv) (start .pre .1 .0 .0)
-    (start .pre .1 .1 .1) (ran .write-run .ensures) (c .if1 .taken)
+    (start .pre .1 .1 .1) (run-clean ran) (ran .write-run .ensures) (c .if2 .taken)
 
 -- ---- the halt
 
@@ -149,10 +182,10 @@ halt-step-requires c κs =
     let start = entry-of turn in
     let a = start .args in
     let h = turn .loop .inv .halt in
-    let inside : turn .loop .end < length (a .text .now) = omega (arith, c .before .before .if1 .left, h .smooth .to) in
+    let inside : turn .loop .end < length (a .text .now) = omega (arith, c .before .before .if2 .left, h .smooth .to) in
     let lent =
     run-lent (a .reading) (a .text .now) (a .list .now) (a .pool .now) (a .place) (a .out .now) (a .seen .now) (turn .loop .inv) (start .pre .1 .0 .0)
-    (start .pre .1 .1 .1) (ran .write-run .ensures) in
+    (start .pre .1 .1 .1) (run-clean ran) (ran .write-run .ensures) in
     (start .pre .0, (start .pre .1 .0, ((inside, h .ends inside), lent)))
 
 enum-known-next : tie.Need-enum-known-next Inv-loop μ-loop
@@ -167,68 +200,68 @@ add-len-2 c =
     let k = halt-kept (halt-of c) (c .before .next .given .1) in
     let sum =
     going-sum (a .reading) (a .text .now) (a .list .now) (a .pool .now) (a .place) (a .out .now) (a .seen .now) (turn .loop .inv) (start .pre .1 .0 .0)
-    (start .pre .1 .1 .1) (ran .write-run .ensures) k in
+    (start .pre .1 .1 .1) (run-clean ran) (ran .write-run .ensures) k in
     let made =
     going-made (a .reading) (a .text .now) (a .list .now) (a .pool .now) (a .place) (a .out .now) (a .seen .now) (turn .loop .inv) (start .pre .1 .0 .0)
-    (start .pre .1 .1 .1) (ran .write-run .ensures) k in
+    (start .pre .1 .1 .1) (run-clean ran) (ran .write-run .ensures) k in
     omega (arith, sum, made, start .pre .1 .0)
 
 enum-known-next-2 : tie.Need-enum-known-next-2 Inv-loop μ-loop
 enum-known-next-2 c = search needs
 
-same-length-3 : tie.Need-same-length-3 Inv-loop μ-loop
-same-length-3 c = words-kept (c .before .before .before .before .before .before .before)
+same-length-5 : tie.Need-same-length-5 Inv-loop μ-loop
+same-length-5 c = words-kept (c .before .before .before .before .before .before .before)
 
-same-length-4 : tie.Need-same-length-4 Inv-loop μ-loop
-same-length-4 c = buffer-kept (c .before .before .before .before .before .before .before)
+same-length-6 : tie.Need-same-length-6 Inv-loop μ-loop
+same-length-6 c = buffer-kept (c .before .before .before .before .before .before .before)
 
-returns-2 : tie.Need-returns-2 Inv-loop μ-loop
-returns-2 c =
+returns-3 : tie.Need-returns-3 Inv-loop μ-loop
+returns-3 c =
     let halt = c .before .before .before .before .before .before .before in
     let ran = ran-of halt in
     let turn = turn-of ran in
     let start = entry-of turn in
     let a = start .args in
     going-opens (a .reading) (a .text .now) (a .list .now) (a .pool .now) (a .place) (a .out .now) (a .seen .now) (turn .loop .inv) (start .pre .1 .0 .0)
-    (start .pre .1 .1 .1) (ran .write-run .ensures) (halt-kept halt (c .before .next2 .given .1))
+    (start .pre .1 .1 .1) (run-clean ran) (ran .write-run .ensures) (halt-kept halt (c .before .next2 .given .1))
 
 enum-told : tie.Need-enum-told Inv-loop μ-loop
 enum-told c = search needs
 
-same-length-5 : tie.Need-same-length-5 Inv-loop μ-loop
-same-length-5 c = words-kept (c .before .before .before .before .before .before)
+same-length-7 : tie.Need-same-length-7 Inv-loop μ-loop
+same-length-7 c = words-kept (c .before .before .before .before .before .before)
 
-same-length-6 : tie.Need-same-length-6 Inv-loop μ-loop
-same-length-6 c = buffer-kept (c .before .before .before .before .before .before)
+same-length-8 : tie.Need-same-length-8 Inv-loop μ-loop
+same-length-8 c = buffer-kept (c .before .before .before .before .before .before)
 
-returns-3 : tie.Need-returns-3 Inv-loop μ-loop
-returns-3 c =
+returns-4 : tie.Need-returns-4 Inv-loop μ-loop
+returns-4 c =
     let halt = c .before .before .before .before .before .before in
     let ran = ran-of halt in
     let turn = turn-of ran in
     let start = entry-of turn in
     let a = start .args in
     going-paused (a .reading) (a .text .now) (a .list .now) (a .pool .now) (a .place) (a .out .now) (a .seen .now) (turn .loop .inv) (start .pre .1 .0 .0)
-    (start .pre .1 .1 .1) (ran .write-run .ensures) (halt .before .before .before .if1 .left) (halt-kept halt (c .enum-told .given .1))
+    (start .pre .1 .1 .1) (run-clean ran) (ran .write-run .ensures) (halt .before .before .before .if2 .left) (halt-kept halt (c .enum-told .given .1))
 
 enum-known-number : tie.Need-enum-known-number Inv-loop μ-loop
 enum-known-number c = search needs
 
-same-length-7 : tie.Need-same-length-7 Inv-loop μ-loop
-same-length-7 c = words-kept (c .before .before .before .before .before .before .before)
+same-length-9 : tie.Need-same-length-9 Inv-loop μ-loop
+same-length-9 c = words-kept (c .before .before .before .before .before .before .before)
 
-same-length-8 : tie.Need-same-length-8 Inv-loop μ-loop
-same-length-8 c = buffer-kept (c .before .before .before .before .before .before .before)
+same-length-10 : tie.Need-same-length-10 Inv-loop μ-loop
+same-length-10 c = buffer-kept (c .before .before .before .before .before .before .before)
 
-returns-4 : tie.Need-returns-4 Inv-loop μ-loop
-returns-4 c =
+returns-5 : tie.Need-returns-5 Inv-loop μ-loop
+returns-5 c =
     let halt = c .before .before .before .before .before .before .before in
     let ran = ran-of halt in
     let turn = turn-of ran in
     let start = entry-of turn in
     let a = start .args in
     going-stopped (a .reading) (a .text .now) (a .list .now) (a .pool .now) (a .place) (a .out .now) (a .seen .now) (turn .loop .inv) (start .pre .1 .0 .0)
-    (start .pre .1 .1 .1) (ran .write-run .ensures) (halt-kept halt (c .before .number .given .1))
+    (start .pre .1 .1 .1) (run-clean ran) (ran .write-run .ensures) (halt-kept halt (c .before .number .given .1))
 
 -- ---- the halt is passed: to the next one
 
@@ -263,7 +296,7 @@ loop-again c =
     let start = entry-of turn in
     let a = start .args in
     going-next (a .reading) (a .text .now) (a .list .now) (a .pool .now) (a .place) (a .out .now) (a .seen .now) (turn .loop .inv) (start .pre .1 .0 .0)
-    (start .pre .1 .1 .1) (ran .write-run .ensures) (halt-kept (halt-of passed) (passed .before .next .given .1)) (c .halt-after .ensures)
+    (start .pre .1 .1 .1) (run-clean ran) (ran .write-run .ensures) (halt-kept (halt-of passed) (passed .before .next .given .1)) (c .halt-after .ensures)
 
 pub normalize-flat-spec : {M : Type 1} → statement M
 normalize-flat-spec =
@@ -272,27 +305,31 @@ normalize-flat-spec =
     Inv-loop
     μ-loop
     loop-holds
-    write-run-requires
-    sub-len
-    add-len
+    run-fault-requires
     same-length
     same-length-2
     returns
+    write-run-requires
+    sub-len
+    add-len
+    same-length-3
+    same-length-4
+    returns-2
     halt-step-requires
     enum-known-next
     add-len-2
     enum-known-next-2
-    same-length-3
-    same-length-4
-    returns-2
-    enum-told
     same-length-5
     same-length-6
     returns-3
-    enum-known-number
+    enum-told
     same-length-7
     same-length-8
     returns-4
+    enum-known-number
+    same-length-9
+    same-length-10
+    returns-5
     add-met
     halt-after-requires
     loop-less

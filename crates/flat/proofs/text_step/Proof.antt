@@ -98,7 +98,9 @@ is-leaf-requires : tie.Need-is-leaf-requires
 is-leaf-requires c κs = search needs
 
 write-run-requires : tie.Need-write-run-requires
-write-run-requires c κs = search needs
+write-run-requires c κs =
+    let asked = begun (c .before .before .before .before .before .before) .pre in
+    (omega arith, omega arith, omega (arith, asked .0 .2), omega (arith, asked .1 .0))
 
 add-keep : tie.Need-add-keep
 add-keep c = omega (arith, begun (missed (c .before .before .before .before)) .pre .1 .0)

@@ -3,6 +3,7 @@
 use mathlib.Core.Path.{_∙_, sym}
 use mathlib.Core.List.{[], _∷_}
 use Rattle.text.proofs.Call.{halts, passes}
+use Rattle.attribute.specs.Strict.{readingBy}
 use Rattle.govlezna.specs.Calls.{canonicalFormCall}
 use Rattle.govlezna.proofs.Passing.{passed-walk}
 use mathlib.Core.Bool.{true≢false}
@@ -46,7 +47,7 @@ same-length-2 : tie.Need-same-length-2
 same-length-2 c = search needs
 
 returns-2 : tie.Need-returns-2
-unfolding canonicalFormCall
+unfolding canonicalFormCall readingBy
 returns-2 c =
     let formed = c .before .before .before .before .before .before in
     let told = formed .before .before .before in

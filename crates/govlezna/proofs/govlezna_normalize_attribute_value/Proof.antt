@@ -2,6 +2,7 @@
 use mathlib.Core.Path.{_∙_}
 use mathlib.Core.List.{[], _∷_}
 use Rattle.text.proofs.Call.{halts, passes}
+use Rattle.attribute.specs.Strict.{readingBy}
 use Rattle.govlezna.specs.Calls.{normalizeAttributeValueCall}
 use Rattle.govlezna.proofs.Passing.{passed-walk}
 use borrow.Author.Needs.{needs}
@@ -45,7 +46,7 @@ same-length : tie.Need-same-length
 same-length c = search needs
 
 returns-2 : tie.Need-returns-2
-unfolding normalizeAttributeValueCall
+unfolding normalizeAttributeValueCall readingBy
 returns-2 c =
     let walked = c .before .before .before .before in
     let told = walked .before .before in

@@ -5,7 +5,7 @@ use lib.ListN.{length-take}
 use lib.Seq.{length-take-le}
 use Rattle.text.specs.Version.{ruleOf}
 use Rattle.tokens.specs.Outcome.{Outcome}
-use Rattle.attribute.specs.Walk.{normalize, readingOf}
+use Rattle.normalize.specs.Calls.{outcomeFor}
 use Rattle.attribute.proofs.Formed.{Filled, filled, formed-refused}
 use Rattle.normalize.proofs.Texts.{call-short, call-formed}
 use borrow.Author.Needs.{needs}
@@ -22,14 +22,14 @@ walk c = c .before .before .before .before
 abbrev outcome : tie.After-normalized → Outcome
 outcome c =
     let a = entry c .args in
-    normalize (readingOf (ruleOf (a .version)) (a .list .now) (a .pool .now) (a .limit)) (a .depth) (a .text .now)
+    outcomeFor (a .wanted) (a .list .now) (a .pool .now) (a .text .now)
 
 -- the scratch holds the value
-value-filled : (c : tie.After-filled) → Filled (outcome (walk c)) (entry (walk c) .args .scratch .now) (walk c .normalized .last .1 .1 .1 .1 .1 .1 .1 .0)
+value-filled : (c : tie.After-filled) → Filled (outcome (walk c)) (entry (walk c) .args .scratch .now) (walk c .normalized .last .1 .1 .1 .1 .1 .0)
     (c .filled .given .0 .0) (c .filled .given .0 .1 .0)
 value-filled c =
     let walked = walk c .normalized in
-    filled (outcome (walk c)) (entry (walk c) .args .scratch .now) (walked .last .1 .1 .1 .1 .1 .1 .1 .0) (walked .ensures) (c .filled .given .1)
+    filled (outcome (walk c)) (entry (walk c) .args .scratch .now) (walked .last .1 .1 .1 .1 .1 .0) (walked .ensures) (c .filled .given .1)
 
 normalized-requires : tie.Need-normalized-requires
 normalized-requires c κs = search needs
@@ -47,29 +47,29 @@ returns : tie.Need-returns
 returns c =
     let walked = c .before .before .before .before in
     let a = entry walked .args in
-    formed-refused (ruleOf (a .version)) (outcome walked) (a .scratch .now) (a .out .now) (walked .normalized .last .1 .1 .1 .1 .1 .1 .1 .0)
+    formed-refused (ruleOf (a .wanted .version)) (outcome walked) (a .scratch .now) (a .out .now) (walked .normalized .last .1 .1 .1 .1 .1 .0)
     (walked .normalized .ensures) (c .enum-told .given .1)
 
 slice-reshare-prefix-canonical-into : tie.Need-slice-reshare-prefix-canonical-into
 slice-reshare-prefix-canonical-into c =
     let f = value-filled (c .before) in
-    omega (arith, f .size, f .room, c .before .before .before .before .before .normalized .kept .1 .1 .1 .1 .1 .1 .1 .0)
+    omega (arith, f .size, f .room, c .before .before .before .before .before .normalized .kept .1 .1 .1 .1 .1 .0)
 
 slice-aggregate-canonical-into : tie.Need-slice-aggregate-canonical-into
 slice-aggregate-canonical-into c =
     let f = value-filled (c .before .before) in
     let walked = c .before .before .before .before .before .before .normalized in
-    sym (length-take-le (c .before .before .filled .given .0 .0) (walked .last .1 .1 .1 .1 .1 .1 .1 .0)
-    (omega (arith, f .size, f .room, walked .kept .1 .1 .1 .1 .1 .1 .1 .0)))
+    sym (length-take-le (c .before .before .filled .given .0 .0) (walked .last .1 .1 .1 .1 .1 .0)
+    (omega (arith, f .size, f .room, walked .kept .1 .1 .1 .1 .1 .0)))
 
 canonical-into-requires : tie.Need-canonical-into-requires
 canonical-into-requires c κs =
-    let f = value-filled (c .before .before .before) in
-    let begin = c .before .before .before .before .before .before .before .before .before .before .before .before .before .before in
+    let f = value-filled (c .before .before .before .before) in
+    let begin = c .before .before .before .before .before .before .before .before .before .before .before .before .before .before .before in
     let a = begin .args in
-    let short = call-short (a .version) (a .list .now) (a .pool .now) (a .limit) (a .depth) (a .text .now) (f .whole)
-    (λ k. omega (arith, c .before .before .before .before .before .before .before .before .before .before .before .before .shared-slice-known2 .given k)) (begin .pre .1 .0) (begin .pre .1 .1) in
-    omega (arith, length-take (c .before .before .before .filled .given .0 .0) (c .before .before .before .before .before .before .before .normalized .last .1 .1 .1 .1 .1 .1 .1 .0), short, f .size)
+    let short = call-short (a .wanted) (a .list .now) (a .pool .now) (a .text .now) (f .whole)
+    (λ k. omega (arith, c .before .before .before .before .before .before .before .before .before .before .before .before .before .shared-slice-known2 .given k)) (begin .pre .1 .0) (begin .pre .1 .1) in
+    omega (arith, length-take (c .before .before .before .before .filled .given .0 .0) (c .before .before .before .before .before .before .before .before .normalized .last .1 .1 .1 .1 .1 .0), short, f .size)
 
 same-length-2 : tie.Need-same-length-2
 same-length-2 c = search needs
@@ -79,9 +79,9 @@ same-length-3 c = search needs
 
 returns-2 : tie.Need-returns-2
 returns-2 c =
-    let a = c .before .before .before .before .before .before .before .before .before .before .before .before .before .before .before .before .before .args in
+    let a = c .before .before .before .before .before .before .before .before .before .before .before .before .before .before .before .before .before .before .args in
     let form = c .before .before .canonical-into in
-    call-formed (a .version) (a .list .now) (a .pool .now) (a .limit) (a .depth) (a .text .now) (value-filled (c .before .before .before .before .before .before)) (a .out .now)
+    call-formed (a .wanted) (a .list .now) (a .pool .now) (a .text .now) (value-filled (c .before .before .before .before .before .before .before)) (a .out .now)
     (form .last .1 .1 .1 .0) (form .result) (form .ensures)
 
 pub canonical-form-spec : {M : Type 1} → statement M

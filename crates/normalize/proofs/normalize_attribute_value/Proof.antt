@@ -1,10 +1,9 @@
 -- `normalize_attribute_value` copies a simple text, which is its own value (`simple-value`), and else ends as the walk into its output does.
 use mathlib.Core.Path.{sym, subst}
-use Rattle.text.specs.Version.{ruleOf}
 use Rattle.tokens.specs.Outcome.{Outcome}
 use Rattle.tokens.specs.Walking.{Ended}
 use Rattle.tokens.proofs.Finished.{ended-call}
-use Rattle.attribute.specs.Walk.{normalize, readingOf}
+use Rattle.normalize.specs.Calls.{outcomeFor}
 use Rattle.normalize.proofs.Texts.{simple-value}
 use borrow.Author.Needs.{needs}
 use Rattle.normalize.proofs.normalize_attribute_value.Statement.{statement}
@@ -22,8 +21,8 @@ returns c =
     let asked = copied .before .before in
     let entry = asked .before .before .before .before .before in
     let a = entry .args in
-    let o = normalize (readingOf (ruleOf (a .version)) (a .list .now) (a .pool .now) (a .limit)) (a .depth) (a .text .now) in
-    let is = simple-value (a .version) (a .limit) (a .depth) (a .list .now) (a .pool .now) (a .text .now) (entry .pre .0 (asked .if1 .taken)) in
+    let o = outcomeFor (a .wanted) (a .list .now) (a .pool .now) (a .text .now) in
+    let is = simple-value (a .wanted) (a .list .now) (a .pool .now) (a .text .now) (entry .pre .0 (asked .if1 .taken)) in
     let k = copied .copied-whole in
     ended-call o (a .out .now) (subst (λ (x : Outcome). Ended 19 x (a .out .now) (k .last .1 .1 .0) (k .result)) (sym is) (k .ensures))
 
@@ -36,7 +35,7 @@ same-length-2 c = search needs
 returns-2 : tie.Need-returns-2
 returns-2 c =
     let a = c .before .before .before .before .before .before .before .before .before .args in
-    ended-call (normalize (readingOf (ruleOf (a .version)) (a .list .now) (a .pool .now) (a .limit)) (a .depth) (a .text .now)) (a .out .now) (c .before .before .normalized .ensures)
+    ended-call (outcomeFor (a .wanted) (a .list .now) (a .pool .now) (a .text .now)) (a .out .now) (c .before .before .normalized .ensures)
 
 pub normalize-attribute-value-spec : {M : Type 1} → statement M
 normalize-attribute-value-spec =
