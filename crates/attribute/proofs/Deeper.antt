@@ -17,7 +17,7 @@ use Rattle.attribute.specs.Walk.{Settings, opened, answer, exhausted, wa
 -- ---- walks of replacement texts that are related
 
 module _ (R : Outcome → Outcome → Type 0) (related : Related R) (st : Settings) where
-  pick-related : (t : Bool) (o p q : Outcome) → R p q → R (pick t o p) (pick t o q)
+  pub pick-related : (t : Bool) (o p q : Outcome) → R p q → R (pick t o p) (pick t o q)
   pick-related true o p q k = related .same o
   pick-related false o p q k = k
 

@@ -7,6 +7,7 @@ pub mod Single
 pub mod Guards
 pub mod Reread
 pub mod Deeper
+pub mod Strict
 pub mod Outer
 pub mod Checked
 pub mod Formed
