@@ -8,6 +8,8 @@ pub mod Guards
 pub mod Reread
 pub mod Deeper
 pub mod Strict
+pub mod Guarded
+pub mod StrictReread
 pub mod Outer
 pub mod Checked
 pub mod Formed

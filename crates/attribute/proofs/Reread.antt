@@ -41,16 +41,16 @@ pub record Readable (st : Settings) : Type 0 where
 
 -- ---- heads
 
-other-head : (r : Rule) (b : ℕ) → Other b → Plain r b → (offset : ℕ) (bs : List ℕ) → attributeHead r offset b bs ≡ head (copy b) 0
+pub other-head : (r : Rule) (b : ℕ) → Other b → Plain r b → (offset : ℕ) (bs : List ℕ) → attributeHead r offset b bs ≡ head (copy b) 0
 unfolding attributeHead
 other-head xml10 b o p offset bs = rw (o .no-amp, o .no-tab, o .no-cr, o .no-lf)
 other-head xml11 b o p offset bs = rw (o .no-amp, o .no-tab, o .no-cr, o .no-lf, p .0, p .1)
 
-c2-head : (offset : ℕ) (bs : List ℕ) → begins (0x85 ∷ []) bs ≡ false → attributeHead xml11 offset 0xC2 bs ≡ head (stop (kept 0xC2)) 0
+pub c2-head : (offset : ℕ) (bs : List ℕ) → begins (0x85 ∷ []) bs ≡ false → attributeHead xml11 offset 0xC2 bs ≡ head (stop (kept 0xC2)) 0
 unfolding attributeHead
 c2-head offset bs e = rw e
 
-e2-head : (offset : ℕ) (bs : List ℕ) → begins (0x80 ∷ 0xA8 ∷ []) bs ≡ false → attributeHead xml11 offset 0xE2 bs ≡ head (stop (kept 0xE2)) 0
+pub e2-head : (offset : ℕ) (bs : List ℕ) → begins (0x80 ∷ 0xA8 ∷ []) bs ≡ false → attributeHead xml11 offset 0xE2 bs ≡ head (stop (kept 0xE2)) 0
 unfolding attributeHead
 e2-head offset bs e = rw e
 
