@@ -15,3 +15,4 @@ pub mod Checked
 pub mod Formed
 pub mod Shifted
 mod Examples
+mod StrictExamples
