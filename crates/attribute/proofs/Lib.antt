@@ -10,6 +10,7 @@ pub mod Deeper
 pub mod Strict
 pub mod Guarded
 pub mod StrictReread
+pub mod StrictValues
 pub mod Outer
 pub mod Checked
 pub mod Formed

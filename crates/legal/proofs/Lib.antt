@@ -4,3 +4,4 @@ pub mod Decoding
 pub mod Faults
 pub mod Clean
 pub mod Texts
+pub mod Readers

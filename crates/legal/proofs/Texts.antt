@@ -57,7 +57,7 @@ tail-by {s} {t} {lo} {hi} w g h b bs e = go (within lo hi b) refl
         let q : next s b ≡ broken = w .after b ∙ (rw f) in
         absurd (never-between bs (ap (λ (u : State). after u bs) (sym q) ∙ e))
 
-tail-byte : (s : State) (b : ℕ) (bs : List ℕ) → isBetween s ≡ false → after (next s b) bs ≡ between → within 0x80 0xBF b ≡ true
+pub tail-byte : (s : State) (b : ℕ) (bs : List ℕ) → isBetween s ≡ false → after (next s b) bs ≡ between → within 0x80 0xBF b ≡ true
 unfolding isBetween next
 tail-byte between b bs f e = absurd (true≢false f)
 tail-byte one b bs f e = tail-by waits-one (omega arith) (omega arith) b bs e
