@@ -11,6 +11,7 @@ pub mod Strict
 pub mod Guarded
 pub mod StrictReread
 pub mod StrictValues
+pub mod StrictForms
 pub mod Outer
 pub mod Checked
 pub mod Formed
