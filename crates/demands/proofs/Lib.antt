@@ -13,4 +13,5 @@ pub mod Words
 pub mod Agreement
 pub mod Standard
 pub mod StandardDepth
+pub mod StrictStandard
 mod Examples

@@ -21,7 +21,8 @@ use Rattle.entity.proofs.Tables.{binding-good}
 use Rattle.tokens.specs.Tokens.{Stop, number, named, Heads, tokens}
 use Rattle.tokens.specs.Outcome.{Outcome, done, refused, run, numbered, numberOutcome}
 use Rattle.attribute.specs.Heads.{attributeHead}
-use Rattle.attribute.specs.Walk.{opened, answer, exhausted, walk, normalize, innerHead, reading, readingOf}
+use Rattle.attribute.specs.Walk.{Settings, opened, answer, exhausted, walk, normalize, innerHead, reading, readingOf}
+use Rattle.attribute.proofs.Strict.{withLegal}
 use Rattle.demands.specs.Demands.{Asked, ruleFor, Accepted}
 use Rattle.demands.specs.Characters.{encodeAll, decode}
 use Rattle.demands.specs.Standard.{alone, lineEndsOf, valueOf, linesOf, characterValue, replacedBy, entityValue, referenceValue, standard, charactersOf, lookupOf, steady, steadyRefs, SteadyText, SteadyBound, FromStandard, limited, Meets}
@@ -68,8 +69,12 @@ number-agrees : (legal : ℕ → CharNumber) (cs : List ℕ) (n : ℕ) → Agree
 unfolding numberOutcome
 number-agrees legal cs n = rw (number-same legal cs) (character-agrees (charNumber legal cs) n)
 
-module _ (r : Rule) (past : Bool) (bind : List ℕ → Bound) (limit : ℕ) (lookup : List ℕ → Option (List ℕ))
+module _ (legal : ℕ → CharNumber) (r : Rule) (past : Bool) (bind : List ℕ → Bound) (limit : ℕ) (lookup : List ℕ → Option (List ℕ))
     (binds : (name : List ℕ) → Tied (CleanIn past r) (bind (encodeAll name)) (lookup name)) where
+  -- the reading, with that rule for character numbers
+  abbrev settings : Settings
+  settings = withLegal legal (reading r past bind limit)
+
   module _ (walked : List ℕ → ℕ → Outcome) (step : List ℕ → Option (List ℕ))
       (h : (t : List ℕ) → CleanIn past r t → (n : ℕ) → Agree [] (walked (encodeAll t) n) (step t)) where
     opened-agrees : (o n : ℕ) (name : List ℕ) (b : Bound) (x : Option (List ℕ)) → Tied (CleanIn past r) b x → Agree [] (opened limit walked o name b n) (replacedBy step x)
@@ -85,22 +90,22 @@ module _ (r : Rule) (past : Bool) (bind : List ℕ → Bound) (limit : ℕ) (loo
     named-agrees o n name true = unfold encodeAll in refl
     named-agrees o n name false = opened-agrees o n (encodeAll name) (bind (encodeAll name)) (lookup name) (binds name)
 
-    entity-agrees : (o n : ℕ) (name : List ℕ) → Agree [] (answer (reading r past bind limit) walked (named o (encodeAll name)) n) (entityValue lookup step name)
+    entity-agrees : (o n : ℕ) (name : List ℕ) → Agree [] (answer settings walked (named o (encodeAll name)) n) (entityValue lookup step name)
     unfolding answer entityValue reading
     entity-agrees o n name =
         rw (same-ascii name (97 ∷ 109 ∷ 112 ∷ []) (lit≤ tt, (lit≤ tt, (lit≤ tt, tt)))) (named-agrees o n name (sameBytes name (97 ∷ 109 ∷ 112 ∷ [])))
 
     reference-agrees : (o n c : ℕ) (cs : List ℕ) (t : Bool)
-        → Agree [] (answer (reading r past bind limit) walked (pick t (number (encodeAll cs)) (named o (encodeAll (c ∷ cs)))) n) (pick t (characterValue (charNumber anyCharacter cs)) (entityValue lookup step (c ∷ cs)))
-    reference-agrees o n c cs true = unfold answer in unfold reading in number-agrees anyCharacter cs n
+        → Agree [] (answer settings walked (pick t (number (encodeAll cs)) (named o (encodeAll (c ∷ cs)))) n) (pick t (characterValue (charNumber legal cs)) (entityValue lookup step (c ∷ cs)))
+    reference-agrees o n c cs true = unfold answer in unfold reading in number-agrees legal cs n
     reference-agrees o n c cs false = entity-agrees o n (c ∷ cs)
 
-    refers-agree : (o n : ℕ) (name : List ℕ) → Agree [] (answer (reading r past bind limit) walked (stopOf o name) n) (referenceValue anyCharacter lookup step name)
+    refers-agree : (o n : ℕ) (name : List ℕ) → Agree [] (answer settings walked (stopOf o name) n) (referenceValue legal lookup step name)
     unfolding referenceValue
     refers-agree o n [] = unfold encodeAll in entity-agrees o n []
     refers-agree o n (c ∷ cs) = reference-agrees o n c cs (eqb c 35)
 
-    answer-fits : Fits (answer (reading r past bind limit) walked) (referenceValue anyCharacter lookup step)
+    answer-fits : Fits (answer settings walked) (referenceValue legal lookup step)
     answer-fits =
         record {
           keeps = λ b n. unfold answer in refl;
@@ -120,13 +125,13 @@ module _ (r : Rule) (past : Bool) (bind : List ℕ → Bound) (limit : ℕ) (loo
 
   -- a text at any level, however it is read
   walk-agrees : (at : Heads) (lines : List ℕ → List ℕ) (C : List ℕ → Type 0) → ReadsBy at lines C → (depth : ℕ) (cs : List ℕ) → C cs → (n : ℕ)
-      → Agree [] (walk (reading r past bind limit) at depth (encodeAll cs) n) (standard anyCharacter lookup (linesOf past r) depth (lines cs))
+      → Agree [] (walk settings at depth (encodeAll cs) n) (standard legal lookup (linesOf past r) depth (lines cs))
   unfolding walk standard reading
   walk-agrees at lines C reads zero cs d n = reads exhausted (λ name. none) exhausted-fits cs d 0 n
   walk-agrees at lines C reads (suc depth) cs d n =
-      let walked : List ℕ → ℕ → Outcome = λ u m. walk (reading r past bind limit) (innerHead past r) depth u m in
-      let step : List ℕ → Option (List ℕ) = λ t. standard anyCharacter lookup (linesOf past r) depth (linesOf past r t) in
-      reads (answer (reading r past bind limit) walked) (referenceValue anyCharacter lookup step)
+      let walked : List ℕ → ℕ → Outcome = λ u m. walk settings (innerHead past r) depth u m in
+      let step : List ℕ → Option (List ℕ) = λ t. standard legal lookup (linesOf past r) depth (linesOf past r t) in
+      reads (answer settings walked) (referenceValue legal lookup step)
       (answer-fits walked step (λ t e m. walk-agrees (innerHead past r) (linesOf past r) (CleanIn past r) (inner-reads past r) depth t e m)) cs d 0 n
 
 -- ---- steady references make a clean text
@@ -218,37 +223,37 @@ agree-some (refused before n why first second) v h = go (limited why) refl
     go true e = e
     go false e = let q = h e in let z : _≡_ {A = ℕ} 0 1 = cc in absurd (omega arith)
 
--- A version, a binding of UTF-8 texts, past line ends or not, a limit, a depth and a UTF-8 text; in the text, and in each replacement text
--- that is not past line ends, no reference holds a character that the line ends change.
-module _ (r : Rule) (past : Bool) (bind : List ℕ → Bound) (limit : ℕ) (good : (name : List ℕ) → GoodBound (bind name)) (firm : (name : List ℕ) → SteadyBound past r (bind name))
-    (depth : ℕ) (t : List ℕ) (wf : WellFormed t) (still : SteadyText r t)
+-- A rule for character numbers, a version, a binding of UTF-8 texts, past line ends or not, a limit, a depth and a UTF-8 text; in the text,
+-- and in each replacement text that is not past line ends, no reference holds a character that the line ends change.
+module _ (legal : ℕ → CharNumber) (r : Rule) (past : Bool) (bind : List ℕ → Bound) (limit : ℕ)
+    (good : (name : List ℕ) → GoodBound (bind name)) (firm : (name : List ℕ) → SteadyBound past r (bind name)) (depth : ℕ) (t : List ℕ) (wf : WellFormed t) (still : SteadyText r t)
   where
     -- the standard's value of the text's characters, after their line ends
     abbrev pub standardValue : Option (List ℕ)
-    standardValue = standard anyCharacter (lookupOf bind) (linesOf past r) depth (lineEndsOf r (decode t))
+    standardValue = standard legal (lookupOf bind) (linesOf past r) depth (lineEndsOf r (decode t))
 
     binds : (name : List ℕ) → Tied (CleanIn past r) (bind (encodeAll name)) (lookupOf bind name)
     unfolding lookupOf
     binds name = tied-by past r (bind (encodeAll name)) (good (encodeAll name)) (firm (encodeAll name))
 
-    agrees : Agree [] (normalize (reading r past bind limit) depth t) standardValue
+    agrees : Agree [] (normalize (withLegal legal (reading r past bind limit)) depth t) standardValue
     unfolding normalize reading
     agrees =
-        subst (λ (u : List ℕ). Agree [] (walk (reading r past bind limit) (attributeHead r) depth u 0) standardValue) (decode-encode t wf)
-        (walk-agrees r past bind limit (lookupOf bind) binds (attributeHead r) (lineEndsOf r) (Clean (Steady r)) (clean-reads r) depth (decode t) (steady-clean r (decode t) still) 0)
+        subst (λ (u : List ℕ). Agree [] (walk (withLegal legal (reading r past bind limit)) (attributeHead r) depth u 0) standardValue) (decode-encode t wf)
+        (walk-agrees legal r past bind limit (lookupOf bind) binds (attributeHead r) (lineEndsOf r) (Clean (Steady r)) (clean-reads r) depth (decode t) (steady-clean r (decode t) still) 0)
 
     -- an accepted value is the standard's
-    pub accepted-is-standard : (value : List ℕ) (n : ℕ) → normalize (reading r past bind limit) depth t ≡ done value n → FromStandard standardValue value
+    pub accepted-is-standard : (value : List ℕ) (n : ℕ) → normalize (withLegal legal (reading r past bind limit)) depth t ≡ done value n → FromStandard standardValue value
     accepted-is-standard value n e = agree-value value n standardValue (rw e at agrees)
 
     -- where the walk refuses by another number than 16 and 17, the standard gives none
-    pub refused-is-standard : (before : List ℕ) (n why first second : ℕ) → normalize (reading r past bind limit) depth t ≡ refused before n why first second
+    pub refused-is-standard : (before : List ℕ) (n why first second : ℕ) → normalize (withLegal legal (reading r past bind limit)) depth t ≡ refused before n why first second
         → limited why ≡ false → standardValue ≡ none
     refused-is-standard before n why first second e = rw e at agrees
 
     -- where the standard gives a value, the walk gives its bytes, or refuses by 16 or 17
-    pub standard-is-met : (v : List ℕ) → standardValue ≡ some v → Meets (normalize (reading r past bind limit) depth t) v
-    standard-is-met v e = agree-some (normalize (reading r past bind limit) depth t) v (rw e at agrees)
+    pub standard-is-met : (v : List ℕ) → standardValue ≡ some v → Meets (normalize (withLegal legal (reading r past bind limit)) depth t) v
+    standard-is-met v e = agree-some (normalize (withLegal legal (reading r past bind limit)) depth t) v (rw e at agrees)
 
 -- an accepted value, with its table, is the standard's (demand 2; K4: of a marked list nothing is asked, and its texts are read as in the
 -- standard)
@@ -256,7 +261,7 @@ pub accepted-standard : (a : Asked) (value : List ℕ) (openings : ℕ) → Acce
     → ((name : List ℕ) → SteadyBound (marked (a .list)) (ruleFor a) (binding (a .list) (a .pool) name))
     → FromStandard
     (standard anyCharacter (lookupOf (binding (a .list) (a .pool))) (linesOf (marked (a .list)) (ruleFor a)) (a .depth) (lineEndsOf (ruleFor a) (decode (a .text)))) value
-unfolding readingOf
+unfolding readingOf reading
 accepted-standard a value openings p still firm =
-    accepted-is-standard (ruleFor a) (marked (a .list)) (binding (a .list) (a .pool)) (a .limit) (binding-good (a .list) (a .pool) (p .taken .table)) firm (a .depth) (a .text)
+    accepted-is-standard anyCharacter (ruleFor a) (marked (a .list)) (binding (a .list) (a .pool)) (a .limit) (binding-good (a .list) (a .pool) (p .taken .table)) firm (a .depth) (a .text)
     (p .taken .utf8) still value openings (p .reads)
