@@ -14,4 +14,5 @@ pub mod Agreement
 pub mod Standard
 pub mod StandardDepth
 pub mod StrictStandard
+pub mod StrictValues
 mod Examples
