@@ -15,4 +15,5 @@ pub mod Standard
 pub mod StandardDepth
 pub mod StrictStandard
 pub mod StrictValues
+pub mod StrictDemands
 mod Examples

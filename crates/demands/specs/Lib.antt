@@ -1,4 +1,5 @@
 pub mod Demands
+pub mod StrictDemands
 pub mod CallDemands
 pub mod Characters
 pub mod Standard
