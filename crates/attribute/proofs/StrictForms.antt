@@ -18,7 +18,7 @@ use Rattle.legal.specs.Legal.{isChar, isRestricted, Place, inValue, inTable, ma
 use Rattle.legal.proofs.Texts.{Legal, tail-byte}
 use Rattle.legal.proofs.Readers.{Good, lead-between, good-cons, good-tail, good-start, good-append}
 use Rattle.canonical.specs.Canonical.{canonical}
-use Rattle.canonical.proofs.Canonical.{Plain, Piece, by-level, as-nel, as-ls, as-c2, as-e2, Pieces, none, more, canonical-pieces}
+use Rattle.canonical.proofs.Canonical.{Piece, by-level, as-nel, as-ls, as-c2, as-e2, Pieces, none, more, canonical-pieces}
 use Rattle.tokens.specs.Outcome.{Outcome, done}
 use Rattle.attribute.specs.Walk.{normalize, reading}
 use Rattle.attribute.specs.Strict.{strictly}

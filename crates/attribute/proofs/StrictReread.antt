@@ -1,7 +1,7 @@
 -- Document 02, K8: canonical forms read again strictly. A form in which no character breaks the rule gives its value with no opening
 -- (`strict-reread`); otherwise it is refused by 26 at the first that does (`strict-barred`). Assumes nothing.
 use mathlib.Core.Path.{_≡_, refl, ap, sym, _∙_}
-use Prim.Native.Nat.{ℕ, zero, suc}
+use Prim.Native.Nat.{ℕ, suc}
 use native.Mathlib.Omega.{arith}
 use mathlib.Core.Bool.{Bool, true, false, not, _&&_}
 use mathlib.Core.Option.{Option, none, some}
@@ -14,7 +14,7 @@ use Rattle.charref.specs.declared.CharNumber.the-variants.{Char}
 use Rattle.escape.specs.Escape.{attribute, levelSet, writeByte}
 use Rattle.escape.proofs.View.{Kind, Other, is-lt, is-gt, is-amp, is-apos, is-quot, is-cr, is-lf, is-tab, is-other, kind}
 use Rattle.legal.specs.Legal.{isChar, Place, inValue, inTable, mayStand, faultAt}
-use Rattle.legal.specs.FirstFault.{faultsBy, ruleNumber}
+use Rattle.legal.specs.FirstFault.{ruleNumber}
 use Rattle.legal.proofs.Numbers.{faults-by-number, printable-may}
 use Rattle.legal.proofs.Faults.{fault-ascii}
 use Rattle.canonical.specs.Canonical.{canonical}

@@ -3,7 +3,7 @@
 use mathlib.Core.Path.{_≡_, refl, sym, ap, subst, _∙_}
 use Prim.Native.Nat.{ℕ, zero, suc, _<_}
 use native.Mathlib.Omega.{arith}
-use mathlib.Core.Bool.{Bool, true, false, not, _&&_, _||_}
+use mathlib.Core.Bool.{Bool, true, false, not, _||_}
 use mathlib.Core.Option.{Option, none, some}
 use mathlib.Core.List.{List, [], _∷_, _++_, append-assoc, append-nil}
 use lib.ListN.{length, drop}
@@ -23,7 +23,7 @@ use Rattle.legal.proofs.Texts.{Legal, legal-encoded, tail-byte}
 use Rattle.legal.proofs.Readers.{Pending, Good, onward, good-cons, good-start, good-append}
 use Rattle.eols.specs.LineEnds.{lineEnd}
 use Rattle.entity.specs.Binding.{Bound, GoodBound}
-use Rattle.tokens.specs.Tokens.{Stop, kept, space, number, named, unterminated, Token, copy, stop, barred, Head, head, Heads, Name, ended, endless, nameAt, referenceAt}
+use Rattle.tokens.specs.Tokens.{kept, space, number, named, unterminated, Token, copy, stop, barred, Head, head, Heads, Name, ended, endless, nameAt, referenceAt}
 use Rattle.tokens.specs.Outcome.{Outcome, done, refused, prepend, followed}
 use Rattle.tokens.proofs.Carried.{Carried, Onward, Moves, Moving}
 use Rattle.tokens.proofs.WellFormedness.{utf8, number-well-formed}

@@ -2,15 +2,14 @@
 use mathlib.Core.Path.{_≡_, refl, ap, sym, subst, _∙_}
 use Prim.Native.Nat.{ℕ, zero, suc, _≤_}
 use native.Mathlib.Omega.{arith}
-use mathlib.Core.Bool.{Bool, true, not}
-use mathlib.Core.Option.{Option, none, some}
+use mathlib.Core.Bool.{true}
+use mathlib.Core.Option.{some}
 use mathlib.Core.List.{List, [], _∷_}
 use Rattle.text.specs.Version.{Rule, xml10, xml11}
-use Rattle.text.specs.Utf8.{WellFormed}
 use Rattle.entity.specs.Table.{marked}
 use Rattle.entity.specs.Binding.{binding}
 use Rattle.entity.proofs.Tables.{binding-good}
-use Rattle.legal.specs.Legal.{isChar, isRestricted, faultAt}
+use Rattle.legal.specs.Legal.{isChar}
 use Rattle.canonical.specs.Canonical.{canonical}
 use Rattle.canonical.proofs.Canonical.{canonical-well-formed}
 use Rattle.tokens.specs.Outcome.{Outcome, done, refused}

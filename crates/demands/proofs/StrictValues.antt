@@ -7,13 +7,13 @@ use Rattle.text.specs.Version.{Rule}
 use Rattle.text.specs.Utf8.{State, between, next, isBetween, WellFormed}
 use Rattle.text.proofs.Bytes.{pick-by}
 use Rattle.entity.specs.Table.{marked, ValidTable}
-use Rattle.entity.specs.Binding.{Bound, binding, GoodBound}
+use Rattle.entity.specs.Binding.{binding}
 use Rattle.entity.proofs.Tables.{binding-good}
 use Rattle.legal.specs.Legal.{isChar, bits}
 use Rattle.legal.proofs.Readers.{Good, good-tail, good-start}
 use Rattle.tokens.specs.Outcome.{done}
-use Rattle.attribute.specs.Walk.{normalize, reading, readingOf}
-use Rattle.attribute.specs.Strict.{strictly, readingBy}
+use Rattle.attribute.specs.Walk.{normalize, readingOf}
+use Rattle.attribute.specs.Strict.{readingBy}
 use Rattle.attribute.proofs.StrictValues.{Characters, strict-legal}
 use Rattle.demands.specs.Characters.{gather, decodeFrom, decode}
 use Rattle.demands.proofs.Agreement.{All}

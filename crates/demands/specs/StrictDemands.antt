@@ -2,7 +2,7 @@
 -- Assumes nothing.
 use mathlib.Core.Path.{_≡_}
 use Prim.Native.Nat.{ℕ, suc}
-use mathlib.Core.Bool.{Bool, true, not}
+use mathlib.Core.Bool.{true, not}
 use mathlib.Core.Option.{Option, none, some}
 use mathlib.Core.List.{List, [], _∷_}
 use Rattle.text.specs.Bytes.{pick}
@@ -11,7 +11,6 @@ use Rattle.legal.specs.Legal.{isChar, isRestricted, faultAt}
 use Rattle.tokens.specs.Outcome.{Outcome, done, refused}
 use Rattle.attribute.specs.Walk.{normalize}
 use Rattle.attribute.specs.Strict.{readingBy}
-use Rattle.demands.specs.Characters.{decode}
 use Rattle.demands.specs.Demands.{Asked, ruleFor, Taken, formOf}
 
 -- K8: what the strict reading makes of what a call is asked

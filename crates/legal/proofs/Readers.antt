@@ -1,9 +1,9 @@
 -- A reader of UTF-8 before a text in which no fault begins (`Good`): with one byte more before the text (`good-cons`), one less
 -- (`good-tail`), or whole characters more (`good-append`). Assumes nothing.
 use mathlib.Core.Path.{_≡_, refl, sym, ap, _∙_}
-use mathlib.Core.Bool.{Bool, true, false, not, true≢false}
+use mathlib.Core.Bool.{Bool, true, false, not}
 use mathlib.Core.Option.{some}
-use mathlib.Core.List.{List, [], _∷_, _++_}
+use mathlib.Core.List.{List, _∷_, _++_}
 use Prim.Native.Nat.{ℕ}
 use Rattle.text.specs.Bytes.{pick, within}
 use Rattle.text.specs.Utf8.{State, between, next, after, isBetween, WellFormed}
