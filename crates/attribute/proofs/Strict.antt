@@ -133,7 +133,12 @@ unfolding numberOutcome
 number-alike r digits n =
     numbered-alike (charNumber (onlyChar r) digits) (charNumber anyCharacter digits) (char-related OrForbidden the-same (onlyChar r) anyCharacter (only-char r) digits) n
 
--- K8: what is strictly read, other than refusals by 25 and 26, is what the lenient reading gives.
+-- K8: what is strictly read, other than refusals by 25 and 26, is what the lenient reading gives: in any text, with any depth, after any
+-- openings.
+pub walk-alike : (r : Rule) (s : Settings) (may : ℕ → Bool) (at : Heads) (depth : ℕ) (t : List ℕ) (n : ℕ)
+    → Keeps strictOnly (walk (strictly r s) (guarded may at) depth t n) (walk (withLegal anyCharacter s) at depth t n)
+walk-alike r s may at depth t n = walk-beside strictOnly refl r s anyCharacter (number-alike r) may at depth t n
+
 pub normalize-alike : (r : Rule) (s : Settings) (depth : ℕ) (t : List ℕ)
     → Keeps strictOnly (normalize (strictly r s) depth t) (normalize (withLegal anyCharacter s) depth t)
 normalize-alike r s depth t = normalize-beside strictOnly refl r s anyCharacter (number-alike r) depth t
