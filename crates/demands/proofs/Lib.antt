@@ -16,4 +16,5 @@ pub mod StandardDepth
 pub mod StrictStandard
 pub mod StrictValues
 pub mod StrictDemands
+mod StrictInhabited
 mod Examples
