@@ -122,7 +122,7 @@ legal-none may (b ∷ bs) offset h = rw (h .0) (legal-none may bs (suc offset) (
 
 -- ---- what breaks the rule of 1.1 among characters of Char
 
--- the raw characters that 1.1 restricts
+-- no RestrictedChar
 abbrev pub unrestricted : ℕ → Bool
 unrestricted n = not (isRestricted n)
 
