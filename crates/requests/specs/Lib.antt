@@ -1,2 +1,3 @@
 pub mod External
 pub mod Marked
+pub mod Strict

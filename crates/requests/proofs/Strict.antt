@@ -1,0 +1,139 @@
+-- K8, of the calls: an answer other than 25 and 26 is the lenient call's (`k8-alike`, `k8-alike-form`); every character of a value that a strict
+-- call gave is Char (`k8-chars`) and the value is the standard's with Char (`k8-standard`); its form read again strictly goes as in demand 3
+-- (`k8-again`), and under 2 gets 26 at its first raw RestrictedChar (`k8-again-26`). Assumes nothing.
+use mathlib.Core.Path.{_≡_, refl, sym, ap, subst, _∙_}
+use Prim.Native.Nat.{ℕ, _≤_}
+use native.Mathlib.Omega.{arith}
+use mathlib.Core.Bool.{Bool, true, false, _||_, true≢false}
+use mathlib.Core.Option.{some}
+use mathlib.Core.List.{List, [], _∷_}
+use lib.Dec.{eqb, ltb}
+use lib.ListN.{length, take}
+use borrow.Author.Tests.{le-ltb}
+use Rattle.text.specs.Bytes.{pick}
+use Rattle.text.specs.Version.{Rule, xml11}
+use Rattle.text.specs.Call.{Called, called, guarded, laid, finish}
+use Rattle.text.specs.declared.Answer.{Answer}
+use Rattle.text.specs.declared.Answer.the-variants.{Done, Refused}
+use Rattle.output.proofs.Finish.{finish-laid}
+use Rattle.output.proofs.Laid.{laid-front}
+use Rattle.tokens.specs.Outcome.{Outcome, done, refused, finished}
+use Rattle.tokens.proofs.Related.{Keeps, Stays}
+use Rattle.attribute.specs.Walk.{normalize}
+use Rattle.attribute.specs.Strict.{readingBy}
+use Rattle.attribute.specs.Form.{formed}
+use Rattle.attribute.proofs.Strict.{strictOnly, strict-alike}
+use Rattle.govlezna.specs.Calls.{walkCheck, normalizeAttributeValueCall, canonicalFormCall, normalizeAttributeValueStrictCall, canonicalFormStrictCall}
+use Rattle.demands.specs.Demands.{Asked, ruleFor, Taken, formOf, AskedAgain}
+use Rattle.demands.specs.Characters.{decode}
+use Rattle.demands.specs.CallDemands.{normalizeOf, canonicalOf}
+use Rattle.demands.specs.StrictDemands.{strictlyNormalized, StrictlyAccepted, AllChar, restrictedFrom, Rereadable}
+use Rattle.demands.proofs.CallDemands.{taken-passes, normalize-answered}
+use Rattle.demands.proofs.StrictDemands.{strict-chars, strict-again, strict-again-refused}
+use Rattle.requests.specs.Strict.{strictNormalizeOf, strictCanonicalOf, AlikeBut, StrictCallRereads, StrictCallRefuses}
+
+-- ---- alike but for 25 and 26
+
+same-alike : (c d : Called) → d ≡ c → AlikeBut c d
+same-alike (called number words buffers) d e = λ other. e
+
+guarded-alike : (checks : Answer) (buffers : List (List ℕ)) (c d : Called) → AlikeBut c d → AlikeBut (guarded checks buffers c) (guarded checks buffers d)
+guarded-alike (Done first second) buffers c d h = h
+guarded-alike (Refused number first second) buffers c d h = λ other. refl
+
+kept-alike : (why : ℕ) {o p : Outcome} → Stays (strictOnly why) o p → strictOnly why ≡ false → p ≡ o
+kept-alike why {o} {p} h e = subst (λ (t : Bool). Stays t o p) e h
+
+finished-alike : (o p : Outcome) → Keeps strictOnly o p → (out : List ℕ) → AlikeBut (finished o out) (finished p out)
+unfolding finished
+finished-alike (done value m) p h out = same-alike (finished (done value m) out) (finished p out) (ap (λ (x : Outcome). finished x out) h)
+finished-alike (refused before m why first second) p h out = λ other. ap (λ (x : Outcome). finished x out) (kept-alike why h other)
+
+formed-alike : (r : Rule) (o p : Outcome) → Keeps strictOnly o p → (scratch out : List ℕ) → AlikeBut (formed r o scratch out) (formed r p scratch out)
+unfolding formed
+formed-alike r (done value m) p h scratch out = same-alike (formed r (done value m) scratch out) (formed r p scratch out) (ap (λ (x : Outcome). formed r x scratch out) h)
+formed-alike r (refused before m why first second) p h scratch out = λ other. ap (λ (x : Outcome). formed r x scratch out) (kept-alike why h other)
+
+keeps : (a : Asked) → Keeps strictOnly (strictlyNormalized a) (normalize (readingBy false (ruleFor a) (a .list) (a .pool) (a .limit)) (a .depth) (a .text))
+keeps a = strict-alike (ruleFor a) (a .list) (a .pool) (a .limit) (a .depth) (a .text)
+
+-- K8: "a strict attribute reading beside the present one, alike but for 25 and 26"
+pub k8-alike : (a : Asked) (out : List ℕ) → AlikeBut (strictNormalizeOf a out) (normalizeOf a out)
+unfolding normalizeAttributeValueCall normalizeAttributeValueStrictCall readingBy
+k8-alike a out =
+    let p = normalize (readingBy false (ruleFor a) (a .list) (a .pool) (a .limit)) (a .depth) (a .text) in
+    guarded-alike (walkCheck (a .text) (a .version) (a .depth) (a .limit) (a .list) (a .pool)) (out ∷ []) (finished (strictlyNormalized a) out) (finished p out)
+    (finished-alike (strictlyNormalized a) p (keeps a) out)
+
+pub k8-alike-form : (a : Asked) (scratch out : List ℕ) → AlikeBut (strictCanonicalOf a scratch out) (canonicalOf a scratch out)
+unfolding canonicalFormCall canonicalFormStrictCall readingBy
+k8-alike-form a scratch out =
+    let p = normalize (readingBy false (ruleFor a) (a .list) (a .pool) (a .limit)) (a .depth) (a .text) in
+    guarded-alike (walkCheck (a .text) (a .version) (a .depth) (a .limit) (a .list) (a .pool)) (scratch ∷ out ∷ []) (formed (ruleFor a) (strictlyNormalized a) scratch out)
+    (formed (ruleFor a) p scratch out) (formed-alike (ruleFor a) (strictlyNormalized a) p (keeps a) scratch out)
+
+-- ---- a strict call that answered 0
+
+-- then so did the lenient one, with the same words and buffers
+pub k8-lenient : (a : Asked) (out : List ℕ) {words : List ℕ} {buffers : List (List ℕ)} → strictNormalizeOf a out ≡ called 0 words buffers
+    → normalizeOf a out ≡ called 0 words buffers
+k8-lenient a out {words} {buffers} e = subst (λ (c : Called). AlikeBut c (normalizeOf a out)) e (k8-alike a out) refl
+
+-- and the value is strictly accepted
+pub record StrictlyGave (a : Asked) (size openings : ℕ) (left : List ℕ) : Type 0 where
+  pub accepted : StrictlyAccepted a (take size left) openings
+
+pub k8-answered : (a : Asked) (out : List ℕ) {size openings : ℕ} {left : List ℕ} → strictNormalizeOf a out ≡ called 0 (size ∷ openings ∷ []) (left ∷ [])
+    → StrictlyGave a size openings left
+unfolding normalizeAttributeValueStrictCall finished readingBy
+k8-answered a out {size} {openings} {left} e =
+    let x = normalize-answered a out (k8-lenient a out e) in
+    let holds = x .holds in
+    let n : size ≡ length (x .value) = let q = holds .words-are in cc in
+    let m : openings ≡ x .openings = let q = holds .words-are in cc in
+    let l : left ≡ laid (x .value) out = let q = holds .left-is in cc in
+    let is : take size left ≡ x .value = ap (λ (k : ℕ). take k left) n ∙ laid-front (x .value) out l in
+    let reads = go (x .value) (x .openings) (x .accepted .taken) (x .accepted .reads) (strictlyNormalized a) refl (keeps a) in
+    record { accepted = record { taken = x .accepted .taken; reads = reads ∙ ap (λ (v : List ℕ). done v (x .openings)) (sym is) ∙ ap (done (take size left)) (sym m) } }
+  where
+    go : (value : List ℕ) (k : ℕ) → Taken a → normalize (readingBy false (ruleFor a) (a .list) (a .pool) (a .limit)) (a .depth) (a .text) ≡ done value k
+        → (o : Outcome) → strictlyNormalized a ≡ o
+        → Keeps strictOnly o (normalize (readingBy false (ruleFor a) (a .list) (a .pool) (a .limit)) (a .depth) (a .text)) → strictlyNormalized a ≡ done value k
+    go value k taken p (done v i) q h = q ∙ sym h ∙ p
+    go value k taken p (refused before i why first second) q h =
+        let z : called why (first ∷ second ∷ []) (out ∷ []) ≡ called 0 (size ∷ openings ∷ []) (left ∷ []) =
+        sym (rw (taken-passes a taken, q)) ∙ e in
+        let w : why ≡ 0 = cc in
+        let same : done value k ≡ refused before i why first second = sym p ∙ kept-alike why h (rw w) in
+        let y : _≡_ {A = ℕ} 0 1 = cc in
+        absurd (omega (arith, y))
+
+-- K8: "characters must match Char": every one of a value that a strict call gave does
+pub k8-chars : (a : Asked) (out : List ℕ) {size openings : ℕ} {left : List ℕ} → strictNormalizeOf a out ≡ called 0 (size ∷ openings ∷ []) (left ∷ [])
+    → AllChar (ruleFor a) (decode (take size left))
+k8-chars a out {size} {openings} {left} e = strict-chars a (take size left) openings (k8-answered a out e .accepted)
+
+-- ---- read again
+
+module _ (a : Asked) (value : List ℕ) (openings : ℕ) (p : StrictlyAccepted a value openings) (b : Asked) (q : AskedAgain a value b) where
+  -- K8: "strict re-reading of their forms goes as in demand 3"
+  pub k8-again : Rereadable (ruleFor b) (b .text) → StrictCallRereads value b
+  unfolding normalizeAttributeValueStrictCall canonicalFormStrictCall finished formed
+  k8-again h =
+      let again = strict-again a value openings p b q h in
+      let taken = taken-passes b (again .accepted .taken) in
+      let reads = again .accepted .reads in
+      let form = again .itself in
+      record {
+        normalizes = λ out room. rw (taken, reads, le-ltb (length out) (length value) room);
+        writes = λ scratch out room space.
+            rw (taken, reads, le-ltb (length scratch) (length value) room, form, sym (finish-laid (b .text) 0 out refl space refl));
+      }
+
+  -- K8: "save that under 2 a form holding a raw RestrictedChar gets 26"
+  pub k8-again-26 : ruleFor b ≡ xml11 → (k : ℕ) → restrictedFrom 0 (b .text) ≡ some k → Taken b → StrictCallRefuses b k
+  unfolding normalizeAttributeValueStrictCall canonicalFormStrictCall finished formed
+  k8-again-26 e k h t =
+      let x = strict-again-refused a value openings p b q e k h in
+      let taken = taken-passes b t in
+      record { normalizes = λ out. rw (taken, x .refusal); writes = λ scratch out. rw (taken, x .refusal) }
