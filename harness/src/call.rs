@@ -15,6 +15,8 @@ pub struct Call {
     pub expected: Expected,
     /// The documents' own reading of the call, where there is one: it has to be what is expected.
     pub reading: Option<Expected>,
+    /// Wrong readings of what the Rust knows nothing of, with what that is: the documents' rows have to catch each.
+    pub misreadings: &'static [(&'static str, Misreadings)],
     /// Rows of document 01 that `expected` has to agree with.
     pub documented: &'static [Documented],
     /// The inputs that a reader would ask about first; the stored results are made of them too.
@@ -55,6 +57,7 @@ pub type Faults = &'static [(&'static str, Fault)];
 
 /// A wrong reading, made of the real one.
 pub type Misreading = fn(&Arguments, Expected) -> Answer;
+pub type Misreadings = &'static [(&'static str, Misreading)];
 
 impl Call {
     pub fn has(&self, parameter: Parameter) -> bool {

@@ -40,11 +40,13 @@ pub fn run(calls: &[&Call]) -> bool {
             let caught = is_caught(call, &itself(call.run), Some(&wrong), call.families);
             judge(&format!("reading: {name}"), caught);
         }
-        for &(name, misreading) in faults::marked::of(call) {
-            let wrong = |arguments: &Arguments| misreading(arguments, real);
-            let mut rows = call.documented.iter();
-            let caught = rows.any(|row| row.differs(wrong).is_some());
-            judge(&format!("reading of marked lists: {name}"), caught);
+        for (what, misreadings) in call.misreadings {
+            for &(name, misreading) in *misreadings {
+                let wrong = |arguments: &Arguments| misreading(arguments, real);
+                let mut rows = call.documented.iter();
+                let caught = rows.any(|row| row.differs(wrong).is_some());
+                judge(&format!("reading {what}: {name}"), caught);
+            }
         }
     }
     println!("self-test: {rows} rows of the documents, {tried} wrong libraries and readings, {missed} failures");

@@ -26,6 +26,8 @@ pub static CALLS: &[Call] = &[
     unescape::CALL,
     normalize_attribute_value::CALL,
     canonical_form::CALL,
+    normalize_attribute_value::STRICT,
+    canonical_form::STRICT,
 ];
 
 /// The calls of these names, or all where none is named; nothing if one is unknown.

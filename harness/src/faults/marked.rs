@@ -5,7 +5,7 @@ use super::parts::{table, text};
 use super::table::{refused, with_commands};
 use crate::answer::Answer;
 use crate::arguments::Arguments;
-use crate::call::{Call, Expected, Faults, Misreading, Parameter};
+use crate::call::{Expected, Faults, Misreadings};
 use crate::draft::Draft;
 use crate::lent::{Lent, Run};
 use crate::table::{Table, DEFINE, LONGEST_LIST, LONGEST_REPLACEMENT, MARK};
@@ -74,7 +74,8 @@ pub const UNESCAPE: Faults = &[
     ),
 ];
 
-const WALK_READINGS: &[(&str, Misreading)] = &[
+/// Wrong readings of marked lists.
+pub const WALK_READINGS: Misreadings = &[
     ("the mark passed over", reading::<Unseen>),
     ("CR LF joined", reading::<JoinedCrLf>),
     ("CR U+0085 joined under 1.1", reading::<JoinedCrNel>),
@@ -87,20 +88,10 @@ const WALK_READINGS: &[(&str, Misreading)] = &[
     ("`½` refused at depth 0", half_refused),
 ];
 
-const UNESCAPE_READINGS: &[(&str, Misreading)] = &[
+pub const UNESCAPE_READINGS: Misreadings = &[
     ("blanks spaces in unescaping", reading::<SpacedBlanks>),
     ("CR LF joined in unescaping", reading::<JoinedCrLf>),
 ];
-
-/// Wrong readings of marked lists, of a call whose text is read by the documents too. The Rust is not asked about these lists: the
-/// documents' rows have to catch each.
-pub fn of(call: &Call) -> &'static [(&'static str, Misreading)] {
-    match (call.reading, call.has(Parameter::Depth)) {
-        (None, _) => &[],
-        (_, true) => WALK_READINGS,
-        (_, false) => UNESCAPE_READINGS,
-    }
-}
 
 unsafe fn is_marked(lent: &Lent) -> bool {
     table(lent).is_marked()

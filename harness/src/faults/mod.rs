@@ -7,6 +7,7 @@ pub mod memory;
 pub mod output;
 pub mod parts;
 pub mod reading;
+pub mod strict;
 pub mod table;
 pub mod text;
 pub mod walk;

@@ -10,6 +10,8 @@ pub mod rooms;
 pub mod sequences;
 pub mod sizes;
 pub mod spoiled;
+pub mod strict;
+pub mod strict_rows;
 pub mod tables;
 pub mod text;
 pub mod woven;

@@ -3,7 +3,7 @@
 //! for them.
 
 use super::checks::{defined_by, settings_checked};
-use super::reading;
+use super::reading::{self, Rule};
 use super::result::Made;
 use super::text::checked;
 use crate::answer::{refusal, Answer};
@@ -43,7 +43,7 @@ pub fn normalized(arguments: &Arguments) -> Result<Made, Answer> {
     let text = checked(arguments.text)?;
     let definitions = defined_by(arguments.table)?;
     if !arguments.table.is_the_rusts(&definitions) {
-        return reading::normalized(arguments);
+        return reading::normalized(arguments, Rule::Lenient);
     }
     let (mut openings, mut used_up) = (0, false);
     let resolve = |name: &str| match look_up(&definitions, name) {
@@ -70,6 +70,14 @@ pub fn normalized(arguments: &Arguments) -> Result<Made, Answer> {
             Err(refusal(17, name.start as u64 - 1))
         }
         Err(error) => Err(walk_refusal(error)),
+    }
+}
+
+/// By the strict rule (K8), of which the Rust knows nothing: 25 and 26 are the reading's, and every other answer is the Rust's.
+pub fn strictly_normalized(arguments: &Arguments) -> Result<Made, Answer> {
+    match reading::normalized(arguments, Rule::Strict) {
+        Err(answer) if matches!(answer.number, 25 | 26) => Err(answer),
+        _ => normalized(arguments),
     }
 }
 

@@ -1,6 +1,6 @@
 //! The walks of document 01 with what document 02 adds, read by the comparison itself and from their text alone: neither the Rust nor
-//! the library's definitions have a part in it. It answers where the Rust cannot be asked, since it knows no external entities (K9) and
-//! no texts past line ends (K4); everywhere else the comparison asks both, and they have to agree.
+//! the library's definitions have a part in it. It answers where the Rust cannot be asked, since it knows no external entities (K9), no
+//! texts past line ends (K4) and no characters that are not allowed (K8); everywhere else the comparison asks both, and they have to agree.
 
 use super::checks::{defined_by, settings_checked};
 use super::result::Made;
@@ -28,10 +28,41 @@ enum LineEnds {
     Past,
 }
 
+/// Which characters may come.
+#[derive(Clone, Copy)]
+pub enum Rule {
+    /// All: document 01's.
+    Lenient,
+    /// Those of the version (K8).
+    Strict,
+}
+
+/// A set of characters, by section 2.2 of XML 1.0, fifth edition, or of XML 1.1.
+#[derive(Clone, Copy)]
+enum Characters {
+    All,
+    /// Char of XML 1.0.
+    Older,
+    /// Char of XML 1.1.
+    Newer,
+    /// Char of XML 1.1 without RestrictedChar.
+    Unrestricted,
+}
+
+/// How a text is read.
+#[derive(Clone, Copy)]
+struct Manner {
+    ends: LineEnds,
+    /// What may stand in it, but between `&` and `;`.
+    raw: Characters,
+}
+
 /// What stays the same in a walk, whichever text it is in.
 struct Settings<'a> {
-    /// Those of replacement texts.
-    inner: LineEnds,
+    /// That of replacement texts.
+    inner: Manner,
+    /// What a character reference may name.
+    named: Characters,
     limit: u64,
     definitions: &'a [Definition<'a>],
 }
@@ -43,19 +74,29 @@ struct Walk<'a> {
 }
 
 /// Attribute normalization.
-pub fn normalized(arguments: &Arguments) -> Result<Made, Answer> {
+pub fn normalized(arguments: &Arguments, rule: Rule) -> Result<Made, Answer> {
     settings_checked(arguments)?;
     let text = checked(arguments.text)?;
     let definitions = defined_by(arguments.table)?;
-    let outer = match arguments.choice {
-        2 => LineEnds::Newer,
-        _ => LineEnds::Older,
+    let is_newer = arguments.choice == 2;
+    let ends = match is_newer {
+        true => LineEnds::Newer,
+        false => LineEnds::Older,
+    };
+    let (raw, named) = match (rule, is_newer) {
+        (Rule::Lenient, _) => (Characters::All, Characters::All),
+        (Rule::Strict, false) => (Characters::Older, Characters::Older),
+        (Rule::Strict, true) => (Characters::Unrestricted, Characters::Newer),
     };
     let settings = Settings {
-        inner: match arguments.table.is_marked() {
-            true => LineEnds::Past,
-            false => outer,
+        inner: Manner {
+            ends: match arguments.table.is_marked() {
+                true => LineEnds::Past,
+                false => ends,
+            },
+            raw: named,
         },
+        named,
         limit: arguments.limit,
         definitions: &definitions,
     };
@@ -64,7 +105,7 @@ pub fn normalized(arguments: &Arguments) -> Result<Made, Answer> {
         value: vec![],
         openings: 0,
     };
-    walk.text(text, outer, arguments.depth)?;
+    walk.text(text, Manner { ends, raw }, arguments.depth)?;
     Ok(Made {
         bytes: walk.value,
         left_out: 0,
@@ -74,16 +115,19 @@ pub fn normalized(arguments: &Arguments) -> Result<Made, Answer> {
 
 impl Walk<'_> {
     /// The value's own text or one of the table.
-    fn text(&mut self, text: &str, ends: LineEnds, depth: u64) -> Result<(), Answer> {
+    fn text(&mut self, text: &str, manner: Manner, depth: u64) -> Result<(), Answer> {
         let mut at = 0;
-        while at < text.len() {
+        while let Some(character) = text[at..].chars().next() {
+            if !manner.raw.have(character) {
+                return Err(refusal(26, at as u64));
+            }
             let rest = &text.as_bytes()[at..];
-            at += match ends.has_stop(rest[0]) {
-                false => self.copied(rest[0]),
+            at += match manner.ends.has_stop(rest[0]) {
+                false => self.push(character),
                 true if depth == 0 => return Err(refusal(16, 0)),
                 true if rest[0] == b'&' => self.reference(text, at, depth)?,
-                true => match ends.blank(rest) {
-                    0 => self.copied(rest[0]),
+                true => match manner.ends.blank(rest) {
+                    0 => self.push(character),
                     length => {
                         self.value.push(b' ');
                         length
@@ -94,11 +138,6 @@ impl Walk<'_> {
         Ok(())
     }
 
-    fn copied(&mut self, byte: u8) -> usize {
-        self.value.push(byte);
-        1
-    }
-
     /// The reference at this offset: how many bytes it has.
     fn reference(&mut self, text: &str, at: usize, depth: u64) -> Result<usize, Answer> {
         let Some(length) = text[at..].find(';') else {
@@ -106,7 +145,11 @@ impl Walk<'_> {
         };
         let name = &text[at + 1..at + length];
         if let Some(number) = name.strip_prefix('#') {
-            self.push(character(number)?);
+            let character = character(number)?;
+            if !self.settings.named.have(character) {
+                return Err(refusal(25, 0));
+            }
+            self.push(character);
         } else if name == "amp" {
             self.value.push(b'&');
         } else {
@@ -127,11 +170,37 @@ impl Walk<'_> {
         Ok(length + 1)
     }
 
-    fn push(&mut self, character: char) {
+    /// How many bytes the character has.
+    fn push(&mut self, character: char) -> usize {
         let mut bytes = [0; 4];
-        let bytes = character.encode_utf8(&mut bytes).bytes();
-        self.value.extend(bytes);
+        let bytes = character.encode_utf8(&mut bytes).as_bytes();
+        self.value.extend_from_slice(bytes);
+        bytes.len()
     }
+}
+
+impl Characters {
+    fn have(self, character: char) -> bool {
+        let number = u32::from(character);
+        match self {
+            Characters::All => true,
+            Characters::Older => is_char_of_1_0(number),
+            Characters::Newer => is_char_of_1_1(number),
+            Characters::Unrestricted => is_char_of_1_1(number) && !is_restricted_char(number),
+        }
+    }
+}
+
+fn is_char_of_1_0(number: u32) -> bool {
+    matches!(number, 0x9 | 0xA | 0xD | 0x20..=0xD7FF | 0xE000..=0xFFFD | 0x10000..=0x10FFFF)
+}
+
+fn is_char_of_1_1(number: u32) -> bool {
+    matches!(number, 0x1..=0xD7FF | 0xE000..=0xFFFD | 0x10000..=0x10FFFF)
+}
+
+fn is_restricted_char(number: u32) -> bool {
+    matches!(number, 0x1..=0x8 | 0xB..=0xC | 0xE..=0x1F | 0x7F..=0x84 | 0x86..=0x9F)
 }
 
 impl LineEnds {

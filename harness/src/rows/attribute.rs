@@ -77,6 +77,57 @@ pub fn rust_normalize(
     Ok((value, openings))
 }
 
+/// And looks at each character of the text, of the table's texts and of the value, by the ranges of the version: all are allowed here.
+pub fn rust_normalize_strictly(
+    text: &'static str,
+    version: u8,
+    definitions: &[Definition<'static>],
+) -> Result<Made, EscapeError> {
+    let is_char: fn(char) -> bool = match version {
+        2 => |character| matches!(character, '\u{1}'..='\u{FFFD}' | '\u{10000}'..='\u{10FFFF}'),
+        _ => {
+            |character| matches!(character, '\t' | '\n' | '\r' | ' '..='\u{FFFD}' | '\u{10000}'..='\u{10FFFF}')
+        }
+    };
+    let is_restricted = |character| {
+        matches!(
+            character,
+            '\u{1}'..='\u{8}'
+                | '\u{B}'..='\u{C}'
+                | '\u{E}'..='\u{1F}'
+                | '\u{7F}'..='\u{84}'
+                | '\u{86}'..='\u{9F}'
+        )
+    };
+    let (value, openings) = rust_normalize(text, version, definitions)?;
+    let mut texts = definitions.iter().filter_map(|definition| definition.text);
+    assert!(texts.all(|text| text.chars().all(is_char)));
+    assert!(value.chars().all(is_char));
+    match version {
+        2 => assert!(text
+            .chars()
+            .all(|character| is_char(character) && !is_restricted(character))),
+        _ => assert!(text.chars().all(is_char)),
+    }
+    Ok((value, openings))
+}
+
+/// What the second call takes beside the first for each KiB of letters.
+pub fn difference(
+    what: &'static str,
+    version: u8,
+    (first, second): ((impl Ours, TableRule), (impl Ours, TableRule)),
+) -> timing::Difference {
+    let tables = Tables::new(Draft::of(&[]));
+    let text = letters_with(&[], 0, MEBIBYTE);
+    timing::Difference {
+        what,
+        times: MEBIBYTE / 1024,
+        without: table_row("", "plain", &text, version, tables, first),
+        with: table_row("", "plain", &text, version, tables, second),
+    }
+}
+
 pub fn short_values(
     rows: &mut Vec<Row>,
     call: &str,

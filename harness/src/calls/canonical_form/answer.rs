@@ -2,8 +2,9 @@
 
 use crate::answer::{refusal, Answer};
 use crate::arguments::{Arguments, LONGEST_OUTPUT, LONGEST_SCRATCH};
+use crate::oracle::entities;
+use crate::oracle::reading::{self, Rule};
 use crate::oracle::result::{finished, in_some_room, Made};
-use crate::oracle::{entities, reading};
 use crate::rust::escape;
 
 pub fn canonical_form(arguments: &Arguments) -> Answer {
@@ -13,7 +14,23 @@ pub fn canonical_form(arguments: &Arguments) -> Answer {
 pub fn reading(arguments: &Arguments) -> Answer {
     formed(
         arguments,
-        reading::normalized(arguments),
+        reading::normalized(arguments, Rule::Lenient),
+        reading::canonical,
+    )
+}
+
+pub fn strict_canonical_form(arguments: &Arguments) -> Answer {
+    formed(
+        arguments,
+        entities::strictly_normalized(arguments),
+        canonical,
+    )
+}
+
+pub fn strict_reading(arguments: &Arguments) -> Answer {
+    formed(
+        arguments,
+        reading::normalized(arguments, Rule::Strict),
         reading::canonical,
     )
 }

@@ -1,38 +1,71 @@
 //! Values for canonical forms, and what demand 3 says of any two of them.
 
-use super::answer::canonical_form;
+use super::answer::{canonical_form, strict_canonical_form};
 use crate::answer::Answer;
 use crate::arguments::{Arguments, Room, Sink, DEEPEST, MOST_OPENINGS, ROOMS};
 use crate::draft::Draft;
 use crate::inputs::attribute::Attribute;
 use crate::inputs::number::{written, Form};
 use crate::inputs::rooms::random_room;
+use crate::inputs::strict::Strict;
 use crate::inputs::tables::random_draft;
 use crate::inputs::text::{woven, Mix, MIXES};
 use crate::inputs::woven::Subject;
 use crate::random::Random;
 
-/// With room enough for value and form.
-fn in_room(arguments: Arguments) -> Answer {
-    canonical_form(&Arguments {
-        room: Room::Exact,
-        scratch: Room::Exact,
-        ..arguments
-    })
+/// Which of the two calls writes the forms.
+#[derive(Clone, Copy)]
+enum By {
+    Lenient,
+    Strict,
+}
+
+impl By {
+    /// With room enough for value and form.
+    fn in_room(self, arguments: Arguments) -> Answer {
+        let arguments = Arguments {
+            room: Room::Exact,
+            scratch: Room::Exact,
+            ..arguments
+        };
+        match self {
+            By::Lenient => canonical_form(&arguments),
+            By::Strict => strict_canonical_form(&arguments),
+        }
+    }
+
+    fn some_character(self, random: &mut Random, choice: u8) -> char {
+        let characters = match (self, choice) {
+            (By::Strict, 2) => "a\u{1}\u{1F}\u{7F}\u{80}\u{9F}<& \t\u{85}½",
+            _ => "ab<>&'\" ;#\t\r\n\u{85}\u{2028}½€é😀",
+        };
+        let index = random.below(characters.chars().count());
+        characters.chars().nth(index).unwrap()
+    }
 }
 
 /// Canonical forms as texts. Each has to read as the value that it was written from, without an
 /// opening, and to be its own canonical form, under any table that leaves the four names alone.
 /// Either table may be marked.
 pub fn reread(random: &mut Random, sink: &mut Sink) {
+    reread_by::<Attribute>(By::Lenient, random, sink);
+}
+
+/// By the strict rule (K8) too, but under 1.1 a form that holds a raw RestrictedChar gets 26 at the first.
+pub fn strict_reread(random: &mut Random, sink: &mut Sink) {
+    reread_by::<Attribute>(By::Strict, random, sink);
+    reread_by::<Strict>(By::Strict, random, sink);
+}
+
+fn reread_by<S: Subject>(by: By, random: &mut Random, sink: &mut Sink) {
     const ROUNDS: usize = 40_000;
     for _ in 0..ROUNDS {
         let (mix, gap) = (random.pick(&MIXES), 1 + random.below(10));
         let length = random.below(150);
-        let text = Attribute::text(random, mix, gap, length);
+        let text = S::text(random, mix, gap, length);
         let mut accepted = None;
-        Attribute::one(random, Arguments::text(&text), &mut |arguments| {
-            let answer = in_room(arguments);
+        S::one(random, Arguments::text(&text), &mut |arguments| {
+            let answer = by.in_room(arguments);
             accepted = (answer.number == 0).then_some((arguments.choice, answer));
         });
         let Some((choice, answer)) = accepted else {
@@ -47,11 +80,29 @@ pub fn reread(random: &mut Random, sink: &mut Sink) {
             room: random_room(random),
             ..Arguments::text(&answer.written)
         };
-        let again = in_room(arguments);
+        let again = by.in_room(arguments);
+        sink(arguments);
+        let restricted = match (by, choice) {
+            (By::Strict, 2) => first_restricted(&answer.written),
+            _ => None,
+        };
+        if let Some(at) = restricted {
+            assert_eq!(
+                (again.number, again.first),
+                (26, at),
+                "a raw RestrictedChar"
+            );
+            continue;
+        }
         assert_eq!((again.number, again.second), (0, 0), "a form is accepted");
         assert!(again.scratch == answer.scratch && again.written == answer.written);
-        sink(arguments);
     }
+}
+
+/// Where the form has its first RestrictedChar of XML 1.1: of control characters all but TAB, LF, CR and U+0085, which it has not.
+fn first_restricted(form: &[u8]) -> Option<u64> {
+    let form = std::str::from_utf8(form).expect("forms are UTF-8");
+    form.find(char::is_control).map(|at| at as u64)
 }
 
 fn draft_without_the_four(random: &mut Random) -> Draft {
@@ -68,33 +119,36 @@ fn draft_without_the_four(random: &mut Random) -> Draft {
 /// Values that are written in several ways, through marked tables and others, and nearly the same value: forms are
 /// equal just when the values are.
 pub fn spellings(random: &mut Random, sink: &mut Sink) {
+    spelled_by(By::Lenient, random, sink);
+}
+
+/// By the strict rule (K8) too.
+pub fn strict_spellings(random: &mut Random, sink: &mut Sink) {
+    spelled_by(By::Strict, random, sink);
+}
+
+fn spelled_by(by: By, random: &mut Random, sink: &mut Sink) {
     const ROUNDS: usize = 20_000;
     for _ in 0..ROUNDS {
         let choice = random.pick(&[0, 1, 2]);
         let length = 1 + random.below(12);
-        let value: Vec<char> = (0..length).map(|_| some_character(random)).collect();
+        let value: Vec<char> = (0..length)
+            .map(|_| by.some_character(random, choice))
+            .collect();
         let mut other = value.clone();
-        other[random.below(length)] = some_character(random);
-        let form = given(random, choice, &value, sink);
+        other[random.below(length)] = by.some_character(random, choice);
+        let form = given(random, by, choice, &value, sink);
         assert!(
-            form == given(random, choice, &value, sink),
+            form == given(random, by, choice, &value, sink),
             "one value, one form"
         );
         let is_same = value == other;
-        assert_eq!(form == given(random, choice, &other, sink), is_same);
+        assert_eq!(form == given(random, by, choice, &other, sink), is_same);
     }
 }
 
-fn some_character(random: &mut Random) -> char {
-    let characters = "ab<>&'\" ;#\t\r\n\u{85}\u{2028}½€é😀";
-    characters
-        .chars()
-        .nth(random.below(characters.chars().count()))
-        .unwrap()
-}
-
 /// The form of the value, which a text of random references gives; the text is tried too.
-fn given(random: &mut Random, choice: u8, value: &[char], sink: &mut Sink) -> Vec<u8> {
+fn given(random: &mut Random, by: By, choice: u8, value: &[char], sink: &mut Sink) -> Vec<u8> {
     let mut draft = Draft::default();
     let is_marked = random.below(2) == 0;
     let mut text = vec![];
@@ -110,26 +164,30 @@ fn given(random: &mut Random, choice: u8, value: &[char], sink: &mut Sink) -> Ve
         room: random_room(random),
         ..Arguments::text(&text)
     };
-    let answer = in_room(arguments);
+    let answer = by.in_room(arguments);
     let value: String = value.iter().collect();
     assert!(answer.number == 0 && answer.scratch == value.as_bytes());
     sink(arguments);
     answer.written
 }
 
-/// The character itself, its number, or the name of a new entity that stands for its number; in a marked table also of one whose text is
-/// the character, or for a space a blank.
+/// The character itself, its number, or the name of a new entity that stands for its number; in a marked table, or where it is a control
+/// character, also of one whose text is the character, or for a space a blank.
 fn spelled(random: &mut Random, draft: &mut Draft, is_marked: bool, character: char) -> Vec<u8> {
     let form = random.pick(&[Form::Decimal, Form::LowerHexadecimal]);
     let digits = written(u128::from(u32::from(character)), form, random.below(3));
     let number = [b"&#", &digits[..], b";"].concat();
     match random.below(4) {
-        0 if !"\t\r\n&\u{85}\u{2028}".contains(character) => character.to_string().into_bytes(),
+        0 if !character.is_control() && !"&\u{2028}".contains(character) => {
+            character.to_string().into_bytes()
+        }
         1 => {
             let name = format!("n{}", draft.list.len());
             let text = match character {
                 ' ' if is_marked => vec![random.pick(b"\t\n\r")],
                 '\u{85}' | '\u{2028}' | '½' if is_marked => character.to_string().into_bytes(),
+                '\t' | '\n' | '\r' | '\u{85}' => number,
+                _ if character.is_control() => character.to_string().into_bytes(),
                 _ => number,
             };
             draft.define(name.as_bytes(), &text);

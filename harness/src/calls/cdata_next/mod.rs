@@ -29,6 +29,7 @@ pub const CALL: Call = Call {
     run,
     expected: answer::cdata_next,
     reading: None,
+    misreadings: &[],
     documented: &[],
     seams: woven::seams::<Cdata>,
     families: &[&[

@@ -41,6 +41,7 @@ pub const CALL: Call = Call {
     run,
     expected: answer,
     reading: None,
+    misreadings: &[],
     documented: DOCUMENTED,
     seams: inputs::seams,
     families: &[&[

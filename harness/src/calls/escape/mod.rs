@@ -40,6 +40,7 @@ pub const CALL: Call = Call {
     run,
     expected: answer::escape,
     reading: None,
+    misreadings: &[],
     documented: &[
         row("a<b\t", 3, Made("a&lt;b&#9;", 0)),
         row(">'", 2, Made(">'", 0)),

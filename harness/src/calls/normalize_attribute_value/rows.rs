@@ -3,6 +3,7 @@
 use crate::counting;
 use crate::draft::Draft;
 use crate::rows::attribute::{self, long_values, rust, rust_normalize, short_values};
+use crate::rows::attribute::{difference, rust_normalize_strictly};
 use crate::rows::table::{ours, Ours, TableRule, Tables, NAMES};
 use crate::table::LONGEST_REPLACEMENT;
 use crate::timing::{self, aligned};
@@ -11,6 +12,11 @@ use std::hint::black_box;
 const CALLS: [&str; 2] = [
     "normalize_attribute_value, 1.0",
     "normalize_attribute_value, 1.1",
+];
+
+const STRICT_CALLS: [&str; 2] = [
+    "normalize_attribute_value_strict, 1.0",
+    "normalize_attribute_value_strict, 1.1",
 ];
 
 pub fn timed(run: impl Ours) -> Vec<timing::Row> {
@@ -29,6 +35,34 @@ pub fn counted(rows: &mut Vec<counting::Row>, run: impl Ours) {
             worst(rows, call, sides);
         }
     }
+}
+
+pub fn strictly_timed(run: impl Ours) -> Vec<timing::Row> {
+    attribute::timed(STRICT_CALLS, (run, rust_normalize_strictly))
+}
+
+pub fn strictly_counted(rows: &mut Vec<counting::Row>, run: impl Ours) {
+    let sides: (_, TableRule) = (run, rust_normalize_strictly);
+    for (call, version) in STRICT_CALLS.into_iter().zip([0, 2]) {
+        short_values(rows, call, version, 64, sides);
+        long_values(rows, call, version, sides);
+    }
+}
+
+/// The lenient call and the strict one on letters.
+pub fn differences(lenient: impl Ours, strict: impl Ours) -> Vec<timing::Difference> {
+    let sides = (
+        (lenient, rust_normalize as TableRule),
+        (strict, rust_normalize_strictly as TableRule),
+    );
+    vec![
+        difference(
+            "The strict rule beside the lenient one, for each KiB of letters under 1.0",
+            0,
+            sides,
+        ),
+        difference("The same under 1.1", 2, sides),
+    ]
 }
 
 /// One reference to a name of a long table. Here the Rust's side reads the table in the call, as ours checks it: what a lookup takes is

@@ -43,6 +43,7 @@ pub const CALL: Call = Call {
     run,
     expected: answer,
     reading: None,
+    misreadings: &[],
     documented: &[
         row("\r\r\n", 0, Made("\n\n", 0)),
         row("\r\u{85}", 2, Made("\n", 0)),

@@ -54,6 +54,7 @@ pub const SPACES: Call = Call {
     run: run_spaces,
     expected: |given| part(given.text, utils::trim_xml_spaces, given.text.len()),
     reading: None,
+    misreadings: &[],
     documented: &[],
     seams: woven::seams::<Trim>,
     families: &[

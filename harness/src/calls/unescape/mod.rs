@@ -46,6 +46,7 @@ pub const CALL: Call = Call {
     run,
     expected: answer::unescape,
     reading: Some(answer::reading),
+    misreadings: &[("of marked lists", marked_faults::UNESCAPE_READINGS)],
     documented: DOCUMENTED,
     seams: woven::seams::<Unescape>,
     families: &[&[
