@@ -117,13 +117,12 @@ impl<const FROM: char, const TO: char, const UNDER: u8> Mistake for Texts<FROM, 
             return;
         }
         let start = |bytes: &[u8]| bytes.as_ptr() as usize - table.pool.as_ptr() as usize;
-        for command in table.commands().unwrap_or_default() {
-            match table.text(command) {
-                Some(text) if command[0] == DEFINE && !text.is_empty() => {
-                    let at = start(text);
-                    replace_raw(&mut taken.pool[at..at + text.len()], FROM, TO);
-                }
-                _ => {}
+        let commands = table.commands().unwrap_or_default().into_iter();
+        let defining = commands.filter(|command| command[0] == DEFINE);
+        for text in defining.filter_map(|command| table.text(command)) {
+            if !text.is_empty() {
+                let at = start(text);
+                replace_raw(&mut taken.pool[at..at + text.len()], FROM, TO);
             }
         }
     }

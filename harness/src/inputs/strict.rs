@@ -1,9 +1,9 @@
 //! Characters that a version does not allow (K8): raw and by their numbers, in values and in texts of tables.
 
-use super::attribute::Attribute;
 use super::number::{written, Form};
 use super::rooms::random_room;
 use super::sequences::every_sequence;
+use super::strict_rows::ROWS;
 use super::text::{woven, Mix};
 use super::woven::{self, Subject};
 use crate::arguments::{Arguments, Family, Room, Sink, DEEPEST, MOST_OPENINGS, ROOMS};
@@ -15,9 +15,7 @@ pub struct Strict;
 
 /// What every strict call is tried on beside the inputs of the lenient one.
 pub const FAMILIES: &[Family] = &[
-    woven::seams::<Attribute>,
     every_edge_in_runs,
-    every_character_in_texts,
     every_small_table,
     woven::every_short_text::<Strict>,
     woven::every_character::<Strict>,
@@ -119,8 +117,9 @@ impl Subject for Strict {
     const MOST_PIECES: usize = 3;
     const BYTES: &'static [u8] = b"\x00\x01\x1F\x7F&;\t\r\xC2\x80\x85\xEF\xBF\xBE";
 
-    /// Each of the edges, raw and by its number, in a value and in a text.
+    /// The documents' rows, and each of the edges, raw and by its number, in a value and in a text.
     fn seams(_: &mut Random, sink: &mut Sink) {
+        ROWS.iter().for_each(|row| row.give(sink));
         for character in EDGES {
             let raw = format!("a{character}");
             let number = format!("a&#{};", u32::from(character));

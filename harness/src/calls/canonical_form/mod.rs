@@ -5,7 +5,6 @@ mod faults;
 pub mod inputs;
 mod rows;
 
-use crate::arguments::Family;
 use crate::call::Call;
 use crate::call::Parameter::{Choice, Depth, Limit, Output, Scratch, Table, Text};
 use crate::documented::{marked, row, with, within, Outcome::Answered, Outcome::Made};
@@ -113,8 +112,17 @@ pub const CALL: Call = Call {
     seams: inputs::seams,
     families: &[
         attribute::FAMILIES,
-        OWN,
-        &[inputs::reread, inputs::spellings],
+        &[
+            inputs::long_values,
+            entities::damaged_tables,
+            inputs::reread,
+            inputs::spellings,
+            woven::long::<Attribute>,
+            woven::every_character::<Attribute>,
+            woven::every_short_text::<Attribute>,
+            woven::every_length_and_address::<Attribute>,
+            woven::damaged::<Attribute>,
+        ],
         strict::LENIENT,
     ],
     random: woven::random::<Attribute>,
@@ -150,10 +158,15 @@ pub const STRICT: Call = Call {
     documented: strict_rows::ROWS,
     seams: woven::seams::<Strict>,
     families: &[
-        strict::FAMILIES,
+        &[woven::seams::<Attribute>],
         attribute::FAMILIES,
-        OWN,
-        &[inputs::strict_reread, inputs::strict_spellings],
+        strict::FAMILIES,
+        &[
+            inputs::long_values,
+            entities::damaged_tables,
+            inputs::strict_reread,
+            inputs::strict_spellings,
+        ],
     ],
     random: woven::random::<Strict>,
     stored: "",
@@ -172,17 +185,6 @@ pub const STRICT: Call = Call {
     counted: |all| rows::strictly_counted(all, |lent| unsafe { run_strict(lent) }),
     ..CALL
 };
-
-/// What both calls are tried on.
-const OWN: &[Family] = &[
-    inputs::long_values,
-    entities::damaged_tables,
-    woven::long::<Attribute>,
-    woven::every_character::<Attribute>,
-    woven::every_short_text::<Attribute>,
-    woven::every_length_and_address::<Attribute>,
-    woven::damaged::<Attribute>,
-];
 
 unsafe fn strictly(lent: &Lent, _: Run) -> u32 {
     run_strict(lent)

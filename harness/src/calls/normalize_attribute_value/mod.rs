@@ -101,7 +101,13 @@ pub const STRICT: Call = Call {
     misreadings: &[("by the strict rule", strict_faults::READINGS)],
     documented: strict_rows::ROWS,
     seams: woven::seams::<Strict>,
-    families: &[strict::FAMILIES, attribute::FAMILIES, OWN, &[strict_reread]],
+    families: &[
+        &[woven::seams::<Attribute>],
+        attribute::FAMILIES,
+        strict::FAMILIES,
+        OWN,
+        &[strict::every_character_in_texts, strict_reread],
+    ],
     random: woven::random::<Strict>,
     stored: "",
     faults: &[
