@@ -31,7 +31,7 @@ struct arguments {
     const char *text, *file, *list, *pool;
     struct entity *entities;
     size_t entity_count;
-    int marked;
+    int marked, strict;
     uint8_t level, version;
     uint64_t depth, limit;
     enum side side;
@@ -59,6 +59,7 @@ struct place {
     struct span entity;    /* the name that it is the text of; no bytes: the text given */
     size_t start, end;
     size_t opened;         /* where in the text given the reference stands that leads there */
+    uint64_t character;    /* the character that is not allowed, of refusals 25 and 26 */
 };
 
 /* help.c */
@@ -92,6 +93,8 @@ struct place find_place(const struct request *request, const struct outcome *out
 const char *words_of(uint32_t number);
 
 /* report.c */
+/* Is it refused for a character that the XML version does not allow? */
+int is_forbidden(uint32_t number);
 size_t line_of(struct span text, size_t offset);
 void report_refusal(const struct request *request, const struct outcome *outcome);
 

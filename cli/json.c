@@ -87,6 +87,8 @@ void json_refusal(const struct request *q, const struct outcome *o)
         put_number("start", place.start);
         put_number("end", place.end);
         put_number("line", line_of(place.text, place.start));
+        if (is_forbidden(o->number))
+            printf(",\"character\":\"U+%04" PRIX64 "\"", place.character);
     }
     puts("}");
 }

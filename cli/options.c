@@ -10,7 +10,9 @@ static const char *const commands[] = { "escape", "unescape", "normalize", "cano
 
 #define COMMANDS (sizeof commands / sizeof commands[0])
 
-enum option { LEVEL, VERSION, DEPTH, LIMIT, ENTITY, EXTERNAL, MARKED, TABLE, AT_START, AT_END, FROM_FILE, JSON, OPTIONS };
+enum option {
+    LEVEL, VERSION, DEPTH, LIMIT, STRICT, ENTITY, EXTERNAL, MARKED, TABLE, AT_START, AT_END, FROM_FILE, JSON, OPTIONS
+};
 
 #define ON(command) (1u << (command))
 #define ALL 0xFFu
@@ -25,6 +27,7 @@ static const struct {
     { "--version", 1, ON(NORMALIZE) | ON(CANONICAL) | ON(EOLS) },
     { "--depth", 1, ON(NORMALIZE) | ON(CANONICAL) },
     { "--limit", 1, ON(NORMALIZE) | ON(CANONICAL) },
+    { "--strict", 0, ON(NORMALIZE) | ON(CANONICAL) },
     { "--entity", 1, ON(UNESCAPE) | ON(NORMALIZE) | ON(CANONICAL) | ON(CHECK) },
     { "--external", 1, ON(UNESCAPE) | ON(NORMALIZE) | ON(CANONICAL) | ON(CHECK) },
     { "--marked", 0, ON(UNESCAPE) | ON(NORMALIZE) | ON(CANONICAL) | ON(CHECK) },
@@ -121,6 +124,7 @@ static void set_option(struct arguments *a, enum option option, char **values)
     case VERSION: a->version = read_version(name, values[0]); break;
     case DEPTH: a->depth = read_number(name, values[0], UINT64_MAX); break;
     case LIMIT: a->limit = read_number(name, values[0], UINT64_MAX); break;
+    case STRICT: a->strict = 1; break;
     case ENTITY: set_entity(a, values[0]); break;
     case EXTERNAL: add_entity(a, name, values[0], strlen(values[0]), NULL); break;
     case MARKED: a->marked = 1; break;

@@ -4,6 +4,7 @@
  */
 #include "cli.h"
 
+#include <stdlib.h>
 #include <string.h>
 
 struct range {
@@ -14,7 +15,10 @@ struct range {
 struct walk {
     const struct request *request;
     struct span text;
+    const uint8_t *asked; /* what the library is asked about in the place of the text */
+    uint8_t *copy;        /* the same, where it is owned */
     uint64_t depth, limit;
+    int strict;
 };
 
 static int attribute(const struct walk *w)
@@ -22,17 +26,50 @@ static int attribute(const struct walk *w)
     return w->request->arguments->command != UNESCAPE;
 }
 
-/* Is the first part of the text, of this length, refused? A result without room is none. */
-static int refused(const struct walk *w, size_t length, uint64_t limit)
+/* How many bytes the RestrictedChar of XML 1.1 here has; 0: it is none. */
+static size_t restricted(struct span text, size_t at)
+{
+    uint8_t byte = text.bytes[at];
+    if (byte < 0x20)
+        return byte != 0 && byte != '\t' && byte != '\n' && byte != '\r';
+    if (byte == 0xC2 && at + 1 < text.length && text.bytes[at + 1] < 0xA0 && text.bytes[at + 1] != 0x85)
+        return 2;
+    return byte == 0x7F;
+}
+
+/*
+ * An entity's text as the library can be asked about it by itself, by the strict rule of XML 1.1: a RestrictedChar may stand in such a
+ * text, but not in one that is given, and so letters take its place. What is between & and ; stays.
+ */
+static uint8_t *as_given(struct span text)
+{
+    uint8_t *bytes = allocate(text.length);
+    int inside = 0;
+    memcpy(bytes, text.bytes, text.length);
+    for (size_t at = 0; at < text.length; at++) {
+        if (!inside)
+            memset(bytes + at, 'a', restricted(text, at));
+        inside = inside ? bytes[at] != ';' : bytes[at] == '&';
+    }
+    return bytes;
+}
+
+/* The library's answer on the first part of the text, of this length, without room for a result. */
+static uint32_t ask(const struct walk *w, size_t length, uint64_t limit, uint64_t answer[2])
 {
     const struct request *q = w->request;
+    if (!attribute(w))
+        return govlezna_unescape(w->asked, length, q->list, q->list_length, q->pool, q->pool_length, NULL, 0, answer);
+    return (w->strict ? govlezna_normalize_attribute_value_strict : govlezna_normalize_attribute_value)(
+        w->asked, length, q->arguments->version, w->depth, limit, q->list, q->list_length, q->pool, q->pool_length, NULL, 0,
+        answer);
+}
+
+/* Is it refused? A result without room is no refusal. */
+static int refused(const struct walk *w, size_t length, uint64_t limit)
+{
     uint64_t answer[2];
-    uint32_t number;
-    if (attribute(w))
-        number = govlezna_normalize_attribute_value(w->text.bytes, length, q->arguments->version, w->depth, limit, q->list,
-                                                    q->list_length, q->pool, q->pool_length, NULL, 0, answer);
-    else
-        number = govlezna_unescape(w->text.bytes, length, q->list, q->list_length, q->pool, q->pool_length, NULL, 0, answer);
+    uint32_t number = ask(w, length, limit, answer);
     return number != 0 && number != GOVLEZNA_NO_ROOM;
 }
 
@@ -157,14 +194,61 @@ static void mark(struct place *place, uint32_t number, struct range reference)
         place->start++, place->end--;
 }
 
-/* Goes into the texts of entities, down to the one where the walk ended. */
-static struct place find_in_walk(const struct request *q, uint32_t number)
+/* The number and the length of the character here, in UTF-8 that was checked. */
+static uint64_t decode(struct span text, size_t at, size_t *length)
 {
-    struct walk w = { q, { q->text, q->text_length }, q->arguments->depth, q->arguments->limit };
+    uint8_t byte = text.bytes[at];
+    uint64_t character = byte;
+    *length = byte < 0x80 ? 1 : byte < 0xE0 ? 2 : byte < 0xF0 ? 3 : 4;
+    if (*length > 1)
+        character &= 0x7Fu >> *length;
+    for (size_t i = 1; i < *length; i++)
+        character = character << 6 | (text.bytes[at + i] & 0x3F);
+    return character;
+}
+
+/* Is it the character at this offset of the text that may not stand there? Then the text before it is accepted. */
+static int stands_here(const struct walk *w, size_t at, struct place *place)
+{
+    uint64_t answer[2];
+    size_t length;
+    if (at >= w->text.length || (w->text.bytes[at] & 0xC0) == 0x80)
+        return 0;
+    place->character = decode(w->text, at, &length);
+    if (refused(w, at, w->limit) || ask(w, at + length, w->limit, answer) != GOVLEZNA_FORBIDDEN_CHARACTER)
+        return 0;
+    place->start = at;
+    place->end = at + length;
+    return 1;
+}
+
+/* The character that a reference names, as &#1; does. */
+static uint64_t named(const struct walk *w, struct range reference)
+{
+    uint64_t answer[2];
+    govlezna_parse_number(w->text.bytes + reference.start + 2, reference.end - reference.start - 3, answer);
+    return answer[0];
+}
+
+static void enter(struct walk *w, struct span text)
+{
+    free(w->copy);
+    w->copy = w->strict && w->request->arguments->version == 2 ? as_given(text) : NULL;
+    w->asked = w->copy != NULL ? w->copy : text.bytes;
+    w->text = text;
+}
+
+/* Goes into the texts of entities, down to the one where the walk ended. */
+static struct place find_in_walk(const struct request *q, const struct outcome *o)
+{
+    struct walk w = { q, { q->text, q->text_length }, q->text, NULL, q->arguments->depth, q->arguments->limit,
+                      is_forbidden(o->number) };
     struct place place = { .known = 1 };
     struct span name, text;
     for (int nested = 0;; nested = 1) {
         struct range found;
+        if (o->number == GOVLEZNA_FORBIDDEN_CHARACTER && stands_here(&w, o->answer[0], &place))
+            break;
         if (attribute(&w) && w.depth == 0) {
             place.start = first_stop(w.text, has_newer_line_ends(q, nested));
             place.end = place.start + 1;
@@ -173,19 +257,22 @@ static struct place find_in_walk(const struct request *q, uint32_t number)
         found = refused_reference(&w);
         if (!nested)
             place.opened = found.start;
-        if (number == GOVLEZNA_TOO_MANY_OPENINGS)
+        if (o->number == GOVLEZNA_TOO_MANY_OPENINGS)
             w.limit -= openings(&w, found.start);
-        if (!opens(&w, found, &name, &text) || (number == GOVLEZNA_TOO_MANY_OPENINGS && w.limit == 0)) {
-            mark(&place, number, found);
+        if (!opens(&w, found, &name, &text) || (o->number == GOVLEZNA_TOO_MANY_OPENINGS && w.limit == 0)) {
+            mark(&place, o->number, found);
+            if (o->number == GOVLEZNA_FORBIDDEN_REFERENCE)
+                place.character = named(&w, found);
             break;
         }
-        if (number == GOVLEZNA_TOO_MANY_OPENINGS)
+        if (o->number == GOVLEZNA_TOO_MANY_OPENINGS)
             w.limit--;
         w.depth--;
-        w.text = text;
+        enter(&w, text);
         place.entity = name;
     }
     place.text = w.text;
+    free(w.copy);
     return place;
 }
 
@@ -198,7 +285,7 @@ struct place find_place(const struct request *q, const struct outcome *o)
                                .start = o->answer[0],
                                .end = o->answer[0] + 1 };
     if ((o->number >= GOVLEZNA_UNTERMINATED_ENTITY && o->number <= GOVLEZNA_TOO_MANY_OPENINGS) ||
-        o->number == GOVLEZNA_EXTERNAL_ENTITY)
-        return find_in_walk(q, o->number);
+        o->number == GOVLEZNA_EXTERNAL_ENTITY || is_forbidden(o->number))
+        return find_in_walk(q, o);
     return none;
 }

@@ -40,6 +40,8 @@ static int control(const uint8_t *bytes, size_t length)
         return bytes[0] < 0x20 || bytes[0] == 0x7F;
     if (length == 2)
         return bytes[0] == 0xC2 && bytes[1] < 0xA0;
+    if (length == 3 && bytes[0] == 0xEF && bytes[1] == 0xBF)
+        return bytes[2] >= 0xBE; /* U+FFFE and U+FFFF */
     return length == 3 && bytes[0] == 0xE2 && bytes[1] == 0x80 && (bytes[2] == 0xA8 || bytes[2] == 0xA9);
 }
 
@@ -133,6 +135,11 @@ static void show_command(const struct request *q, const struct outcome *o)
     fprintf(stderr, ": %s number %zu", command[0] == 1 ? "--entity" : "--external", number[command[0]] + 1);
 }
 
+int is_forbidden(uint32_t number)
+{
+    return number == GOVLEZNA_FORBIDDEN_REFERENCE || number == GOVLEZNA_FORBIDDEN_CHARACTER;
+}
+
 void report_refusal(const struct request *q, const struct outcome *o)
 {
     struct place place = find_place(q, o);
@@ -141,6 +148,8 @@ void report_refusal(const struct request *q, const struct outcome *o)
         show_command(q, o);
     if (o->number == GOVLEZNA_INVALID_CODEPOINT)
         fprintf(stderr, ", %" PRIu64, o->answer[0]);
+    if (is_forbidden(o->number))
+        fprintf(stderr, ", U+%04" PRIX64, place.character);
     if (place.known)
         show_place(q, &place);
     else

@@ -26,6 +26,8 @@ static const struct {
     { GOVLEZNA_NO_SCRATCH, "the scratch is shorter than the value" },
     { GOVLEZNA_NO_ROOM, "the output is shorter than the result" },
     { GOVLEZNA_CURSOR_OUTSIDE, "the cursor is past the text's end or inside a character" },
+    { GOVLEZNA_FORBIDDEN_REFERENCE, "a reference to a character that this version of XML does not allow" },
+    { GOVLEZNA_FORBIDDEN_CHARACTER, "a character that may not stand here in this version of XML" },
     { GOVLEZNA_EXTERNAL_ENTITY, "the entity is external: it has no text here, and may not stand in an attribute value" },
     { GOVLEZNA_NO_MORE, "there is no further piece" },
 };

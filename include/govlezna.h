@@ -5,7 +5,7 @@
  * the refusal. Both words of `answer` are written by every call: on success what the call says below, on a refusal its
  * first and second; a word that nothing is said of is 0. On success the first bytes of an output are the result and the
  * rest keep their bytes. A refusal writes nothing but the answer words; the one exception is GOVLEZNA_NO_ROOM of
- * govlezna_canonical_form, whose scratch then holds the value.
+ * govlezna_canonical_form and govlezna_canonical_form_strict, whose scratch then holds the value.
  *
  * To learn how long a result is, call with an output of length 0: GOVLEZNA_NO_ROOM gives the length needed, and success
  * means that the result is empty.
@@ -60,6 +60,8 @@ extern "C" {
 #define GOVLEZNA_NO_SCRATCH 18          /* scratch shorter than the value: first is the length needed */
 #define GOVLEZNA_NO_ROOM 19             /* output shorter than the result: first is the length needed */
 #define GOVLEZNA_CURSOR_OUTSIDE 20      /* cursor past the end or inside a character: first is its offset */
+#define GOVLEZNA_FORBIDDEN_REFERENCE 25 /* strict calls: a reference names a character that the version does not allow */
+#define GOVLEZNA_FORBIDDEN_CHARACTER 26 /* strict calls: a character that may not stand there: first is its offset */
 #define GOVLEZNA_EXTERNAL_ENTITY 27     /* the name of an external entity: first is the offset of & */
 
 /* No refusal: there is no further piece. */
@@ -221,6 +223,48 @@ uint32_t govlezna_canonical_form(const uint8_t *text, size_t text_length, uint8_
                                  uint64_t limit, const uint8_t *list, size_t list_length, const uint8_t *pool,
                                  size_t pool_length, uint8_t *scratch, size_t scratch_length, uint8_t *out,
                                  size_t out_length, uint64_t answer[2]);
+
+/*
+ * The attribute value normalized as by govlezna_normalize_attribute_value, where every character is one that the XML
+ * version allows (section 2.2 of XML 1.0 and of XML 1.1). Versions 0 and 1: TAB, LF, CR and all from U+0020 on but U+FFFE
+ * and U+FFFF. Version 2: all from U+0001 on but these two; of them U+0001 to U+001F without TAB, LF and CR, and U+007F to
+ * U+009F without U+0085, may be named by a reference and stand in a text of the table, but not in `text` itself. What
+ * stands between & and ; is held to no rule, nor is a text of the table that is not opened.
+ *
+ * `depth`, `limit`: as there. `list`, `pool`: the table; for none the list { 0 } of length 1, and NULL with length 0.
+ * Success: as there, with the same result.
+ * Refusals, in this order: those of govlezna_normalize_attribute_value, where the walk has two more:
+ * FORBIDDEN_REFERENCE (a reference that none of UNEXPECTED_SIGN, INVALID_NUMBER, ILLEGAL_CHARACTER and INVALID_CODEPOINT
+ * refuses names a character that is not allowed) and FORBIDDEN_CHARACTER (a character may not stand where it does;
+ * answer[0]: its offset in the text that is being read), which comes before TOO_DEEP at that character. None writes to
+ * `out`.
+ * Time: as there; each text that is walked is also looked through for such characters.
+ * Example: version 2, depth 1, limit 0, no table: `a&#1;` gives `a` and U+0001. These two characters are refused by
+ * FORBIDDEN_CHARACTER, first 1; and `a&#1;` in version 0 by FORBIDDEN_REFERENCE.
+ */
+uint32_t govlezna_normalize_attribute_value_strict(const uint8_t *text, size_t text_length, uint8_t version,
+                                                   uint64_t depth, uint64_t limit, const uint8_t *list,
+                                                   size_t list_length, const uint8_t *pool, size_t pool_length,
+                                                   uint8_t *out, size_t out_length, uint64_t answer[2]);
+
+/*
+ * The canonical form of an attribute value that govlezna_normalize_attribute_value_strict accepts, as
+ * govlezna_canonical_form writes it. Two such values of one XML version have equal forms exactly when their normalized
+ * values are equal. A form is read again by the strict calls as by the lenient ones; but in version 2 a form that holds
+ * one of the characters that only a reference or a table may bring is refused by FORBIDDEN_CHARACTER.
+ *
+ * `list`, `pool`: the table; for none the list { 0 } of length 1, and NULL with length 0.
+ * Success: as govlezna_canonical_form.
+ * Refusals, in this order: those of govlezna_normalize_attribute_value_strict without its last; NO_SCRATCH; NO_ROOM, as
+ * in govlezna_canonical_form.
+ * Time: as govlezna_normalize_attribute_value_strict, and then as govlezna_escape over the value.
+ * Example: version 2, depth 1, limit 0, no table: `<&#1;` gives `&lt;` and U+0001, which itself is refused by
+ * FORBIDDEN_CHARACTER, first 4.
+ */
+uint32_t govlezna_canonical_form_strict(const uint8_t *text, size_t text_length, uint8_t version, uint64_t depth,
+                                        uint64_t limit, const uint8_t *list, size_t list_length, const uint8_t *pool,
+                                        size_t pool_length, uint8_t *scratch, size_t scratch_length, uint8_t *out,
+                                        size_t out_length, uint64_t answer[2]);
 
 /*
  * The part of the text without white space (space, TAB, CR, LF) at its start, at its end, at both.
