@@ -52,7 +52,7 @@ refuses() {
 # The place in the last answer in JSON is the library's, where the refusal has one.
 place_is_the_librarys() { # NUMBER
     case $1 in
-    5 | 10 | 17 | 27) grep -qE '"first":([0-9]+),.*"start":\1,' "$room/out" ;;
+    5 | 10 | 17 | 26 | 27) grep -qE '"first":([0-9]+),.*"start":\1,' "$room/out" ;;
     11) grep -qE '"first":([0-9]+),"second":([0-9]+),.*"start":\1,"end":\2,' "$room/out" ;;
     esac
 }
@@ -100,6 +100,14 @@ results() {
     gives 'a b  ' normalize $'a\r\nb&e;' --marked --entity $'e=\r\n'
     gives '  ' normalize '&a;' --marked --entity 'a=&e;' --entity $'e=\r\n'
     gives '&#133;  ' canonical '&e;' --marked --entity $'e=\xC2\x85\r\n' --version 1.1
+    gives $'a\x01 ' normalize $'a&#1;\t' --strict --version 1.1
+    gives $'\x7F' normalize $'\x7F' --strict
+    gives $'\x7F\x01' normalize '&e;' --strict --version 1.1 --entity $'e=\x7F\x01'
+    gives $'\xC2\x80' normalize '&e;' --strict --version 1.1 --entity $'e=\xC2\x80' --marked --depth 1
+    gives x normalize $'&\x01;' --strict --entity $'\x01=x'
+    gives '  ' normalize $'\xC2\x85\xE2\x80\xA8' --strict --version 1.1
+    gives $'\x01' normalize $'\x01'
+    gives $'&lt;\x01' canonical '<&#1;' --strict --version 1.1
     gives $'\r\n\t' unescape '&e;' --marked --entity $'e=\r\n\t'
     gives $'a\nb\nc' eols $'a\r\nb\rc'
     gives $'\n' eols $'\r\xC2\x85' --version 2
@@ -127,6 +135,13 @@ json() {
     gives '{"command":"check","number":0,"length":0,"definitions":0}'$'\n' check --json ''
     gives '{"command":"check","number":0,"length":0,"definitions":1}'$'\n' check --json --marked --entity e=x ''
     gives '{"command":"normalize","number":0,"length":2,"openings":1,"result":"  "}'$'\n' normalize --json '&e;' --marked --entity $'e=\r\n'
+    gives '{"command":"normalize","number":0,"length":1,"openings":0,"result":"\u0001"}'$'\n' normalize --json '&#1;' --strict --version 1.1
+    run canonical --json 'x &e;' --strict --version 1.1 --entity $'e=\x01\r\n\xEF\xBF\xBE'
+    [ "$status" -eq 1 ] && [ "$(cat "$room/out")" = '{"command":"canonical","number":26,"words":"a character that may not stand here in this version of XML","first":3,"second":0,"entity":"e","opened":2,"start":3,"end":6,"line":2,"character":"U+FFFE"}' ]
+    expect $? canonical --json strict
+    run normalize --json 'x&#xFFFE;' --strict
+    [ "$status" -eq 1 ] && [ "$(cat "$room/out")" = '{"command":"normalize","number":25,"words":"a reference to a character that this version of XML does not allow","first":0,"second":0,"start":1,"end":9,"line":1,"character":"U+FFFE"}' ]
+    expect $? normalize --json strict
     run normalize --json 'x &e;' --entity $'e=\r\n\r&b;'
     [ "$status" -eq 1 ] && [ "$(cat "$room/out")" = '{"command":"normalize","number":11,"words":"unknown entity","first":4,"second":5,"entity":"e","opened":2,"start":4,"end":5,"line":3}' ]
     expect $? normalize --json nested
@@ -177,6 +192,36 @@ refusals() {
     refuses 27 ': bytes 0 to 3 of the text' normalize '&lt;' --external lt
     refuses 27 ': bytes 1 to 3 of the text of the entity a' normalize 'q &a;' --entity 'a=x&e;' --external e
     refuses 16 ': byte 0 of the text' normalize '&e;' --external e --depth 0
+    strict_refusals
+}
+
+strict_refusals() {
+    local before
+    refuses 26 ', U+0001: byte 0 of the text' normalize $'\x01\t' --strict --depth 0
+    refuses 16 ': byte 0 of the text' normalize $'\t\x01' --strict --depth 0
+    refuses 26 ', U+0080: bytes 1 to 2 of the text' normalize $'\r\xC2\x80' --strict --version 1.1
+    refuses 26 ', U+FFFF: bytes 2 to 4 of the text' canonical $'é\xEF\xBF\xBFa' --strict
+    refuses 11 ': byte 1 of the text' normalize $'&\x01;' --strict
+    refuses 10 ': byte 0 of the text' normalize $'&\x01' --strict
+    refuses 25 ', U+0001: bytes 1 to 4 of the text' normalize 'a&#1;' --strict
+    refuses 25 ', U+FFFF: bytes 0 to 7 of the text' normalize '&#65535;' --strict --version 1.1
+    refuses 15 ': bytes 0 to 3 of the text' normalize '&#0;' --strict
+    refuses 16 ': byte 0 of the text of the entity e' normalize '&e;' --strict --version 1.1 --entity $'e=\xC2\x80' --depth 1
+    for before in '' '&lt;' '&lt;&a;' '&a;&gt;&a;' '&a;&a;&amp;&a;'; do
+        refuses 26 ", U+0001: byte $((${#before} + 1)) of the text" normalize "$before"$'x\x01&a;\x01&#1;' --strict --entity a=b
+        refuses 25 ", U+0008: bytes ${#before} to $((${#before} + 3)) of the text" normalize "$before"$'&#8;&a;\x01' --strict --entity a=b
+        refuses 26 ', U+000B: byte 2 of the text of the entity e' normalize "$before"$'&e;\x01' --strict --entity a=b --entity $'e=é\x0B'
+        refuses 26 ', U+FFFE: bytes 3 to 5 of the text of the entity f' normalize "$before"'x&e;&f;' --strict --version 1.1 \
+            --entity $'a=\x01' --entity $'e=\x7F&f;\xEF\xBF\xBE' --entity $'f=\x01\xC2\x80\xEF\xBF\xBE'
+        refuses 25 ', U+FFFE: bytes 4 to 11 of the text of the entity f' canonical "$before"'x&e;&f;' --strict --version 1.1 \
+            --entity $'a=\x01' --entity $'e=\x7F&\x01;&f;\xEF\xBF\xBE' --entity $'f=\x01\xC2\x80a&#xFFFE;' --entity $'\x01=\x02'
+    done
+    shows 'govlezna: refusal 26: a character that may not stand here in this version of XML, U+0007: byte 5 of the text of the entity sail, line 1
+    Fock ? top
+         ^
+govlezna: opened from byte 6 of the text, line 1
+    Panel &sail;
+          ^' normalize 'Panel &sail;' --strict --entity $'sail=Fock \x07 top'
 }
 
 # The line and the carets: below entities, on a later line, in a long line, under characters of several bytes.
@@ -237,6 +282,12 @@ files() {
     refuses 7 ': byte 1 of the list' normalize a --table "$room/cut" "$room/pool"
     printf '\1\0\0\0\0\1\1\0\0\0\4\0\3\0' >"$room/cut"
     refuses 7 ': byte 12 of the list' canonical a --table "$room/cut" "$room/pool"
+    printf 'a\0b' >"$room/zero"
+    gives '{"command":"normalize","number":0,"length":3,"openings":0,"result":"a\u0000b"}'$'\n' normalize --json --file "$room/zero"
+    refuses 26 ', U+0000: byte 1 of the text' normalize --file "$room/zero" --strict
+    printf '\1\0\0\0\0\1\1\0\0\0\4\0\0' >"$room/list"
+    printf 'eab\0c' >"$room/pool"
+    refuses 26 ', U+0000: byte 2 of the text of the entity e' normalize 'x&e;' --table "$room/list" "$room/pool" --strict --version 1.1
     misused "$room/none: No such file" escape --file "$room/none"
     misused "$room/none: No such file" unescape a --table "$room/list" "$room/none"
     misused "$room: Is a directory" escape --file "$room"
@@ -333,6 +384,9 @@ usage() {
     misused 'not an option of this command' eols a --marked
     misused 'given twice' check a --marked --marked
     misused 'takes no value' check a --marked=1
+    misused 'not an option of this command' unescape a --strict
+    misused 'given twice' normalize a --strict --strict
+    misused 'takes no value' canonical a --strict=1
     misused 'at most 65,535 bytes' unescape a --entity "b=$(head -c 65536 /dev/zero | tr '\0' a)"
     misused 'two files' unescape a --table b
     misused '--table is given too' unescape a --entity b=c --table d e

@@ -70,6 +70,30 @@ static void marked_lists(void)
     expect_bytes(__LINE__, out, "\r\n");
 }
 
+static uint32_t strictly(const char *text, uint8_t version)
+{
+    return govlezna_normalize_attribute_value_strict(bytes(text), strlen(text), version, 1, 0, empty, 1, NULL, 0, out,
+                                                     sizeof out, answer);
+}
+
+static uint32_t strict_form(const char *text)
+{
+    return govlezna_canonical_form_strict(bytes(text), strlen(text), 2, 1, 0, empty, 1, NULL, 0, scratch, sizeof scratch, out,
+                                          sizeof out, answer);
+}
+
+static void strict_calls(void)
+{
+    expect(__LINE__, strictly("a&#1;", 2), 0, 2, 0);
+    expect_bytes(__LINE__, out, "a\1");
+    expect(__LINE__, strictly("a\1", 2), GOVLEZNA_FORBIDDEN_CHARACTER, 1, 0);
+    expect(__LINE__, strictly("a&#1;", 0), GOVLEZNA_FORBIDDEN_REFERENCE, 0, 0);
+    expect(__LINE__, strict_form("<&#1;"), 0, 5, 0);
+    expect_bytes(__LINE__, out, "&lt;\1");
+    expect_bytes(__LINE__, scratch, "<\1");
+    expect(__LINE__, strict_form("&lt;\1"), GOVLEZNA_FORBIDDEN_CHARACTER, 4, 0);
+}
+
 static void examples(void)
 {
     const char *text = "&e;\t&#9;";
@@ -85,6 +109,7 @@ static void examples(void)
     expect(__LINE__, govlezna_check_table(external, sizeof external, pool, sizeof pool, answer), 0, 1, 0);
     expect(__LINE__, normalize(2, 10, external, sizeof external), GOVLEZNA_EXTERNAL_ENTITY, 0, 0);
     marked_lists();
+    strict_calls();
     expect(__LINE__,
            govlezna_canonical_form(bytes(text), strlen(text), 0, 2, 10, list, sizeof list, pool, sizeof pool, scratch,
                                    sizeof scratch, out, sizeof out, answer),

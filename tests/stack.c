@@ -81,6 +81,20 @@ static uint32_t canonical(const struct job *job, uint64_t answer[2])
                                    job->chain.pool, job->chain.pool_length, scratch, ROOM, out, ROOM, answer);
 }
 
+static uint32_t normalize_strictly(const struct job *job, uint64_t answer[2])
+{
+    return govlezna_normalize_attribute_value_strict(text, sizeof text, job->version, DEPTH, 1000000, job->chain.list,
+                                                     sizeof job->chain.list, job->chain.pool, job->chain.pool_length, out,
+                                                     ROOM, answer);
+}
+
+static uint32_t canonical_strictly(const struct job *job, uint64_t answer[2])
+{
+    return govlezna_canonical_form_strict(text, sizeof text, job->version, DEPTH, 1000000, job->chain.list,
+                                          sizeof job->chain.list, job->chain.pool, job->chain.pool_length, scratch, ROOM, out,
+                                          ROOM, answer);
+}
+
 static void *run(void *given)
 {
     struct job *job = given;
@@ -122,6 +136,9 @@ static size_t measure(struct job job, const char *last, uint32_t expected)
 
 int main(void)
 {
+    static uint32_t (*const calls[])(const struct job *, uint64_t *) = { normalize, canonical, normalize_strictly,
+                                                                         canonical_strictly };
+    enum { CALLS = sizeof calls / sizeof calls[0] };
     const struct {
         const char *last;
         uint8_t version;
@@ -130,9 +147,9 @@ int main(void)
                   { "\t", 0, GOVLEZNA_TOO_DEEP }, { "&a0;", 2, GOVLEZNA_TOO_DEEP },
                   { "\xC2\xBD", 0, 0 }, { "\xC2\xBD", 2, GOVLEZNA_TOO_DEEP } };
     size_t most = 0, least = SIZE_MAX;
-    for (size_t i = 0; i < 2 * (sizeof walks / sizeof walks[0]); i++) {
-        struct job job = { .call = i % 2 ? canonical : normalize, .version = walks[i / 2].version };
-        size_t bytes = measure(job, walks[i / 2].last, walks[i / 2].expected);
+    for (size_t i = 0; i < CALLS * (sizeof walks / sizeof walks[0]); i++) {
+        struct job job = { .call = calls[i % CALLS], .version = walks[i / CALLS].version };
+        size_t bytes = measure(job, walks[i / CALLS].last, walks[i / CALLS].expected);
         most = bytes > most ? bytes : most;
         least = bytes < least ? bytes : least;
     }
