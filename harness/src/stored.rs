@@ -12,8 +12,9 @@ use std::io::{Result, Write};
 const HEADER: &str = "\
 # What the Rust answers: std::str::from_utf8, and escape.rs and utils.rs of quick-xml 0.42.0, by
 # the numbers of document 01. The library has no part in it. The table's format, which the Rust has
-# not, is read as documents 01 and 02 say, and lists with external entities and marked lists, which
-# the Rust knows nothing of, by the harness's own reading of the walks. Made in harness/ by
+# not, is read as documents 01 and 02 say, and lists with external entities, marked lists, and
+# characters that a strict call refuses, which the Rust knows nothing of, by the harness's own
+# reading of the walks. Made in harness/ by
 #   cargo run --release --offline -- stored ../crates/replay/stdin
 # Bytes are in hexadecimal, with - for none; ROOM is the output's length, OUTPUT the result alone.
 ";

@@ -77,39 +77,42 @@ pub fn rust_normalize(
     Ok((value, openings))
 }
 
-/// And looks at each character of the text, of the table's texts and of the value, by the ranges of the version: all are allowed here.
+/// And looks at each character of the text, of the table's texts and of the value: all are allowed here.
 pub fn rust_normalize_strictly(
     text: &'static str,
     version: u8,
     definitions: &[Definition<'static>],
 ) -> Result<Made, EscapeError> {
-    let is_char: fn(char) -> bool = match version {
-        2 => |character| matches!(character, '\u{1}'..='\u{FFFD}' | '\u{10000}'..='\u{10FFFF}'),
-        _ => {
-            |character| matches!(character, '\t' | '\n' | '\r' | ' '..='\u{FFFD}' | '\u{10000}'..='\u{10FFFF}')
-        }
-    };
-    let is_restricted = |character| {
-        matches!(
-            character,
-            '\u{1}'..='\u{8}'
-                | '\u{B}'..='\u{C}'
-                | '\u{E}'..='\u{1F}'
-                | '\u{7F}'..='\u{84}'
-                | '\u{86}'..='\u{9F}'
-        )
-    };
     let (value, openings) = rust_normalize(text, version, definitions)?;
     let mut texts = definitions.iter().filter_map(|definition| definition.text);
-    assert!(texts.all(|text| text.chars().all(is_char)));
-    assert!(value.chars().all(is_char));
-    match version {
-        2 => assert!(text
-            .chars()
-            .all(|character| is_char(character) && !is_restricted(character))),
-        _ => assert!(text.chars().all(is_char)),
-    }
+    let are_allowed = match version {
+        2 => {
+            text.chars()
+                .all(|one| is_char_of_1_1(one) && !is_restricted(one))
+                && texts.all(|text| text.chars().all(is_char_of_1_1))
+                && value.chars().all(is_char_of_1_1)
+        }
+        _ => {
+            text.chars().all(is_char_of_1_0)
+                && texts.all(|text| text.chars().all(is_char_of_1_0))
+                && value.chars().all(is_char_of_1_0)
+        }
+    };
+    assert!(black_box(are_allowed));
     Ok((value, openings))
+}
+
+fn is_char_of_1_0(character: char) -> bool {
+    matches!(character, '\t' | '\n' | '\r' | ' '..='\u{FFFD}' | '\u{10000}'..)
+}
+
+fn is_char_of_1_1(character: char) -> bool {
+    matches!(character, '\u{1}'..='\u{FFFD}' | '\u{10000}'..)
+}
+
+/// RestrictedChar of XML 1.1.
+fn is_restricted(character: char) -> bool {
+    character.is_control() && !matches!(character, '\0' | '\t' | '\n' | '\r' | '\u{85}')
 }
 
 /// What the second call takes beside the first for each KiB of letters.
