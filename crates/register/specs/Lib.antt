@@ -1,0 +1,3 @@
+pub mod Entries
+pub mod Stored
+pub mod RegisterCalls
