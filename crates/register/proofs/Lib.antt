@@ -1,1 +1,3 @@
 pub mod StoredLaws
+pub mod Counts
+pub mod Sits

@@ -1,3 +1,4 @@
 pub mod Entries
 pub mod Stored
 pub mod RegisterCalls
+pub mod CallLists
