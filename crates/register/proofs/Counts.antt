@@ -11,21 +11,9 @@ use Rattle.text.specs.Bytes.{pick, sameBytes}
 use Rattle.text.specs.Utf8.{wellFormed}
 use Rattle.text.proofs.Bytes.{pick-both, pick-by, same-equal, equal-same, and-left, and-right, contrary}
 use Rattle.register.specs.Entries.{Entry, entry, cost, countIn, recount, good, absent, distinct}
-use Rattle.register.proofs.StoredLaws.{Narrow}
+use Rattle.register.specs.Places.{Narrow, Absent, Distinct, Good}
 
 -- ---- the tests of entries as types
-
-abbrev pub Absent : List ℕ → List Entry → Type 0
-Absent f [] = Unit {0}
-Absent f (e ∷ es) = (sameBytes (e .form) f ≡ false) × Absent f es
-
-abbrev pub Distinct : List Entry → Type 0
-Distinct [] = Unit {0}
-Distinct (e ∷ es) = Absent (e .form) es × Distinct es
-
-abbrev pub Good : List Entry → Type 0
-Good [] = Unit {0}
-Good (e ∷ es) = (e .count ≡ 0 → ⊥) × (wellFormed (e .form) ≡ true) × Good es
 
 pub absent-true : (f : List ℕ) (es : List Entry) → absent f es ≡ true → Absent f es
 unfolding absent

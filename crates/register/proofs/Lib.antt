@@ -1,3 +1,7 @@
 pub mod StoredLaws
 pub mod Counts
 pub mod Sits
+pub mod Replays
+pub mod Comparing
+pub mod Boundaries
+pub mod Checking

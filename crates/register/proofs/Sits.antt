@@ -13,8 +13,9 @@ use Rattle.text.specs.Call.{laid}
 use Rattle.text.proofs.Bytes.{and-left, and-right}
 use Rattle.register.specs.Entries.{Entry, cost, good, distinct}
 use Rattle.register.specs.Stored.{Held, holds, damaged, bytesOf, entries, sound, register, written}
-use Rattle.register.proofs.StoredLaws.{Narrow, Small, Reads, not-held, bytes-cost, entries-of-bytes, bytes-of-entries}
-use Rattle.register.proofs.Counts.{Good, Distinct, good-true, true-good, distinct-true, true-distinct}
+use Rattle.register.proofs.StoredLaws.{bytes-cost, entries-of-bytes}
+use Rattle.register.specs.Places.{Narrow, Good, Distinct}
+use Rattle.register.proofs.Counts.{true-good, true-distinct}
 
 -- entries that a register may have
 pub record Sound (es : List Entry) : Type 0 where

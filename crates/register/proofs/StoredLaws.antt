@@ -12,15 +12,7 @@ use borrow.Author.Tests.{le-ltb, lt-ltb, leb-true, leb-false}
 use Rattle.text.specs.Bytes.{pick}
 use Rattle.register.specs.Entries.{Entry, entry, cost}
 use Rattle.register.specs.Stored.{u32At, u32, entryBytes, bytesOf, Held, holds, damaged, also, entryAt, entriesFrom, entries}
-
--- lengths and counts that fit their 32 bits
-abbrev pub Narrow : List Entry → Type 0
-Narrow [] = Unit {0}
-Narrow (e ∷ es) = (length (e .form) < 0x100000000) × (e .count < 0x100000000) × Narrow es
-
--- each number of a list is a byte
-abbrev pub Small : List ℕ → Type 0
-Small l = (k : ℕ) → getD l k 0 < 0x100
+use Rattle.register.specs.Places.{Narrow, Small}
 
 pub not-held : {X : Type 0} {es : List Entry} → damaged ≡ holds es → X
 not-held q = let z : _≡_ {A = ℕ} 0 1 = cc in absurd (omega (arith, z))

@@ -1,13 +1,13 @@
 -- Lists of calls on one register, nothing else writing (document 02, K10). Assumes nothing.
 use Prim.Native.Nat.{ℕ, _+_, _-_, _≤_}
 use mathlib.Core.Path.{_≡_}
-use mathlib.Core.Bool.{Bool, false, _&&_}
+use mathlib.Core.Bool.{Bool, true, false, _&&_}
 use mathlib.Core.List.{List, [], _∷_}
 use lib.Dec.{eqb}
 use lib.ListN.{length, getD}
 use Rattle.text.specs.Bytes.{pick, sameBytes}
 use Rattle.text.specs.Call.{Called, called}
-use Rattle.register.specs.Entries.{Entry, cost, countIn}
+use Rattle.register.specs.Entries.{Entry, cost, countIn, absent}
 use Rattle.register.specs.Stored.{holds, register}
 use Rattle.register.specs.RegisterCalls.{addCall, withdrawCall, countCall}
 
@@ -67,12 +67,14 @@ None number [] s = Unit {0}
 None number (c ∷ cs) s = (numberOf (answered c s) ≡ number → ⊥) × None number cs (leftBy (answered c s) s)
 
 -- K10: after every list of calls from an empty register there is a register. Each count is the accepted adds minus the accepted
--- withdrawals of that form, the used length is the sum of the costs, no call answered 28, and the buffer is as long as it was
+-- withdrawals of that form, a form whose count is zero has no entry, the used length is the sum of the costs, no call answered 28, and
+-- the buffer is as long as it was
 pub record Replayed (buffer : List ℕ) (cs : List Asked) : Type 0 where
   pub present : List Entry
   pub is : register (afterCalls cs (empty buffer) .buffer) (afterCalls cs (empty buffer) .used) ≡ holds present
   pub counted : (g : List ℕ) → countIn g present ≡ acceptedOf (isAdd g) cs (empty buffer) - acceptedOf (isWithdrawal g) cs (empty buffer)
   pub fewer : (g : List ℕ) → acceptedOf (isWithdrawal g) cs (empty buffer) ≤ acceptedOf (isAdd g) cs (empty buffer)
+  pub gone : (g : List ℕ) → countIn g present ≡ 0 → absent g present ≡ true
   pub costs : afterCalls cs (empty buffer) .used ≡ cost present
   pub none28 : None 28 cs (empty buffer)
   pub size : length (afterCalls cs (empty buffer) .buffer) ≡ length buffer

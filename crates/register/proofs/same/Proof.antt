@@ -1,0 +1,23 @@
+-- `same`: other lengths are other forms; else the bytes decide.
+use borrow.Author.Needs.{needs}
+use Rattle.register.proofs.Comparing.{differ-length}
+use Rattle.register.proofs.same.Statement.{statement}
+use Rattle.register.proofs.same.Tie as tie
+
+returns : tie.Need-returns
+returns c = let a = c .before .before .before .args in differ-length (a .a .now) (a .b .now) (c .if1 .taken)
+
+same-short-requires : tie.Need-same-short-requires
+same-short-requires c κs = search needs
+
+returns-2 : tie.Need-returns-2
+returns-2 c = search needs
+
+same-long-requires : tie.Need-same-long-requires
+same-long-requires c κs = search needs
+
+returns-3 : tie.Need-returns-3
+returns-3 c = search needs
+
+pub same-spec : {M : Type 1} → statement M
+same-spec = tie.close (tie.spec returns same-short-requires returns-2 same-long-requires returns-3)
