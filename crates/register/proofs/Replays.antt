@@ -19,10 +19,10 @@ use Rattle.register.specs.Entries.{Entry, entry, cost, countIn, recount,
 use Rattle.register.specs.Stored.{Held, holds, damaged, bytesOf, register, written}
 use Rattle.register.specs.RegisterCalls.{lent, leaves, ofHeld, addCall, withdrawCall, counted, countCall}
 use Rattle.register.specs.CallLists.{Asked, adds, withdraws, counts, Store, empty, answered, leftBy, numberOf, afterCalls, acceptedOf, isAdd, isWithdrawal, None, Replayed}
-use Rattle.register.specs.Places.{Narrow, Absent}
+use Rattle.register.specs.Places.{Narrow, Absent, Sound, Sits}
 use Rattle.register.proofs.StoredLaws.{narrow-join, cost-join}
 use Rattle.register.proofs.Counts.{zero-absent, true-absent, recount-same, recount-other, recount-good, recount-distinct, recount-narrow, recount-cost, end-same, end-other, end-good, end-distinct}
-use Rattle.register.proofs.Sits.{Sound, Sits, sits-cost, sits-register, written-length, written-sits}
+use Rattle.register.proofs.Sits.{sits-cost, sits-register, written-length, written-sits}
 
 -- ---- the checks of the form
 

@@ -39,6 +39,18 @@ abbrev pub Good : List Entry → Type 0
 Good [] = Unit {0}
 Good (e ∷ es) = (e .count ≡ 0 → ⊥) × (wellFormed (e .form) ≡ true) × Good es
 
+-- entries that a register may have
+pub record Sound (es : List Entry) : Type 0 where
+  pub narrow : Narrow es
+  pub good : Good es
+  pub distinct : Distinct es
+
+-- a register that sits in a buffer: its bytes are those of sound entries
+pub record Sits (buffer : List ℕ) (used : ℕ) (es : List Entry) : Type 0 where
+  pub within : used ≤ length buffer
+  pub is : take used buffer ≡ bytesOf es
+  pub sound : Sound es
+
 -- ---- bytes that hold entries
 
 abbrev pub listed : Held → List Entry

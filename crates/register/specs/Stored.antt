@@ -57,10 +57,15 @@ unfolding good distinct
 sound (holds es) = good es && distinct es
 sound damaged = false
 
--- K10: the register in a buffer, by its used length; damaged, which is refusal 28, also where that passes the buffer
-unfoldable pub register : List ℕ → ℕ → Held
+-- K10: is there a register in the first `used` bytes of the buffer? Not where the used length passes it
+unfoldable pub intact : List ℕ → ℕ → Bool
 unfolding sound entries
-register buffer used = pick (leb used (length buffer) && sound (entries (take used buffer))) (entries (take used buffer)) damaged
+intact buffer used = leb used (length buffer) && sound (entries (take used buffer))
+
+-- K10: the register in a buffer, by its used length; a damaged one is refusal 28
+unfoldable pub register : List ℕ → ℕ → Held
+unfolding intact entries
+register buffer used = pick (intact buffer used) (entries (take used buffer)) damaged
 
 -- K10: the buffer with other entries: the bytes freed are zero, those past the used length otherwise stay
 unfoldable pub written : ℕ → List Entry → List ℕ → List ℕ
