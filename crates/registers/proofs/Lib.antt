@@ -1,0 +1,4 @@
+pub mod Changing
+pub mod Answering
+pub mod Writing
+pub mod Leaves
