@@ -5,3 +5,4 @@ pub mod Replays
 pub mod Comparing
 pub mod Boundaries
 pub mod Checking
+mod Examples

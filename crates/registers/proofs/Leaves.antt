@@ -51,14 +51,14 @@ module _ (buffer : List ℕ) (used : ℕ) (es : List Entry) (h : Sits buffer use
       ap (λ (r : Answer). leaving r used buffer) e
       ∙ sym (ap (leaves buffer used) (add-no-room (length buffer) form es (absent-zero form es a) (omega (arith, sits-cost buffer used es h))))
 
-  pub append-leaves : (form : List ℕ) {r : Answer} {part : List ℕ} → r ≡ Done 1 (used + 8 + length form) → Absent form es → used + 8 + length form ≤ length buffer
+  pub append-leaves : (form : List ℕ) {r : Answer} {second : ℕ} {part : List ℕ} → r ≡ Done 1 second → second ≡ used + 8 + length form → Absent form es → used + 8 + length form ≤ length buffer
       → part ≡ laid (entryBytes (entry form 1)) (midOf used (length buffer - used) buffer)
       → leaving r used (putMid used (length buffer - used) buffer part) ≡ leaves buffer used (add (length buffer) form es)
-  append-leaves form {r} {part} e a k p =
+  append-leaves form {r} {second} {part} e n a k p =
       let room : cost es + (8 + length form) ≤ length buffer = omega (arith, sits-cost buffer used es h) in
       let new = es ++ (entry form 1 ∷ []) in
-      let c : used + 8 + length form ≡ cost new
-          = omega (arith, sits-cost buffer used es h, cost-join es (entry form 1 ∷ []), one-cost (entry form 1)) in
+      let c : second ≡ cost new
+          = omega (arith, n, sits-cost buffer used es h, cost-join es (entry form 1 ∷ []), one-cost (entry form 1)) in
       ap (λ (r : Answer). leaving r used (putMid used (length buffer - used) buffer part)) e
       ∙ leaving-changed buffer used 1 new c
       (rest-put used buffer part

@@ -53,12 +53,13 @@ laid-whole : (value old : List ℕ) → length value ≡ length old → laid val
 laid-whole value old e =
     ap (λ (l : List ℕ). value ++ l) (drop-of-length-le old {i = length value} (omega (arith, e))) ∙ append-nil value
 
-pub zero-next : (old : List ℕ) {out : List ℕ} {i : ℕ} → Laying (replicate (length old) 0) old out i → i < length old
-    → Laying (replicate (length old) 0) old (set out i 0) (i + 1)
-zero-next old {out} {i} l h =
+-- a byte more; that it is zero is asked by itself
+pub zero-next : (old : List ℕ) {out : List ℕ} {i b : ℕ} → Laying (replicate (length old) 0) old out i → i < length old → b ≡ 0
+    → Laying (replicate (length old) 0) old (set out i b) (i + 1)
+zero-next old {out} {i} {b} l h z =
     let zeros : List ℕ = replicate (length old) 0 in
     let n : length zeros ≡ length old = length-replicate (length old) 0 in
-    subst (λ (b : ℕ). Laying zeros old (set out i b) (i + 1)) (getD-replicate (length old) i 0 0 h)
+    subst (λ (b : ℕ). Laying zeros old (set out i b) (i + 1)) (getD-replicate (length old) i 0 0 h ∙ sym z)
     (laying-next zeros old l (omega (arith, n)) (omega (arith, n)))
 
 pub zero-all : (old : List ℕ) {out : List ℕ} {i : ℕ} → Laying (replicate (length old) 0) old out i → length old ≤ i → out ≡ replicate (length old) 0

@@ -82,7 +82,7 @@ returns-4 c =
     record {
       whole = whole f;
       ends = d .before .before .end-at .ensures;
-      counts = λ z. d .before .before .before .if3 .left (d .before .before .before .before .u32-at2 .ensures .0 ∙ z);
+      counts = λ z. omega (arith, d .before .before .before .if3 .left, d .before .before .before .before .u32-at2 .ensures .0, z);
       utf8 = sym (checked d) ∙ c .if4 .taken;
     }
 

