@@ -12,7 +12,7 @@ use Rattle.text.proofs.Bytes.{same-equal}
 use Rattle.register.specs.Entries.{Entry, entry, cost}
 use Rattle.register.specs.Stored.{u32At, entryBytes, bytesOf, holds, entries}
 use Rattle.register.specs.Places.{Narrow, Absent, Small, listed, entriesIn, Filled, Whole, Stands}
-use Rattle.register.proofs.StoredLaws.{Reads, bytes-join, bytes-cost, cost-join, narrow-front, narrow-rest, u32-after, entry-size, entry-count, entry-form, entry-length, entries-of-bytes, bytes-of-entries}
+use Rattle.register.proofs.StoredLaws.{bytes-join, bytes-cost, cost-join, narrow-front, narrow-rest, u32-after, entry-size, entry-count, entry-form, entry-length, entries-of-bytes, bytes-of-entries}
 
 -- bytes of entries are filled, and bytes that hold entries
 pub filled-bytes : (bytes : List ℕ) (es : List Entry) → bytes ≡ bytesOf es → Narrow es → (entriesIn bytes ≡ es) × Filled bytes
@@ -79,7 +79,7 @@ module _ {bytes : List ℕ} (f : Filled bytes) {at : ℕ} (b : Boundary (entries
       let p : (k : ℕ) → at + k ≡ length front + k = λ k. ap (λ (x : ℕ). x + k) here in
       let z : at ≡ length front + 0 = omega (arith, here) in
       let whole : length bytes ≡ length front + (length (entryBytes e) + length more)
-          = ap length all ∙ length-append front (entryBytes e ++ more) ∙ ap (λ (k : ℕ). length front + k) (length-append (entryBytes e) more) in
+      = ap length all ∙ length-append front (entryBytes e ++ more) ∙ ap (λ (k : ℕ). length front + k) (length-append (entryBytes e) more) in
       record {
         one = e;
         after = es;

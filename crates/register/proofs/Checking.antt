@@ -19,7 +19,7 @@ use Rattle.register.proofs.Boundaries.{filled-held}
 u32-drop : (n : ℕ) (l : List ℕ) (i : ℕ) → u32At (drop n l) i ≡ u32At l (n + i)
 u32-drop n l i =
     let at : (k : ℕ) → getD (drop n l) (i + k) 0 ≡ getD l (n + i + k) 0
-        = λ k. getD-drop n l (i + k) 0 ∙ ap (λ (x : ℕ). getD l x 0) (omega arith) in
+    = λ k. getD-drop n l (i + k) 0 ∙ ap (λ (x : ℕ). getD l x 0) (omega arith) in
     rw (getD-drop n l i 0, at 1, at 2, at 3)
 
 u32-here : (n : ℕ) (l : List ℕ) → u32At (drop n l) 0 ≡ u32At l n
@@ -38,7 +38,7 @@ step-at bytes at w =
     let fits : 8 + u32At l 0 ≤ length l = omega (arith, w .fits, size, length-drop at bytes) in
     let to : at + (8 + u32At l 0) ≡ at + 8 + u32At bytes at = omega (arith, size) in
     let tail : drop (8 + u32At l 0) l ≡ drop (at + 8 + u32At bytes at) bytes
-        = drop-drop (8 + u32At l 0) at bytes ∙ ap (λ (n : ℕ). drop n bytes) to in
+    = drop-drop (8 + u32At l 0) at bytes ∙ ap (λ (n : ℕ). drop n bytes) to in
     entries-step l fits
     ∙ ap₂ also (ap₂ entry (ap₂ take size (drop-drop 8 at bytes)) (u32-drop at bytes 4)) (ap (entriesFrom 0) tail)
 
@@ -135,6 +135,6 @@ module _ {bytes : List ℕ} {at number : ℕ} (c : Checking bytes at number) whe
   checking-all s h =
       let rest : entriesFrom 0 (drop at bytes) ≡ holds [] = ap (entriesFrom 0) (drop-of-length-le bytes h) ∙ unfold entriesFrom in refl in
       let held : entries bytes ≡ holds (c .before)
-          = c .is ∙ ap (front (c .before)) rest ∙ front-holds (c .before) [] ∙ ap holds (append-nil (c .before)) in
+      = c .is ∙ ap (front (c .before)) rest ∙ front-holds (c .before) [] ∙ ap holds (append-nil (c .before)) in
       let f = filled-held bytes (c .before) s held in
       record { filled = f .1; is = held ∙ ap holds (sym (f .0)); good = subst Good (sym (f .0)) (c .good) }

@@ -42,9 +42,11 @@ unfolding good
 good-true [] h = tt
 good-true (e ∷ es) h =
     let counts = not (eqb (e .count) 0) in
-    let r = and-right counts (wellFormed (e .form) && good es) h in
-    (eqb-false (e .count) 0 (not-true _ (and-left counts (wellFormed (e .form) && good es) h)),
-    and-left (wellFormed (e .form)) (good es) r, good-true es (and-right (wellFormed (e .form)) (good es) r))
+    let r = and-right counts (wellFormed (e .form) && good es) h in (
+      eqb-false (e .count) 0 (not-true _ (and-left counts (wellFormed (e .form) && good es) h)),
+      and-left (wellFormed (e .form)) (good es) r,
+      good-true es (and-right (wellFormed (e .form)) (good es) r),
+    )
 
 pub true-good : (es : List Entry) → Good es → good es ≡ true
 unfolding good

@@ -88,9 +88,9 @@ module _ (buffer : List ℕ) (used : ℕ) (es : List Entry) where
       record {
         within = rw (written-length h g) g;
         is = unfold written in (
-          ap (take (cost es)) (append-assoc (bytesOf es) (replicate (used - cost es) 0) (drop (length value) buffer))
-          ∙ ap (λ (n : ℕ). take n (bytesOf es ++ (replicate (used - cost es) 0 ++ drop (length value) buffer))) (sym (bytes-cost es))
-          ∙ take-append-seam (bytesOf es) (replicate (used - cost es) 0 ++ drop (length value) buffer)
-        );
+            ap (take (cost es)) (append-assoc (bytesOf es) (replicate (used - cost es) 0) (drop (length value) buffer))
+            ∙ ap (λ (n : ℕ). take n (bytesOf es ++ (replicate (used - cost es) 0 ++ drop (length value) buffer))) (sym (bytes-cost es))
+            ∙ take-append-seam (bytesOf es) (replicate (used - cost es) 0 ++ drop (length value) buffer)
+            );
         sound = s;
       }

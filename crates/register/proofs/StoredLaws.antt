@@ -78,7 +78,7 @@ bytes-u32 a b c d p q r s =
 pub u32-after : (front rest : List ℕ) (i : ℕ) → u32At (front ++ rest) (length front + i) ≡ u32At rest i
 u32-after front rest i =
     let at : (k : ℕ) → getD (front ++ rest) (length front + i + k) 0 ≡ getD rest (i + k) 0
-        = λ k. ap (λ (n : ℕ). getD (front ++ rest) n 0) (omega arith) ∙ getD-append-add front rest (i + k) 0 in
+    = λ k. ap (λ (n : ℕ). getD (front ++ rest) n 0) (omega arith) ∙ getD-append-add front rest (i + k) 0 in
     rw (getD-append-add front rest i 0, at 1, at 2, at 3)
 
 -- ---- an entry at the start of bytes
@@ -166,7 +166,7 @@ entry-whole l s h =
     let high : u32 (u32At l 4) ≡ getD l 4 0 ∷ getD l 5 0 ∷ getD l 6 0 ∷ getD l 7 0 ∷ [] = bytes-u32 _ _ _ _ (s 4) (s 5) (s 6) (s 7) in
     let header : u32 (length form) ++ (u32 (u32At l 4) ++ form) ≡ entryBytes (entryAt l) = unfold entryBytes in refl in
     let body : drop 8 l ≡ form ++ drop (8 + size) l
-        = sym (take-append-drop size (drop 8 l)) ∙ ap (λ (r : List ℕ). form ++ r) (drop-drop size 8 l) in
+    = sym (take-append-drop size (drop 8 l)) ∙ ap (λ (r : List ℕ). form ++ r) (drop-drop size 8 l) in
     eight l (omega arith) ∙ ap (λ (r : List ℕ). getD l 0 0 ∷ getD l 1 0 ∷ getD l 2 0 ∷ getD l 3 0 ∷ getD l 4 0 ∷ getD l 5 0 ∷ getD l 6 0 ∷ getD l 7 0 ∷ r) body
     ∙ ap₂ (λ (a b : List ℕ). (a ++ (b ++ form)) ++ drop (8 + size) l) (sym low ∙ ap u32 (sym n)) (sym high)
     ∙ ap (λ (a : List ℕ). a ++ drop (8 + size) l) header

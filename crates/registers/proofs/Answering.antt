@@ -91,6 +91,10 @@ module _ (buffer : List ℕ) (used : ℕ) (buffers : List (List ℕ)) where
 
 -- ---- changes
 
+-- the same change, said otherwise
+pub left-as : (buffer : List ℕ) (used : ℕ) {l : Called} {x y : Change} → l ≡ leaves buffer used x → y ≡ x → l ≡ leaves buffer used y
+left-as buffer used e q = e ∙ sym (ap (leaves buffer used) q)
+
 pub leaving-changed : (buffer : List ℕ) (used n : ℕ) (new : List Entry) {after : List ℕ} {second : ℕ} → second ≡ cost new → after ≡ written used new buffer
     → leaving (Done n second) used after ≡ leaves buffer used (changed n new)
 leaving-changed buffer used n new e q = ap₂ (λ (c : ℕ) (b : List ℕ). called 0 (n ∷ c ∷ []) (lent b c)) e q

@@ -62,7 +62,7 @@ module _ (buffer : List ℕ) (used : ℕ) (es : List Entry) (h : Sits buffer use
       let z : used - cost new ≡ gap = omega arith in
       let value = bytesOf new ++ replicate gap 0 in
       let n : length value ≡ used
-          = length-append (bytesOf new) (replicate gap 0) ∙ ap₂ _+_ (bytes-cost new) (length-replicate gap 0) ∙ k in
+      = length-append (bytesOf new) (replicate gap 0) ∙ ap₂ _+_ (bytes-cost new) (length-replicate gap 0) ∙ k in
       ap (λ (m : ℕ). laid (bytesOf new ++ replicate m 0) buffer) z
       ∙ ap (λ (m : ℕ). value ++ drop m buffer) n ∙ append-assoc (bytesOf new) (replicate gap 0) past
 
@@ -196,9 +196,9 @@ module _ (buffer : List ℕ) (used : ℕ) (es : List Entry) (h : Sits buffer use
       part-is : part ≡ entryBytes one ++ bytesOf (s .after)
       part-is =
           let all : buffer ≡ front ++ ((entryBytes one ++ bytesOf (s .after)) ++ past)
-              = split ∙ ap (λ (l : List ℕ). front ++ l) (sym (append-assoc (entryBytes one) (bytesOf (s .after)) past)) in
+          = split ∙ ap (λ (l : List ℕ). front ++ l) (sym (append-assoc (entryBytes one) (bytesOf (s .after)) past)) in
           let n : used - at ≡ length (entryBytes one ++ bytesOf (s .after))
-              = omega (arith, length-append (entryBytes one) (bytesOf (s .after)), entry-length one, bytes-cost (s .after), used-is, cost-split, s .place) in
+          = omega (arith, length-append (entryBytes one) (bytesOf (s .after)), entry-length one, bytes-cost (s .after), used-is, cost-split, s .place) in
           ap₂ take n (ap₂ drop here all ∙ drop-append-seam front ((entryBytes one ++ bytesOf (s .after)) ++ past))
           ∙ take-append-seam (entryBytes one ++ bytesOf (s .after)) past
 
@@ -217,9 +217,8 @@ module _ (buffer : List ℕ) (used : ℕ) (es : List Entry) (h : Sits buffer use
       left-length =
           omega (arith, length-append front (bytesOf (s .after)), bytes-cost (s .after), here, s .place, g, used-is, cost-split)
 
-      pub removed : {last : ℕ} → last ≡ gap → length closed ≡ length buffer
-          → putMid (used - gap) (used - (used - gap)) closed (replicate last 0) ≡ written used (recount form 0 es) buffer
-      removed {last} l same =
+      removed : {last : ℕ} → last ≡ gap → putMid (used - gap) (used - (used - gap)) closed (replicate last 0) ≡ written used (recount form 0 es) buffer
+      removed {last} l =
           let a = used - gap in
           let k = used - a in
           let after = front ++ bytesOf (s .after) in
@@ -234,3 +233,9 @@ module _ (buffer : List ℕ) (used : ℕ) (es : List Entry) (h : Sits buffer use
           closed-past =
               drop-put at used buffer (laid (drop gap part) part) (omega (arith, stands-fits)) (h .within)
               (laid-length (drop gap part) part (omega (arith, length-drop gap part)) ∙ mid-len at used buffer (h .within))
+
+      -- as the code has it: closed, then zeros
+      pub removed-by : {now zeros : List ℕ} {last : ℕ} → now ≡ laid (drop gap part) part → zeros ≡ replicate last 0 → last ≡ gap
+          → putMid (used - gap) (used - (used - gap)) (putMid at (used - at) buffer now) zeros ≡ written used (recount form 0 es) buffer
+      removed-by p q l =
+          ap₂ (λ (x y : List ℕ). putMid (used - gap) (used - (used - gap)) (putMid at (used - at) buffer x) y) p q ∙ removed l

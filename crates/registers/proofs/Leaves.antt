@@ -18,7 +18,7 @@ use Rattle.register.proofs.Boundaries.{Boundary, Turn, turn, within, one-cost}
 use Rattle.register.proofs.Sits.{sits-cost}
 use Rattle.output.proofs.Laid.{rest-part, rest-put, laid-length}
 use Rattle.registers.specs.Leaving.{leaving}
-use Rattle.registers.proofs.Changing.{appended, recounted, recounted-is, recounted-cost, removed, removed-is, removed-cost, stands-fits, stands-size, stands-count}
+use Rattle.registers.proofs.Changing.{appended, recounted, recounted-is, recounted-cost, removed-by, removed-is, removed-cost, stands-fits, stands-size, stands-count}
 use Rattle.registers.proofs.Answering.{leaving-changed, add-room, add-no-room}
 
 -- ---- the entry of a form in bytes that are filled
@@ -51,14 +51,15 @@ module _ (buffer : List ℕ) (used : ℕ) (es : List Entry) (h : Sits buffer use
       ap (λ (r : Answer). leaving r used buffer) e
       ∙ sym (ap (leaves buffer used) (add-no-room (length buffer) form es (absent-zero form es a) (omega (arith, sits-cost buffer used es h))))
 
-  pub append-leaves : (form : List ℕ) {r : Answer} {second : ℕ} {part : List ℕ} → r ≡ Done 1 second → second ≡ used + 8 + length form → Absent form es → used + 8 + length form ≤ length buffer
+  pub append-leaves : (form : List ℕ) {r : Answer} {second : ℕ} {part : List ℕ} → r ≡ Done 1 second → second ≡ used + 8 + length form
+      → Absent form es → used + 8 + length form ≤ length buffer
       → part ≡ laid (entryBytes (entry form 1)) (midOf used (length buffer - used) buffer)
       → leaving r used (putMid used (length buffer - used) buffer part) ≡ leaves buffer used (add (length buffer) form es)
   append-leaves form {r} {second} {part} e n a k p =
       let room : cost es + (8 + length form) ≤ length buffer = omega (arith, sits-cost buffer used es h) in
       let new = es ++ (entry form 1 ∷ []) in
       let c : second ≡ cost new
-          = omega (arith, n, sits-cost buffer used es h, cost-join es (entry form 1 ∷ []), one-cost (entry form 1)) in
+      = omega (arith, n, sits-cost buffer used es h, cost-join es (entry form 1 ∷ []), one-cost (entry form 1)) in
       ap (λ (r : Answer). leaving r used (putMid used (length buffer - used) buffer part)) e
       ∙ leaving-changed buffer used 1 new c
       (rest-put used buffer part
@@ -89,18 +90,11 @@ module _ (buffer : List ℕ) (used : ℕ) (es : List Entry) (h : Sits buffer use
       remove-leaves {r} {closed} {zeros} e p q =
           let part = midOf at (used - at) buffer in
           let fits = stands-fits buffer used es h s in
-          let mid : length part ≡ used - at = mid-len at used buffer (h .within) in
-          let moved = laid (drop gap part) part in
-          let whole = putMid at (used - at) buffer moved in
-          let same : length whole ≡ length buffer
-              = same-len-mid at (used - at) buffer moved (laid-length (drop gap part) part (omega (arith, length-drop gap part))) in
-          let n : length (midOf (used - gap) (used - (used - gap)) whole) ≡ gap
-              = mid-len (used - gap) used whole (omega (arith, same, h .within)) ∙ omega (arith, gap-is, fits) in
+          let moved : length closed ≡ length part = ap length p ∙ laid-length (drop gap part) part (omega (arith, length-drop gap part)) in
+          let same : length (putMid at (used - at) buffer closed) ≡ length buffer = same-len-mid at (used - at) buffer closed moved in
+          let n : length (midOf (used - gap) (used - (used - gap)) (putMid at (used - at) buffer closed)) ≡ gap
+          = mid-len (used - gap) used (putMid at (used - at) buffer closed) (omega (arith, same, h .within)) ∙ omega (arith, gap-is, fits) in
           let c : used - gap ≡ cost (recount form 0 es)
-              = omega (arith, removed-cost buffer used es h s gap-is, ap cost (removed-is buffer used es h s)) in
-          let left : putMid (used - gap) (used - (used - gap)) (putMid at (used - at) buffer closed) zeros ≡ written used (recount form 0 es) buffer
-              = ap₂ (λ (x y : List ℕ). putMid (used - gap) (used - (used - gap)) (putMid at (used - at) buffer x) y) p
-              (q ∙ ap (λ (x : List ℕ). replicate (length (midOf (used - gap) (used - (used - gap)) (putMid at (used - at) buffer x))) 0) p)
-              ∙ removed buffer used es h s gap-is n same in
+          = omega (arith, removed-cost buffer used es h s gap-is, ap cost (removed-is buffer used es h s)) in
           ap (λ (r : Answer). leaving r used (putMid (used - gap) (used - (used - gap)) (putMid at (used - at) buffer closed) zeros)) e
-          ∙ leaving-changed buffer used 0 (recount form 0 es) c left
+          ∙ leaving-changed buffer used 0 (recount form 0 es) c (removed-by buffer used es h s gap-is p q n)

@@ -1,18 +1,18 @@
 // The three calls on a register of canonical forms (document 02, K10): add one, withdraw one, count one. Form, buffer and used length come
 // by value, and the answer's second word is the used length after an accepted change.
 ghost use mathlib.Core.Path.{_≡_};
-ghost use Prim.Native.Nat.{ℕ, _+_, _%_, _<_, _≤_};
-ghost use mathlib.Core.List.{List, [], _∷_};
-ghost use lib.ListN.{length, take, drop, replicate};
+ghost use Prim.Native.Nat.{_+_, _%_, _<_, _≤_};
+ghost use mathlib.Core.List.{[]};
+ghost use lib.ListN.{length, drop, replicate};
 ghost use Rattle.text.specs.Call.{laid, callOf};
-ghost use Rattle.register.specs.Entries.{entry, countIn, recount, Change, changed, add, withdraw};
+ghost use Rattle.register.specs.Entries.{entry, countIn, add, withdraw};
 ghost use Rattle.register.specs.Stored.{u32At, u32, entryBytes, entries, sound, intact};
-ghost use Rattle.register.specs.RegisterCalls.{leaves, addCall, withdrawCall, countCall};
-ghost use Rattle.register.specs.Places.{Absent, Stands, Filled, Sits, entriesIn};
-ghost use Rattle.registers.specs.Leaving.{usedAfter, leaving, heldCheck, registerCheck};
-use text::Answer;
+ghost use Rattle.register.specs.RegisterCalls.{addCall, withdrawCall, countCall};
+ghost use Rattle.register.specs.Places.{Absent, Filled, entriesIn};
+ghost use Rattle.registers.specs.Leaving.{usedAfter, leaving, registerCheck, present, Seated, Left, Recounts};
 use register::Found;
 use register::Walked;
+use text::Answer;
 
 pub const DAMAGED_REGISTER: u32 = 28;
 
@@ -169,9 +169,9 @@ fn clear(out: &mut [u8])
 
 // A new form at the end.
 fn append(form: &[u8], buffer: &mut [u8], used: usize) -> Answer
-    requires { ⌜ Sits (now buffer) used (entriesIn (take used (now buffer))) ⌝ }
-    requires { ⌜ Absent (now form) (entriesIn (take used (now buffer))) ⌝ }
-    ensures { λ r. ⌜ leaving r used (now (buffer .exit)) ≡ leaves (now (buffer .entry)) used (add (length (now (buffer .entry))) (now (form .entry)) (entriesIn (take used (now (buffer .entry))))) ⌝ }
+    requires { ⌜ Seated (now buffer) used ⌝ }
+    requires { ⌜ Absent (now form) (present (now buffer) used) ⌝ }
+    ensures { λ r. ⌜ Left r used (now (buffer .entry)) (now (buffer .exit)) (add (length (now (buffer .entry))) (now (form .entry)) (present (now (buffer .entry)) used)) ⌝ }
 {
     if buffer.len() - used < 8 {
         return refused(REGISTER_FULL);
@@ -186,7 +186,7 @@ fn append(form: &[u8], buffer: &mut [u8], used: usize) -> Answer
 // Another count for the entry at `at`.
 fn change_count(count: usize, buffer: &mut [u8], at: usize, used: usize) -> Answer
     requires { ⌜ (0 < count) × (at + 8 ≤ length (now buffer)) ⌝ }
-    ensures { λ r. ⌜ ((form : List ℕ) → Sits (now (buffer .entry)) used (entriesIn (take used (now (buffer .entry)))) → Stands form (entriesIn (take used (now (buffer .entry)))) at → leaving r used (now (buffer .exit)) ≡ leaves (now (buffer .entry)) used (changed count (recount form count (entriesIn (take used (now (buffer .entry))))))) ⌝ }
+    ensures { λ r. ⌜ Recounts r used at count (now (buffer .entry)) (now (buffer .exit)) ⌝ }
 {
     put_u32(count, &mut buffer[at + 4..]);
     done(count as u64, used as u64)
@@ -195,7 +195,7 @@ fn change_count(count: usize, buffer: &mut [u8], at: usize, used: usize) -> Answ
 // The entry at `at` goes.
 fn remove(buffer: &mut [u8], at: usize, used: usize) -> Answer
     requires { ⌜ (used ≤ length (now buffer)) × (at + 8 + u32At (now buffer) at ≤ used) ⌝ }
-    ensures { λ r. ⌜ ((form : List ℕ) → Sits (now (buffer .entry)) used (entriesIn (take used (now (buffer .entry)))) → Stands form (entriesIn (take used (now (buffer .entry)))) at → leaving r used (now (buffer .exit)) ≡ leaves (now (buffer .entry)) used (changed 0 (recount form 0 (entriesIn (take used (now (buffer .entry))))))) ⌝ }
+    ensures { λ r. ⌜ Recounts r used at 0 (now (buffer .entry)) (now (buffer .exit)) ⌝ }
 {
     let gap = register::end_at(buffer, at) - at;
     close_gap(&mut buffer[at..used], gap);
@@ -204,8 +204,8 @@ fn remove(buffer: &mut [u8], at: usize, used: usize) -> Answer
 }
 
 fn add_form(form: &[u8], buffer: &mut [u8], used: usize) -> Answer
-    requires { ⌜ Sits (now buffer) used (entriesIn (take used (now buffer))) ⌝ }
-    ensures { λ r. ⌜ leaving r used (now (buffer .exit)) ≡ leaves (now (buffer .entry)) used (add (length (now (buffer .entry))) (now (form .entry)) (entriesIn (take used (now (buffer .entry))))) ⌝ }
+    requires { ⌜ Seated (now buffer) used ⌝ }
+    ensures { λ r. ⌜ Left r used (now (buffer .entry)) (now (buffer .exit)) (add (length (now (buffer .entry))) (now (form .entry)) (present (now (buffer .entry)) used)) ⌝ }
 {
     let found = register::find(form, &buffer[..used]);
     let Found::At(at) = found else {
@@ -219,8 +219,8 @@ fn add_form(form: &[u8], buffer: &mut [u8], used: usize) -> Answer
 }
 
 fn withdraw_form(form: &[u8], buffer: &mut [u8], used: usize) -> Answer
-    requires { ⌜ Sits (now buffer) used (entriesIn (take used (now buffer))) ⌝ }
-    ensures { λ r. ⌜ leaving r used (now (buffer .exit)) ≡ leaves (now (buffer .entry)) used (withdraw (now (form .entry)) (entriesIn (take used (now (buffer .entry))))) ⌝ }
+    requires { ⌜ Seated (now buffer) used ⌝ }
+    ensures { λ r. ⌜ Left r used (now (buffer .entry)) (now (buffer .exit)) (withdraw (now (form .entry)) (present (now (buffer .entry)) used)) ⌝ }
 {
     let found = register::find(form, &buffer[..used]);
     let Found::At(at) = found else {

@@ -72,5 +72,5 @@ passes-one register true p = sym (ap not (p .repeats refl))
 passes-one register false p =
     let es = entriesIn register in
     let each : (q : ℕ) → q < 1 → Clear (inClass q 1) [] es
-        = λ q l. (let z : 0 ≡ q = omega arith in subst (λ (k : ℕ). Clear (inClass k 1) [] es) z (p .clear refl)) in
+    = λ q l. (let z : 0 ≡ q = omega arith in subst (λ (k : ℕ). Clear (inClass k 1) [] es) z (p .clear refl)) in
     sym (ap not (clear-classes 1 (omega arith) es each))

@@ -62,10 +62,10 @@ module _ {table : List ℕ} {home print k : ℕ} (s : Scanned table home print k
         from = omega (arith, s .from);
         to = omega arith;
         is = λ t same. (
-          let here : getD t k 0 ≡ getD table k 0 = same k (omega arith) in
-          s .is t (λ j l. same j (omega arith)) ∙ turn h t
-          ∙ rw (ne-eqb (getD t k 0) 0 (λ e. free (sym here ∙ e)), ne-eqb (getD t k 0) print (λ e. other (sym here ∙ e))) refl
-        );
+            let here : getD t k 0 ≡ getD table k 0 = same k (omega arith) in
+            s .is t (λ j l. same j (omega arith)) ∙ turn h t
+            ∙ rw (ne-eqb (getD t k 0) 0 (λ e. free (sym here ∙ e)), ne-eqb (getD t k 0) print (λ e. other (sym here ∙ e))) refl
+            );
       }
 
   -- the fingerprint is there
@@ -116,7 +116,7 @@ module _ {table : List ℕ} {home print k : ℕ} (s : Scanned table home print k
       let t = set table k print in
       let here : getD t k 0 ≡ print = getD-set-same table k print 0 l in
       let none : meets 128 table home print ≡ false
-          = s .is table (λ j l. refl) ∙ turn s h table ∙ rw (eq-eqb (getD table k 0) 0 e) refl in
+      = s .is table (λ j l. refl) ∙ turn s h table ∙ rw (eq-eqb (getD table k 0) 0 e) refl in
       record {
         size = length-set table k print;
         kept = λ j p m. meets-set 128 table k print j p e m;
@@ -134,7 +134,7 @@ suspected table after hash {home} {print} {r} p q s =
     let As : ℕ → ℕ → Type 0 = λ n h. meets 128 after (share (h % 0x100000000) (n - 128)) (printOf h) ≡ true in
     let z = sym (s .size) in
     let there : meets 128 after (homeOf table hash) (printOf hash) ≡ true
-        = subst (λ (k : ℕ). meets 128 after k (printOf hash) ≡ true) p (subst (λ (k : ℕ). meets 128 after home k ≡ true) q (s .there)) in
+    = subst (λ (k : ℕ). meets 128 after k (printOf hash) ≡ true) p (subst (λ (k : ℕ). meets 128 after home k ≡ true) q (s .there)) in
     record {
       size = s .size;
       kept = λ h m. subst (λ (n : ℕ). As n h) z (s .kept (homeOf table h) (printOf h) m);

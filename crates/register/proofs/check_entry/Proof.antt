@@ -23,8 +23,10 @@ whole : (c : tie.Else2) → Whole (entry c .args .register .now) (entry c .args 
 whole c = record { fits = omega (arith, entry c .pre, c .if2 .left, c .before .u32-at .ensures, c .before .before .if1 .left) }
 
 -- the form that was checked is the entry's
-checked : (c : tie.After-is-utf8)
-    → c .is-utf8 .result ≡ wellFormed (take (u32At (entry (fitting c) .args .register .now) (entry (fitting c) .args .at)) (drop (entry (fitting c) .args .at + 8) (entry (fitting c) .args .register .now)))
+abbrev form : tie.Else2 → List ℕ
+form c = take (u32At (entry c .args .register .now) (entry c .args .at)) (drop (entry c .args .at + 8) (entry c .args .register .now))
+
+checked : (c : tie.After-is-utf8) → c .is-utf8 .result ≡ wellFormed (form (fitting c))
 checked c =
     let s = entry (fitting c) .args in
     let n : c .before .before .end-at .result - (s .at + 8) ≡ u32At (s .register .now) (s .at) = omega (arith, c .before .before .end-at .ensures) in

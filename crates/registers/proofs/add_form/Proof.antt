@@ -1,18 +1,17 @@
 -- `add_form`: a form that is not found goes to the end; else its count is one more, if that is not the largest.
-use mathlib.Core.Path.{_≡_, sym, ap, subst, _∙_}
+use mathlib.Core.Path.{_≡_, refl, sym, ap, subst, _∙_}
 use mathlib.Core.List.{List}
 use Prim.Native.Nat.{ℕ, _+_, _≤_}
 use native.Mathlib.Omega.{arith}
 use borrow.Author.Needs.{needs}
-use lib.ListN.{length, take}
+use lib.ListN.{length}
 use lib.Seq.{length-take-le}
 use Rattle.text.specs.declared.Answer.{Answer}
 use Rattle.register.specs.Entries.{Entry, countIn}
-use Rattle.register.specs.RegisterCalls.{leaves}
-use Rattle.register.specs.Places.{Finds, Stands, entriesIn}
-use Rattle.registers.specs.Leaving.{leaving}
+use Rattle.register.specs.Places.{Finds, Stands}
+use Rattle.registers.specs.Leaving.{leaving, present}
 use Rattle.registers.proofs.Changing.{stands-fits, stands-number, stands-is, stands-some}
-use Rattle.registers.proofs.Answering.{add-more, add-full}
+use Rattle.registers.proofs.Answering.{left-as, add-more, add-full}
 use Rattle.registers.proofs.add_form.Statement.{statement}
 use Rattle.registers.proofs.add_form.Tie as tie
 
@@ -24,7 +23,7 @@ abbrev entry : Known → tie.Start
 entry c = c .before .before .before .before .before .before .before
 
 abbrev held : tie.Start → List Entry
-held s = entriesIn (take (s .args .used) (s .args .buffer .now))
+held s = present (s .args .buffer .now) (s .args .used)
 
 stands : (c : Known) → Stands (entry c .args .form .now) (held (entry c)) (c .before .found .given .0 .0)
 stands c = subst (Finds (entry c .args .form .now) (held (entry c))) (c .before .found .given .1) (c .before .before .before .find .ensures)
@@ -49,8 +48,12 @@ some c =
     let k = c .before .before in
     let s = entry k in
     let t = stands k in
-    omega (arith, stands-some (s .args .buffer .now) (s .args .used) (held s) (s .pre) t,
-    stands-number (s .args .buffer .now) (s .args .used) (held s) (s .pre) t, c .u32-at .ensures .0)
+    omega (
+      arith,
+      stands-some (s .args .buffer .now) (s .args .used) (held s) (s .pre) t,
+      stands-number (s .args .buffer .now) (s .args .used) (held s) (s .pre) t,
+      c .u32-at .ensures .0,
+    )
 
 slice-reshare-prefix-find : tie.Need-slice-reshare-prefix-find
 slice-reshare-prefix-find c = search needs
@@ -99,7 +102,8 @@ returns-2 c =
     let s = entry (u .before .before) in
     let size = length (s .args .buffer .now) in
     ap (λ (r : Answer). leaving r (s .args .used) (s .args .buffer .now)) (c .refused .ensures)
-    ∙ sym (ap (leaves (s .args .buffer .now) (s .args .used)) (add-full size (s .args .form .now) (held s) (u .u32-at .result) (is u) (some u) (omega (arith, c .before .if1 .taken))))
+    ∙ left-as (s .args .buffer .now) (s .args .used) refl
+    (add-full size (s .args .form .now) (held s) (u .u32-at .result) (is u) (some u) (omega (arith, c .before .if1 .taken)))
 
 add-change-count : tie.Need-add-change-count
 add-change-count c = search needs
@@ -116,9 +120,8 @@ returns-3 c =
     let u = k .before .before .before in
     let s = entry (u .before .before) in
     let size = length (s .args .buffer .now) in
-    k .change-count .ensures (s .args .form .now) (s .pre) (stands (u .before .before))
-    ∙ sym (ap (leaves (s .args .buffer .now) (s .args .used)) (add-more size (s .args .form .now) (held s) (u .u32-at .result) (is u) (some u)
-    (omega (arith, k .before .before .if1 .left, u .u32-at .ensures .1))))
+    left-as (s .args .buffer .now) (s .args .used) (k .change-count .ensures (s .args .form .now) (s .pre) (stands (u .before .before)))
+    (add-more size (s .args .form .now) (held s) (u .u32-at .result) (is u) (some u) (omega (arith, k .before .before .if1 .left, u .u32-at .ensures .1)))
 
 pub add-form-spec : {M : Type 1} → statement M
 add-form-spec =

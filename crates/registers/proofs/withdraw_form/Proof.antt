@@ -1,19 +1,18 @@
 -- `withdraw_form`: a form that is not found is refused; else its count is one less, and at 1 its entry goes.
-use mathlib.Core.Path.{_≡_, sym, ap, subst, _∙_}
+use mathlib.Core.Path.{_≡_, refl, sym, ap, subst, _∙_}
 use mathlib.Core.List.{List}
 use Prim.Native.Nat.{ℕ, _+_, _≤_}
 use native.Mathlib.Omega.{arith}
 use borrow.Author.Needs.{needs}
-use lib.ListN.{length, take}
+use lib.ListN.{length}
 use lib.Seq.{length-take-le}
 use Rattle.text.specs.declared.Answer.{Answer}
 use Rattle.register.specs.Entries.{Entry, countIn}
-use Rattle.register.specs.RegisterCalls.{leaves}
-use Rattle.register.specs.Places.{Finds, Stands, entriesIn}
+use Rattle.register.specs.Places.{Finds, Stands}
 use Rattle.register.proofs.Counts.{absent-zero}
-use Rattle.registers.specs.Leaving.{leaving}
+use Rattle.registers.specs.Leaving.{leaving, present}
 use Rattle.registers.proofs.Changing.{stands-fits, stands-size, stands-number, stands-is, stands-some}
-use Rattle.registers.proofs.Answering.{withdraw-absent, withdraw-one}
+use Rattle.registers.proofs.Answering.{left-as, withdraw-absent, withdraw-one}
 use Rattle.registers.proofs.withdraw_form.Statement.{statement}
 use Rattle.registers.proofs.withdraw_form.Tie as tie
 
@@ -25,7 +24,7 @@ abbrev entry : Known → tie.Start
 entry c = c .before .before .before .before .before .before .before
 
 abbrev held : tie.Start → List Entry
-held s = entriesIn (take (s .args .used) (s .args .buffer .now))
+held s = present (s .args .buffer .now) (s .args .used)
 
 stands : (c : Known) → Stands (entry c .args .form .now) (held (entry c)) (c .before .found .given .0 .0)
 stands c = subst (Finds (entry c .args .form .now) (held (entry c))) (c .before .found .given .1) (c .before .before .before .find .ensures)
@@ -50,8 +49,12 @@ some c =
     let k = c .before .before in
     let s = entry k in
     let t = stands k in
-    omega (arith, stands-some (s .args .buffer .now) (s .args .used) (held s) (s .pre) t,
-    stands-number (s .args .buffer .now) (s .args .used) (held s) (s .pre) t, c .u32-at .ensures .0)
+    omega (
+      arith,
+      stands-some (s .args .buffer .now) (s .args .used) (held s) (s .pre) t,
+      stands-number (s .args .buffer .now) (s .args .used) (held s) (s .pre) t,
+      c .u32-at .ensures .0,
+    )
 
 slice-reshare-prefix-find : tie.Need-slice-reshare-prefix-find
 slice-reshare-prefix-find c = search needs
@@ -83,7 +86,7 @@ returns c =
     let s = f .before .before .before .before in
     let none = subst (Finds (s .args .form .now) (held s)) (t .enum-told .given .1) (f .find .ensures) in
     ap (λ (r : Answer). leaving r (s .args .used) (s .args .buffer .now)) (c .refused .ensures)
-    ∙ sym (ap (leaves (s .args .buffer .now) (s .args .used)) (withdraw-absent (s .args .form .now) (held s) (absent-zero (s .args .form .now) (held s) none)))
+    ∙ left-as (s .args .buffer .now) (s .args .used) refl (withdraw-absent (s .args .form .now) (held s) (absent-zero (s .args .form .now) (held s) none))
 
 add-u32-at : tie.Need-add-u32-at
 add-u32-at c = omega (arith, fits (c .before))
@@ -95,9 +98,14 @@ remove-requires : tie.Need-remove-requires
 remove-requires c κs =
     let k = c .before .before .before .before in
     let s = entry k in
-    let t = stands k in
-    (s .pre .within, omega (arith, stands-fits (s .args .buffer .now) (s .args .used) (held s) (s .pre) t,
-    stands-size (s .args .buffer .now) (s .args .used) (held s) (s .pre) t))
+    let t = stands k in (
+      s .pre .within,
+      omega (
+        arith,
+        stands-fits (s .args .buffer .now) (s .args .used) (held s) (s .pre) t,
+        stands-size (s .args .buffer .now) (s .args .used) (held s) (s .pre) t,
+      ),
+    )
 
 same-length-2 : tie.Need-same-length-2
 same-length-2 c = search needs
@@ -107,8 +115,8 @@ returns-2 c =
     let k = c .before .before in
     let u = k .before .before .before in
     let s = entry (u .before .before) in
-    k .remove .ensures (s .args .form .now) (s .pre) (stands (u .before .before))
-    ∙ sym (ap (leaves (s .args .buffer .now) (s .args .used)) (withdraw-one (s .args .form .now) (held s) 1 (is u ∙ k .before .before .if1 .taken) (omega arith)))
+    left-as (s .args .buffer .now) (s .args .used) (k .remove .ensures (s .args .form .now) (s .pre) (stands (u .before .before)))
+    (withdraw-one (s .args .form .now) (held s) 1 (omega (arith, is u, k .before .before .if1 .taken)) (omega arith))
 
 sub-change-count : tie.Need-sub-change-count
 sub-change-count c = some (c .before)
@@ -126,8 +134,8 @@ returns-3 c =
     let k = c .before .before in
     let u = k .before .before .before in
     let s = entry (u .before .before) in
-    k .change-count .ensures (s .args .form .now) (s .pre) (stands (u .before .before))
-    ∙ sym (ap (leaves (s .args .buffer .now) (s .args .used)) (withdraw-one (s .args .form .now) (held s) (u .u32-at .result) (is u) (some u)))
+    left-as (s .args .buffer .now) (s .args .used) (k .change-count .ensures (s .args .form .now) (s .pre) (stands (u .before .before)))
+    (withdraw-one (s .args .form .now) (held s) (u .u32-at .result) (is u) (some u))
 
 pub withdraw-form-spec : {M : Type 1} → statement M
 withdraw-form-spec =
