@@ -1,12 +1,12 @@
 -- A walk over the entries of filled bytes: the place between two entries (`Boundary`), the entry there (`Turn`, `turn`) and the next place
 -- (`next`). Assumes nothing.
 use mathlib.Core.Path.{_≡_, refl, ap, ap₂, sym, _∙_, subst}
-use Prim.Native.Nat.{ℕ, zero, suc, _+_, _-_, _*_, _≤_, _<_}
+use Prim.Native.Nat.{ℕ, _+_, _-_, _≤_, _<_}
 use native.Mathlib.Omega.{arith}
-use mathlib.Core.Bool.{Bool, true, false}
-use mathlib.Core.List.{List, [], _∷_, _++_, append-assoc, append-nil}
-use lib.ListN.{length, getD, take, drop, length-append}
-use lib.Seq.{take-append-seam, drop-append-seam, drop-append-add, append-snoc}
+use mathlib.Core.Bool.{true, false}
+use mathlib.Core.List.{List, [], _∷_, _++_, append-nil}
+use lib.ListN.{length, take, drop, length-append}
+use lib.Seq.{take-append-seam, drop-append-add, append-snoc}
 use Rattle.text.specs.Bytes.{sameBytes}
 use Rattle.text.proofs.Bytes.{same-equal}
 use Rattle.register.specs.Entries.{Entry, entry, cost}

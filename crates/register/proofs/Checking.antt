@@ -1,17 +1,17 @@
 -- The walk that checks entries: a place up to which they are good (`Checking`), a good one more (`checking-on`), and a fault (`checking-fault`).
 -- Assumes nothing.
 use mathlib.Core.Path.{_≡_, refl, ap, ap₂, sym, _∙_, subst}
-use Prim.Native.Nat.{ℕ, zero, suc, _+_, _-_, _*_, _≤_, _<_}
+use Prim.Native.Nat.{ℕ, _+_, _*_, _≤_, _<_}
 use native.Mathlib.Omega.{arith}
-use mathlib.Core.Bool.{Bool, true, false, _&&_}
+use mathlib.Core.Bool.{Bool, true, false}
 use mathlib.Core.List.{List, [], _∷_, _++_, append-nil}
 use lib.ListN.{length, getD, take, drop, length-drop, drop-of-length-le}
 use lib.Seq.{drop-drop, getD-drop}
 use Rattle.text.specs.Utf8.{wellFormed}
 use Rattle.text.proofs.Bytes.{and-left, contrary}
 use Rattle.register.specs.Entries.{Entry, entry, good, distinct}
-use Rattle.register.specs.Stored.{u32At, Held, holds, damaged, also, entryAt, entriesFrom, entries, sound}
-use Rattle.register.specs.Places.{Small, Good, listed, entriesIn, Whole, GoodAt, Spoiled, Plausible}
+use Rattle.register.specs.Stored.{u32At, Held, holds, damaged, also, entriesFrom, entries, sound}
+use Rattle.register.specs.Places.{Small, Good, listed, Whole, GoodAt, Spoiled, Plausible}
 use Rattle.register.proofs.StoredLaws.{entries-step, entries-cut, not-held}
 use Rattle.register.proofs.Counts.{good-true}
 use Rattle.register.proofs.Boundaries.{filled-held}

@@ -1,14 +1,14 @@
 -- K10: over every list of calls from an empty register (`replayed`, `replayed-count`). Assumes nothing.
-use mathlib.Core.Path.{_≡_, refl, ap, ap₂, sym, _∙_, subst}
-use Prim.Native.Nat.{ℕ, zero, suc, _+_, _-_, _≤_, _<_}
+use mathlib.Core.Path.{_≡_, refl, ap, _∙_, subst}
+use Prim.Native.Nat.{ℕ, _+_, _-_, _≤_, _<_}
 use native.Mathlib.Omega.{arith}
 use mathlib.Core.Bool.{Bool, true, false, _&&_}
 use mathlib.Core.List.{List, [], _∷_, _++_}
 use lib.Dec.{eqb, ltb}
-use lib.ListN.{length, getD}
+use lib.ListN.{length}
 use borrow.Author.Tests.{eqb-true, eqb-false, ne-eqb, ltb-true, ltb-false}
 use Rattle.text.specs.Bytes.{pick, sameBytes}
-use Rattle.text.specs.Utf8.{utf8End, wellFormed, WellFormed}
+use Rattle.text.specs.Utf8.{utf8End, wellFormed}
 use Rattle.text.specs.Call.{Called, called, guarded, andThen, passed, lengthCheck, utf8Check, textCheck, longestText}
 use Rattle.text.specs.declared.Answer.{Answer}
 use Rattle.text.specs.declared.Answer.the-variants.{Done, Refused}
@@ -16,7 +16,7 @@ use Rattle.text.proofs.Bytes.{pick-both, pick-by, same-equal}
 use Rattle.text.proofs.Longest.{end-whole}
 use Rattle.text.proofs.Utf8.{testable}
 use Rattle.register.specs.Entries.{Entry, entry, cost, countIn, recount, largestCount, Change, changed, refused, add, withdraw}
-use Rattle.register.specs.Stored.{Held, holds, damaged, bytesOf, register, written}
+use Rattle.register.specs.Stored.{holds, bytesOf, register}
 use Rattle.register.specs.RegisterCalls.{lent, leaves, ofHeld, addCall, withdrawCall, counted, countCall}
 use Rattle.register.specs.CallLists.{Asked, adds, withdraws, counts, Store, empty, answered, leftBy, numberOf, afterCalls, acceptedOf, isAdd, isWithdrawal, None, Replayed}
 use Rattle.register.specs.Places.{Narrow, Absent, Sound, Sits}

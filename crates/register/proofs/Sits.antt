@@ -1,15 +1,13 @@
 -- A register that sits in a buffer: what a call writes sits there again (`written-sits`), and what is intact sits (`intact-sits`). Assumes nothing.
 use mathlib.Core.Path.{_≡_, refl, ap, ap₂, sym, _∙_, subst}
-use Prim.Native.Nat.{ℕ, zero, suc, _+_, _-_, _≤_, _<_}
+use Prim.Native.Nat.{ℕ, _+_, _-_, _≤_, _<_}
 use native.Mathlib.Omega.{arith}
 use mathlib.Core.Bool.{Bool, true, false, _&&_}
-use mathlib.Core.List.{List, [], _∷_, _++_, append-assoc}
+use mathlib.Core.List.{List, _++_, append-assoc}
 use lib.Dec.{leb, ltb}
 use lib.ListN.{length, getD, take, drop, replicate, length-append, length-take, length-drop, length-replicate, List·getD-eq-default}
 use lib.Seq.{take-append-seam, length-take-le, getD-take}
 use borrow.Author.Tests.{le-leb, leb-true, ltb-true, ltb-false}
-use Rattle.text.specs.Bytes.{pick}
-use Rattle.text.specs.Call.{laid}
 use Rattle.text.proofs.Bytes.{and-left, and-right, contrary}
 use Rattle.register.specs.Entries.{Entry, cost, good, distinct}
 use Rattle.register.specs.Stored.{Held, holds, damaged, bytesOf, entries, sound, intact, register, written}

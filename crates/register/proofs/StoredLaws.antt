@@ -1,15 +1,14 @@
 -- What the bytes hold determines the entries and the other way round (document 02, K10): `entries-of-bytes`, `bytes-of-entries`; and the
 -- bytes are as many as the entries cost (`bytes-cost`). Assumes nothing.
 use mathlib.Core.Path.{_≡_, refl, ap, ap₂, sym, _∙_, subst}
-use Prim.Native.Nat.{ℕ, zero, suc, _+_, _-_, _*_, _/_, _%_, _≤_, _<_}
+use Prim.Native.Nat.{ℕ, zero, suc, _+_, _*_, _/_, _%_, _≤_, _<_}
 use native.Mathlib.Omega.{arith}
 use mathlib.Core.Bool.{Bool, true, false}
 use mathlib.Core.List.{List, [], _∷_, _++_, append-assoc}
 use lib.Dec.{leb}
 use lib.ListN.{length, take, drop, getD, length-append, length-drop, take-append-drop}
-use lib.Seq.{take-append-seam, drop-append-seam, drop-append-add, getD-append-add, getD-drop, length-take-le, drop-drop}
+use lib.Seq.{take-append-seam, drop-append-seam, getD-append-add, getD-drop, length-take-le, drop-drop}
 use borrow.Author.Tests.{le-ltb, lt-ltb, leb-true, leb-false}
-use Rattle.text.specs.Bytes.{pick}
 use Rattle.register.specs.Entries.{Entry, entry, cost}
 use Rattle.register.specs.Stored.{u32At, u32, entryBytes, bytesOf, Held, holds, damaged, also, entryAt, entriesFrom, entries}
 use Rattle.register.specs.Places.{Narrow, Small}

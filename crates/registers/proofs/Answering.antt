@@ -1,23 +1,20 @@
 -- The answers of the calls on a register: the checks one after the other (`check-refused`, `check-done`) and the changes. Assumes nothing.
-use mathlib.Core.Path.{_≡_, refl, ap, ap₂, sym, _∙_, subst}
+use mathlib.Core.Path.{_≡_, refl, ap, ap₂, sym, _∙_}
 use Prim.Native.Nat.{ℕ, _+_, _-_, _≤_, _<_}
 use native.Mathlib.Omega.{arith}
-use mathlib.Core.Bool.{Bool, true, false, not, _&&_}
+use mathlib.Core.Bool.{Bool, true, false, not}
 use mathlib.Core.List.{List, [], _∷_, _++_}
-use lib.Dec.{eqb, leb, ltb}
 use lib.ListN.{length, take}
 use borrow.Author.Tests.{le-leb, lt-leb, lt-ltb, le-ltb, eq-eqb, ne-eqb}
-use Rattle.text.specs.Bytes.{pick}
-use Rattle.text.specs.Call.{Called, called, andThen, guarded, passed, textCheck}
+use Rattle.text.specs.Call.{Called, called, andThen, guarded, textCheck}
 use Rattle.text.specs.declared.Answer.{Answer}
 use Rattle.text.specs.declared.Answer.the-variants.{Done, Refused}
-use Rattle.text.proofs.Bytes.{contrary}
 use Rattle.register.specs.Entries.{Entry, entry, cost, countIn, recount, largestCount, Change, changed, refused, add, withdraw, good, distinct}
 use Rattle.register.specs.Stored.{Held, holds, damaged, entries, sound, intact, register, written}
 use Rattle.register.specs.RegisterCalls.{lent, leaves}
 use Rattle.register.specs.Places.{Plausible, entriesIn}
 use Rattle.register.proofs.Counts.{true-good}
-use Rattle.registers.specs.Leaving.{usedAfter, leaving, heldCheck, registerCheck}
+use Rattle.registers.specs.Leaving.{leaving, heldCheck, registerCheck}
 
 -- ---- what is intact
 

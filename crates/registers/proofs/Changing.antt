@@ -1,21 +1,21 @@
 -- The bytes of changed entries are those of their parts: a count (`recounted`), an entry that goes (`removed`) and one at the end
 -- (`appended`). Assumes nothing.
 use mathlib.Core.Path.{_≡_, refl, ap, ap₂, sym, _∙_, subst}
-use Prim.Native.Nat.{ℕ, zero, suc, _+_, _-_, _≤_, _<_}
+use Prim.Native.Nat.{ℕ, _+_, _-_, _≤_, _<_}
 use native.Mathlib.Omega.{arith}
-use mathlib.Core.Bool.{Bool, true, false}
+use mathlib.Core.Bool.{Bool, false}
 use mathlib.Core.List.{List, [], _∷_, _++_, append-assoc, append-nil}
 use lib.Dec.{eqb}
 use lib.ListN.{length, take, drop, replicate, length-append, length-drop, length-replicate, take-append-drop}
-use lib.Seq.{take-append-seam, take-append-add, drop-append-seam, drop-append-add, drop-append-le, drop-drop, length-take-le}
+use lib.Seq.{take-append-seam, take-append-add, drop-append-seam, drop-append-add, drop-drop}
 use borrow.Author.Tests.{ne-eqb}
 use borrow.Rule.Slice.PartMut.{midOf, putMid, mid-len, drop-put}
-use Rattle.text.specs.Bytes.{pick, sameBytes}
+use Rattle.text.specs.Bytes.{pick}
 use Rattle.text.specs.Call.{laid}
 use Rattle.text.proofs.Bytes.{equal-same}
 use Rattle.register.specs.Entries.{Entry, entry, cost, countIn, recount}
 use Rattle.register.specs.Stored.{u32At, u32, entryBytes, bytesOf, written}
-use Rattle.register.specs.Places.{Narrow, Good, Absent, Stands, Sound, Sits}
+use Rattle.register.specs.Places.{Narrow, Good, Absent, Stands, Sits}
 use Rattle.register.proofs.StoredLaws.{bytes-join, bytes-cost, cost-join, narrow-rest, u32-after, entry-size, entry-count, entry-length}
 use Rattle.register.proofs.Sits.{sits-cost}
 use Rattle.output.proofs.Laid.{laid-length}

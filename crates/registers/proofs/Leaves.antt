@@ -1,5 +1,5 @@
 -- What the changes leave of a register that sits in its buffer: `append-leaves`, `count-leaves`, `remove-leaves`. Assumes nothing.
-use mathlib.Core.Path.{_≡_, refl, ap, ap₂, sym, _∙_, subst}
+use mathlib.Core.Path.{_≡_, ap, sym, _∙_}
 use Prim.Native.Nat.{ℕ, _+_, _-_, _≤_, _<_}
 use native.Mathlib.Omega.{arith}
 use mathlib.Core.List.{List, [], _∷_, _++_}
@@ -8,13 +8,13 @@ use borrow.Rule.Slice.PartMut.{midOf, putMid, mid-len, same-len-mid}
 use Rattle.text.specs.Call.{laid}
 use Rattle.text.specs.declared.Answer.{Answer}
 use Rattle.text.specs.declared.Answer.the-variants.{Done, Refused}
-use Rattle.register.specs.Entries.{Entry, entry, cost, countIn, recount, changed, add, withdraw}
-use Rattle.register.specs.Stored.{u32At, u32, entryBytes, written}
+use Rattle.register.specs.Entries.{Entry, entry, cost, countIn, recount, changed, add}
+use Rattle.register.specs.Stored.{u32At, u32, entryBytes}
 use Rattle.register.specs.RegisterCalls.{leaves}
 use Rattle.register.specs.Places.{Absent, Stands, Sits, Filled, entriesIn}
 use Rattle.register.proofs.StoredLaws.{cost-join}
 use Rattle.register.proofs.Counts.{absent-zero}
-use Rattle.register.proofs.Boundaries.{Boundary, Turn, turn, within, one-cost}
+use Rattle.register.proofs.Boundaries.{Boundary, turn, within, one-cost}
 use Rattle.register.proofs.Sits.{sits-cost}
 use Rattle.output.proofs.Laid.{rest-part, rest-put, laid-length}
 use Rattle.registers.specs.Leaving.{leaving}

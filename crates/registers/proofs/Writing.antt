@@ -1,9 +1,9 @@
 -- Bytes as the code writes them: four of a number (`u32-laid`), an entry (`entry-laid`), those of a gap that is closed (`gap-byte`) and the
 -- whole of a part (`laid-whole`). Assumes nothing.
-use mathlib.Core.Path.{_≡_, refl, ap, ap₂, sym, _∙_, subst}
+use mathlib.Core.Path.{_≡_, refl, ap, sym, _∙_, subst}
 use Prim.Native.Nat.{ℕ, _+_, _-_, _/_, _%_, _≤_, _<_}
 use native.Mathlib.Omega.{arith}
-use mathlib.Core.List.{List, [], _∷_, _++_, append-assoc, append-nil}
+use mathlib.Core.List.{List, [], _∷_, _++_, append-nil}
 use lib.ListN.{length, getD, take, drop, set, replicate, drop-of-length-le, length-replicate, getD-replicate}
 use lib.Seq.{getD-append-add, getD-drop, length-take-le}
 use borrow.Rule.Slice.PartMut.{midOf, putMid}

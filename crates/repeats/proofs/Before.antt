@@ -1,9 +1,8 @@
 -- What `find` answers about the entries before one, as the test `absent`. Assumes nothing.
-use mathlib.Core.Path.{_≡_, refl, ap, sym, _∙_, subst}
+use mathlib.Core.Path.{_≡_, refl, ap, sym, subst}
 use mathlib.Core.Bool.{Bool, true, false, not}
 use mathlib.Core.List.{List, [], _∷_, _++_}
 use Prim.Native.Nat.{ℕ}
-use Rattle.text.specs.Bytes.{sameBytes}
 use Rattle.text.proofs.Bytes.{contrary, equal-same}
 use Rattle.register.specs.Entries.{Entry, entry, absent}
 use Rattle.register.specs.Places.{Absent, Stands}

@@ -1,18 +1,16 @@
 -- No form repeats where none stands before itself (`clear-distinct`), also class by class (`clear-classes`). Assumes nothing.
-use mathlib.Core.Path.{_≡_, refl, ap, sym, _∙_, subst}
-use Prim.Native.Nat.{ℕ, _+_, _-_, _/_, _^_, _≤_, _<_}
+use mathlib.Core.Path.{_≡_, refl, ap, sym, subst}
+use Prim.Native.Nat.{ℕ, _/_, _<_}
 use native.Mathlib.Omega.{arith}
 use mathlib.Core.Bool.{Bool, true, false, not}
 use mathlib.Core.List.{List, [], _∷_, _++_, append-nil}
-use lib.Dec.{eqb}
-use lib.ListN.{length}
 use lib.Seq.{append-snoc}
 use borrow.Author.Tests.{eq-eqb}
 use Rattle.text.specs.Bytes.{sameBytes}
-use Rattle.text.proofs.Bytes.{contrary, same-equal}
+use Rattle.text.proofs.Bytes.{contrary}
 use Rattle.register.specs.Entries.{Entry, absent, distinct}
 use Rattle.register.specs.Places.{Absent, Distinct, entriesIn}
-use Rattle.register.proofs.Counts.{absent-true, true-absent, distinct-true, true-distinct, apart}
+use Rattle.register.proofs.Counts.{true-absent, distinct-true, true-distinct, apart}
 use Rattle.register.proofs.Boundaries.{absent-join}
 use Rattle.repeats.specs.Hash.{hashOf, share, inClass}
 use Rattle.repeats.specs.Filter.{Clear, Passes}

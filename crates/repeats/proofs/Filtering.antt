@@ -1,11 +1,11 @@
 -- The filter: where a scan stands (`Scanned`), that a table which takes up a fingerprint loses none (`meets-set`), and parts (`share-within`).
 -- Assumes nothing.
 use mathlib.Core.Path.{_≡_, refl, ap, sym, _∙_, subst}
-use Prim.Native.Nat.{ℕ, zero, suc, _+_, _-_, _*_, _/_, _%_, _^_, _≤_, _<_}
+use Prim.Native.Nat.{ℕ, zero, suc, _+_, _-_, _*_, _%_, _^_, _≤_, _<_}
 use native.Mathlib.Omega.{arith}
 use native.Mathlib.Nat.{mul-le-mul-right}
 use mathlib.Core.Bool.{Bool, true, false, true≢false}
-use mathlib.Core.List.{List, [], _∷_}
+use mathlib.Core.List.{List}
 use lib.Dec.{eqb}
 use lib.ListN.{length, getD, set, length-set}
 use lib.Seq.{getD-set-same, getD-set-other}
@@ -13,7 +13,7 @@ use borrow.Author.Tests.{eqb-true, eqb-false, eq-eqb, ne-eqb}
 use Rattle.text.specs.Bytes.{pick}
 use Rattle.text.proofs.Bytes.{contrary}
 use Rattle.repeats.specs.Hash.{share}
-use Rattle.repeats.specs.Filter.{meets, Seen, homeOf, printOf, Has, Suspected}
+use Rattle.repeats.specs.Filter.{meets, Seen, homeOf, printOf, Suspected}
 
 -- ---- parts
 

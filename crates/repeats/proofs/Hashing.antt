@@ -1,15 +1,13 @@
 -- The hash of a form, as its loops make it (`joining`, `mixing`), and that it is a word (`hash-word`). Assumes nothing.
-use mathlib.Core.Path.{_≡_, refl, ap, ap₂, sym, _∙_, subst}
-use Prim.Native.Nat.{ℕ, zero, suc, _+_, _-_, _*_, _/_, _%_, _^_, _≤_, _<_}
+use mathlib.Core.Path.{_≡_, refl, ap}
+use Prim.Native.Nat.{ℕ, suc, _+_, _-_, _*_, _/_, _%_, _^_, _≤_, _<_}
 use native.Mathlib.Omega.{arith}
 use native.Mathlib.Numerals.{add-one}
-use mathlib.Core.Bool.{Bool, true, false}
-use mathlib.Core.List.{List, [], _∷_}
+use mathlib.Core.List.{List}
 use lib.Dec.{ltb}
 use lib.ListN.{length, getD, drop, drop-of-length-le}
 use lib.Seq.{drop-cons}
 use borrow.Author.Tests.{lt-ltb, le-ltb}
-use Rattle.text.specs.Bytes.{pick}
 use Rattle.text.specs.Blocks.{wordAt}
 use Rattle.text.proofs.Bytes.{pick-both}
 use Rattle.repeats.specs.Hash.{mix, joined, mixed, lastWord, hashShort, hashLong, hashOf}

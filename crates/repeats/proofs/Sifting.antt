@@ -1,22 +1,21 @@
 -- A pass over the forms of one class: the table has those before (`Sifting`), one entry more (`sift-on`), the end (`sift-all`); and a pass
 -- over all forms without a table (`Comparing`). Assumes nothing.
 use mathlib.Core.Path.{_≡_, refl, ap, ap₂, sym, _∙_, subst}
-use Prim.Native.Nat.{ℕ, _+_, _-_, _≤_, _<_}
+use Prim.Native.Nat.{ℕ, _+_, _≤_}
 use native.Mathlib.Omega.{arith}
-use mathlib.Core.Bool.{Bool, true, false, not}
-use mathlib.Core.List.{List, [], _∷_, _++_, append-nil}
+use mathlib.Core.Bool.{Bool, true, false}
+use mathlib.Core.List.{List, [], _∷_, _++_}
 use lib.ListN.{length, take, drop}
-use borrow.Author.Tests.{not-true, not-false}
 use Rattle.text.specs.Bytes.{sameBytes}
 use Rattle.text.proofs.Bytes.{contrary, same-equal}
 use Rattle.register.specs.Entries.{Entry, cost, absent, distinct}
 use Rattle.register.specs.Stored.{u32At}
-use Rattle.register.specs.Places.{Absent, Filled, Whole, entriesIn}
+use Rattle.register.specs.Places.{Filled, entriesIn}
 use Rattle.register.proofs.Counts.{absent-true, true-absent}
-use Rattle.register.proofs.Boundaries.{Boundary, start, next, Turn, turn, turn-whole, front-filled, finished, within, absent-join}
+use Rattle.register.proofs.Boundaries.{Boundary, start, next, Turn, front-filled, within, absent-join}
 use Rattle.repeats.specs.Hash.{hashOf, inClass}
-use Rattle.repeats.specs.Filter.{Has, formAt, Clear, Sifted, Passes}
-use Rattle.repeats.proofs.Clearing.{anyForm, stands-repeats, clear-distinct}
+use Rattle.repeats.specs.Filter.{Has, formAt, Clear, Sifted}
+use Rattle.repeats.proofs.Clearing.{stands-repeats}
 
 -- ---- over any test of forms: what is left to look through decides
 

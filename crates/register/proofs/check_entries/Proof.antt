@@ -1,5 +1,5 @@
 -- `check_entries` keeps `Checking`: an entry more at each turn, or its fault.
-use mathlib.Core.Path.{sym, subst}
+use mathlib.Core.Path.{subst}
 use native.Mathlib.Omega.{arith}
 use borrow.Author.Needs.{needs}
 use Prim.Native.Nat.{_-_}

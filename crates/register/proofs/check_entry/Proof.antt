@@ -1,10 +1,10 @@
 -- `check_entry`: an entry that is cut (`spoiled-cut`), has no count or is no UTF-8 is a fault; else it is good.
-use mathlib.Core.Path.{_≡_, sym, ap, ap₂, _∙_}
+use mathlib.Core.Path.{_≡_, sym, ap, _∙_}
 use native.Mathlib.Omega.{arith}
 use borrow.Author.Needs.{needs}
-use Prim.Native.Nat.{ℕ, _+_, _-_, _≤_}
+use Prim.Native.Nat.{ℕ, _+_, _-_}
 use mathlib.Core.List.{List}
-use lib.ListN.{length, take, drop}
+use lib.ListN.{take, drop}
 use Rattle.text.specs.Utf8.{wellFormed}
 use Rattle.register.specs.Stored.{u32At}
 use Rattle.register.specs.Places.{Whole}

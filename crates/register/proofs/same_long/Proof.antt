@@ -1,7 +1,7 @@
 -- `same_long` keeps `Alike`, eight bytes further at each turn; the last word, which may overlap, decides (`last-word`).
-use mathlib.Core.Path.{_≡_, refl, sym, ap₂, _∙_}
+use mathlib.Core.Path.{sym, ap₂, _∙_}
 use native.Mathlib.Omega.{arith}
-use Prim.Native.Nat.{ℕ, _-_, _+_, _≤_}
+use Prim.Native.Nat.{_-_}
 use lib.Dec.{eqb}
 use lib.ListN.{length}
 use Rattle.register.specs.Places.{Small, Alike}

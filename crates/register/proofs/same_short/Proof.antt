@@ -1,7 +1,6 @@
 -- `same_short` keeps `Alike`, a byte further at each turn.
 use native.Mathlib.Omega.{arith}
-use Prim.Native.Nat.{_-_, _≤_}
-use mathlib.Core.Path.{_≡_}
+use Prim.Native.Nat.{_-_}
 use lib.ListN.{length}
 use Rattle.register.specs.Places.{Alike}
 use Rattle.register.proofs.Comparing.{differ-at, alike-none, alike-more, alike-all}

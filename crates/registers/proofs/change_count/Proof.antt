@@ -1,6 +1,4 @@
 -- `change_count`: the four bytes of the count are written (`count-leaves`).
-use mathlib.Core.List.{List}
-use Prim.Native.Nat.{ℕ}
 use lib.ListN.{take}
 use Rattle.register.specs.Places.{entriesIn}
 use Rattle.registers.proofs.Leaves.{count-leaves}

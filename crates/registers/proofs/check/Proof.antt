@@ -1,5 +1,5 @@
 -- `check`: the checks of the form, then that of the register.
-use mathlib.Core.Path.{_≡_, sym, _∙_}
+use mathlib.Core.Path.{sym, _∙_}
 use Rattle.text.proofs.Call.{stops, goes-on}
 use Rattle.registers.specs.Leaving.{heldCheck}
 use Rattle.registers.proofs.Answering.{held-passes, held-refuses}

@@ -1,7 +1,7 @@
 -- `close_gap` keeps: the first i of the moved bytes are laid over the part (`Laying`); none of those to come was written over (`gap-next`).
 use Prim.Native.Nat.{_-_}
 use native.Mathlib.Omega.{arith}
-use lib.ListN.{length, drop, length-drop}
+use lib.ListN.{drop, length-drop}
 use Rattle.output.proofs.Laid.{Laying, laying-none, laying-all}
 use Rattle.registers.proofs.Writing.{gap-next}
 use Rattle.registers.proofs.close_gap.Statement.{statement}

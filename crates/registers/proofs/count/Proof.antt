@@ -1,12 +1,12 @@
 -- `count`: the checks, then the form is looked for in the used bytes.
 use mathlib.Core.Path.{_≡_, refl, sym, ap, _∙_}
-use mathlib.Core.List.{List, [], _∷_}
+use mathlib.Core.List.{[], _∷_}
 use Prim.Native.Nat.{ℕ}
 use mathlib.Core.Bool.{true}
 use native.Mathlib.Omega.{arith}
 use lib.ListN.{take}
 use lib.Seq.{length-take-le}
-use Rattle.text.specs.Call.{Called, called, callOf}
+use Rattle.text.specs.Call.{called, callOf}
 use Rattle.text.specs.declared.Answer.{Answer}
 use Rattle.register.specs.Stored.{intact, register}
 use Rattle.register.specs.RegisterCalls.{counted, countCall}

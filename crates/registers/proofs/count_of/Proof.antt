@@ -1,5 +1,5 @@
 -- `count_of`: a form that is not found has the count 0; else its count stands four bytes after its entry's start.
-use mathlib.Core.Path.{_≡_, sym, subst, _∙_}
+use mathlib.Core.Path.{sym, subst, _∙_}
 use native.Mathlib.Omega.{arith}
 use Rattle.register.specs.Places.{Finds, Stands, entriesIn}
 use Rattle.register.proofs.Counts.{absent-zero}

@@ -1,5 +1,5 @@
 -- `is_register`: a fault, or entries without a fault, of which no form repeats (`plausible-sound`).
-use mathlib.Core.Path.{_≡_, sym, ap, subst, _∙_}
+use mathlib.Core.Path.{sym, ap, subst, _∙_}
 use mathlib.Core.Bool.{not}
 use Rattle.register.specs.Places.{Checks, Plausible}
 use Rattle.registers.proofs.Answering.{plausible-sound}

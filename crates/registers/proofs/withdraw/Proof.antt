@@ -1,10 +1,9 @@
 -- `withdraw`: the checks, then the change.
 use mathlib.Core.Path.{_≡_, refl, sym, ap, _∙_}
-use mathlib.Core.List.{List, [], _∷_}
+use mathlib.Core.List.{[]}
 use mathlib.Core.Bool.{true}
-use Prim.Native.Nat.{ℕ}
 use native.Mathlib.Omega.{arith}
-use lib.ListN.{length, take}
+use lib.ListN.{take}
 use Rattle.text.specs.Call.{Called, called}
 use Rattle.text.specs.declared.Answer.{Answer}
 use Rattle.register.specs.Entries.{withdraw}

@@ -3,7 +3,6 @@ use mathlib.Core.Path.{_≡_, refl, ap, ap₂, sym, _∙_}
 use Prim.Native.Nat.{ℕ, _+_, _-_}
 use native.Mathlib.Omega.{arith}
 use lib.ListN.{length}
-use Rattle.text.specs.Blocks.{wordAt}
 use Rattle.repeats.specs.Hash.{mix, mixed, lastWord, hashLong}
 use Rattle.repeats.proofs.Hashing.{words, mixed-on, mixed-all, mixed-start}
 use Rattle.repeats.proofs.hash_long.Statement.{statement}

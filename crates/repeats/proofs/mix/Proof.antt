@@ -1,5 +1,5 @@
 -- `mix`: both sums wrap as the definition has it.
-use mathlib.Core.Path.{_≡_, ap, _∙_}
+use mathlib.Core.Path.{ap, _∙_}
 use Prim.Native.Nat.{ℕ, _+_, _*_, _/_, _%_, _^_}
 use borrow.Author.Needs.{needs}
 use Rattle.repeats.specs.Hash.{mix}

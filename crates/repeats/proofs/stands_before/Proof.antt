@@ -1,13 +1,11 @@
 -- `stands_before`: the bytes before the entry are looked through for its form.
-use mathlib.Core.Path.{_≡_, refl, ap, ap₂, sym, _∙_, subst}
-use mathlib.Core.Bool.{Bool, true, false, not}
+use mathlib.Core.Path.{_≡_, sym, subst}
 use mathlib.Core.List.{List}
 use Prim.Native.Nat.{ℕ, _+_, _-_}
 use native.Mathlib.Omega.{arith}
 use borrow.Author.Needs.{needs}
-use lib.ListN.{length, take, drop}
+use lib.ListN.{take, drop}
 use lib.Seq.{length-take-le}
-use Rattle.register.specs.Entries.{absent}
 use Rattle.register.specs.Stored.{u32At}
 use Rattle.register.specs.Places.{entriesIn, Finds}
 use Rattle.repeats.specs.Filter.{formAt}

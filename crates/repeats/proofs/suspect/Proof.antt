@@ -1,5 +1,5 @@
 -- `suspect`: the place and the fingerprint are parts of the hash (`suspected`).
-use mathlib.Core.Path.{_≡_, refl}
+use mathlib.Core.Path.{refl}
 use native.Mathlib.Omega.{arith}
 use borrow.Author.Needs.{needs}
 use Rattle.repeats.proofs.Filtering.{suspected}
