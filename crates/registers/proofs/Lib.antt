@@ -2,3 +2,4 @@ pub mod Changing
 pub mod Answering
 pub mod Writing
 pub mod Leaves
+pub mod Storing
