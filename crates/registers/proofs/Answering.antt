@@ -1,20 +1,19 @@
--- The answers of the calls on a register: the checks one after the other (`check-refused`, `check-done`) and the changes. Assumes nothing.
-use mathlib.Core.Path.{_≡_, refl, ap, ap₂, sym, _∙_}
-use Prim.Native.Nat.{ℕ, _+_, _-_, _≤_, _<_}
+-- The checks of the calls on a register, one after the other: `check-refused`, `check-done`. Assumes nothing.
+use mathlib.Core.Path.{_≡_, refl, ap, sym, _∙_}
+use Prim.Native.Nat.{ℕ, _≤_, _<_}
 use native.Mathlib.Omega.{arith}
 use mathlib.Core.Bool.{Bool, true, false, not}
-use mathlib.Core.List.{List, [], _∷_, _++_}
+use mathlib.Core.List.{List, [], _∷_}
 use lib.ListN.{length, take}
-use borrow.Author.Tests.{le-leb, lt-leb, lt-ltb, le-ltb, eq-eqb, ne-eqb}
+use borrow.Author.Tests.{le-leb, lt-leb}
 use Rattle.text.specs.Call.{Called, called, andThen, guarded, textCheck}
 use Rattle.text.specs.declared.Answer.{Answer}
 use Rattle.text.specs.declared.Answer.the-variants.{Done, Refused}
-use Rattle.register.specs.Entries.{Entry, entry, cost, countIn, recount, largestCount, Change, changed, refused, add, withdraw, good, distinct}
-use Rattle.register.specs.Stored.{Held, holds, damaged, entries, sound, intact, register, written}
-use Rattle.register.specs.RegisterCalls.{lent, leaves}
+use Rattle.register.specs.Entries.{good, distinct}
+use Rattle.register.specs.Stored.{Held, holds, damaged, entries, sound, intact, register}
 use Rattle.register.specs.Places.{Plausible, entriesIn}
 use Rattle.register.proofs.Counts.{true-good}
-use Rattle.registers.specs.Leaving.{leaving, heldCheck, registerCheck}
+use Rattle.registers.specs.Guarding.{heldCheck, registerCheck}
 
 -- ---- what is intact
 
@@ -85,39 +84,3 @@ module _ (buffer : List ℕ) (used : ℕ) (buffers : List (List ℕ)) where
   pub check-done : (form : List ℕ) (rest : Called) {first second : ℕ} → registerCheck form buffer used ≡ Done first second
       → (intact buffer used ≡ true) × (rest ≡ guarded (textCheck form) buffers rest)
   check-done form rest e = done-by rest (textCheck form) e
-
--- ---- changes
-
--- the same change, said otherwise
-pub left-as : (buffer : List ℕ) (used : ℕ) {l : Called} {x y : Change} → l ≡ leaves buffer used x → y ≡ x → l ≡ leaves buffer used y
-left-as buffer used e q = e ∙ sym (ap (leaves buffer used) q)
-
-pub leaving-changed : (buffer : List ℕ) (used n : ℕ) (new : List Entry) {after : List ℕ} {second : ℕ} → second ≡ cost new → after ≡ written used new buffer
-    → leaving (Done n second) used after ≡ leaves buffer used (changed n new)
-leaving-changed buffer used n new e q = ap₂ (λ (c : ℕ) (b : List ℕ). called 0 (n ∷ c ∷ []) (lent b c)) e q
-
-module _ (size : ℕ) (f : List ℕ) (es : List Entry) where
-  pub add-room : countIn f es ≡ 0 → cost es + (8 + length f) ≤ size → add size f es ≡ changed 1 (es ++ (entry f 1 ∷ []))
-  unfolding add
-  add-room z h = rw (eq-eqb (countIn f es) 0 z, le-ltb size (cost es + (8 + length f)) h) refl
-
-  pub add-no-room : countIn f es ≡ 0 → size < cost es + (8 + length f) → add size f es ≡ refused 30
-  unfolding add
-  add-no-room z h = rw (eq-eqb (countIn f es) 0 z, lt-ltb size (cost es + (8 + length f)) h) refl
-
-  pub add-more : (n : ℕ) → countIn f es ≡ n → 0 < n → n < largestCount → add size f es ≡ changed (n + 1) (recount f (n + 1) es)
-  unfolding add
-  add-more n e z h = rw (e, ne-eqb n 0 (λ q. omega (arith, q)), lt-ltb n largestCount h) refl
-
-  pub add-full : (n : ℕ) → countIn f es ≡ n → 0 < n → largestCount ≤ n → add size f es ≡ refused 30
-  unfolding add
-  add-full n e z h = rw (e, ne-eqb n 0 (λ q. omega (arith, q)), le-ltb n largestCount h) refl
-
-module _ (f : List ℕ) (es : List Entry) where
-  pub withdraw-absent : countIn f es ≡ 0 → withdraw f es ≡ refused 29
-  unfolding withdraw
-  withdraw-absent z = rw (eq-eqb (countIn f es) 0 z) refl
-
-  pub withdraw-one : (n : ℕ) → countIn f es ≡ n → 0 < n → withdraw f es ≡ changed (n - 1) (recount f (n - 1) es)
-  unfolding withdraw
-  withdraw-one n e z = rw (e, ne-eqb n 0 (λ q. omega (arith, q))) refl

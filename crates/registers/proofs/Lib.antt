@@ -1,5 +1,3 @@
-pub mod Changing
 pub mod Answering
-pub mod Writing
-pub mod Leaves
+pub mod Counting
 pub mod Storing

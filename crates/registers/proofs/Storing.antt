@@ -5,7 +5,7 @@ use Prim.Native.Nat.{ℕ}
 use Rattle.text.specs.Call.{Called, called, callOf}
 use Rattle.text.specs.declared.Answer.{Answer}
 use Rattle.register.specs.RegisterCalls.{lent}
-use Rattle.registers.specs.Leaving.{usedAfter, leaving}
+use Rattle.changes.specs.Leaving.{usedAfter, leaving}
 
 pub stored : (result : Answer) (used : ℕ) {number after : ℕ} {words buffer : List ℕ} {call : Called}
     → ((buffers : List (List ℕ)) → called number words buffers ≡ callOf result buffers) → after ≡ usedAfter result used

@@ -11,7 +11,7 @@ use Rattle.register.specs.Stored.{Held, intact, register}
 use Rattle.register.specs.RegisterCalls.{lent, leaves, ofHeld, addCall}
 use Rattle.register.specs.Places.{Sits, entriesIn}
 use Rattle.register.proofs.Sits.{intact-sits, intact-holds}
-use Rattle.registers.specs.Leaving.{leaving}
+use Rattle.changes.specs.Leaving.{leaving}
 use Rattle.registers.proofs.Answering.{check-refused, check-done}
 use borrow.Author.Needs.{needs}
 use Rattle.registers.proofs.add.Statement.{statement}
@@ -60,8 +60,8 @@ returns c =
     ap (λ (r : Answer). leaving r (a .used) (a .buffer .now)) told
     ∙ check-refused (a .buffer .now) (a .used) (lent (a .buffer .now) (a .used)) (call s) refl (a .form .now) (sym (k .check .ensures) ∙ told)
 
-add-form-requires : tie.Need-add-form-requires
-add-form-requires c κs = sits (c .before)
+add-requires : tie.Need-add-requires
+add-requires c κs = sits (c .before)
 
 same-length-2 : tie.Need-same-length-2
 same-length-2 c = search needs
@@ -72,7 +72,7 @@ returns-2 c =
     let k = c .before .before in
     let t = k .before .before in
     let a = entry t .args in
-    k .add-form .ensures ∙ sym (ap (call (entry t)) (intact-holds (a .buffer .now) (a .used) (whole t)))
+    k .add .ensures ∙ sym (ap (call (entry t)) (intact-holds (a .buffer .now) (a .used) (whole t)))
     ∙ check-done (a .buffer .now) (a .used) (lent (a .buffer .now) (a .used)) (a .form .now) (call (entry t) (register (a .buffer .now) (a .used)))
     (sym (t .before .before .check .ensures) ∙ t .enum-told .given .1) .1
 
@@ -85,6 +85,6 @@ add-spec =
     enum-told-2
     same-length
     returns
-    add-form-requires
+    add-requires
     same-length-2
     returns-2)

@@ -1,7 +1,7 @@
 -- `check`: the checks of the form, then that of the register.
 use mathlib.Core.Path.{sym, _∙_}
 use Rattle.text.proofs.Call.{stops, goes-on}
-use Rattle.registers.specs.Leaving.{heldCheck}
+use Rattle.registers.specs.Guarding.{heldCheck}
 use Rattle.registers.proofs.Answering.{held-passes, held-refuses}
 use borrow.Author.Needs.{needs}
 use Rattle.registers.proofs.check.Statement.{statement}

@@ -3,7 +3,7 @@ use mathlib.Core.Path.{sym, subst, _∙_}
 use native.Mathlib.Omega.{arith}
 use Rattle.register.specs.Places.{Finds, Stands, entriesIn}
 use Rattle.register.proofs.Counts.{absent-zero}
-use Rattle.registers.proofs.Leaves.{filled-fits, filled-count}
+use Rattle.registers.proofs.Counting.{filled-fits, filled-count}
 use borrow.Author.Needs.{needs}
 use Rattle.registers.proofs.count_of.Statement.{statement}
 use Rattle.registers.proofs.count_of.Tie as tie

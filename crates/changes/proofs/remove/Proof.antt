@@ -6,9 +6,9 @@ use borrow.Author.Needs.{needs}
 use lib.ListN.{take}
 use Rattle.register.specs.Stored.{u32At}
 use Rattle.register.specs.Places.{entriesIn}
-use Rattle.registers.proofs.Leaves.{remove-leaves}
-use Rattle.registers.proofs.remove.Statement.{statement}
-use Rattle.registers.proofs.remove.Tie as tie
+use Rattle.changes.proofs.Leaves.{remove-leaves}
+use Rattle.changes.proofs.remove.Statement.{statement}
+use Rattle.changes.proofs.remove.Tie as tie
 
 end-at-requires : tie.Need-end-at-requires
 end-at-requires c κs = search needs

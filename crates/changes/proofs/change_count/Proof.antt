@@ -1,10 +1,10 @@
 -- `change_count`: the four bytes of the count are written (`count-leaves`).
 use lib.ListN.{take}
 use Rattle.register.specs.Places.{entriesIn}
-use Rattle.registers.proofs.Leaves.{count-leaves}
+use Rattle.changes.proofs.Leaves.{count-leaves}
 use borrow.Author.Needs.{needs}
-use Rattle.registers.proofs.change_count.Statement.{statement}
-use Rattle.registers.proofs.change_count.Tie as tie
+use Rattle.changes.proofs.change_count.Statement.{statement}
+use Rattle.changes.proofs.change_count.Tie as tie
 
 add-put-u32 : tie.Need-add-put-u32
 add-put-u32 c = search needs

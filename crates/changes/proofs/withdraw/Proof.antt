@@ -1,4 +1,4 @@
--- `withdraw_form`: a form that is not found is refused; else its count is one less, and at 1 its entry goes.
+-- `withdraw`: a form that is not found is refused; else its count is one less, and at 1 its entry goes.
 use mathlib.Core.Path.{_≡_, refl, sym, ap, subst, _∙_}
 use mathlib.Core.List.{List}
 use Prim.Native.Nat.{_+_, _≤_}
@@ -10,11 +10,11 @@ use Rattle.text.specs.declared.Answer.{Answer}
 use Rattle.register.specs.Entries.{Entry, countIn}
 use Rattle.register.specs.Places.{Finds, Stands}
 use Rattle.register.proofs.Counts.{absent-zero}
-use Rattle.registers.specs.Leaving.{leaving, present}
-use Rattle.registers.proofs.Changing.{stands-fits, stands-size, stands-number, stands-is, stands-some}
-use Rattle.registers.proofs.Answering.{left-as, withdraw-absent, withdraw-one}
-use Rattle.registers.proofs.withdraw_form.Statement.{statement}
-use Rattle.registers.proofs.withdraw_form.Tie as tie
+use Rattle.changes.specs.Leaving.{leaving, present}
+use Rattle.changes.proofs.Changing.{stands-fits, stands-size, stands-number, stands-is, stands-some}
+use Rattle.changes.proofs.Cases.{left-as, withdraw-absent, withdraw-one}
+use Rattle.changes.proofs.withdraw.Statement.{statement}
+use Rattle.changes.proofs.withdraw.Tie as tie
 
 -- places: the entry was found
 abbrev Known : Type 0
@@ -137,8 +137,8 @@ returns-3 c =
     left-as (s .args .buffer .now) (s .args .used) (k .change-count .ensures (s .args .form .now) (s .pre) (stands (u .before .before)))
     (withdraw-one (s .args .form .now) (held s) (u .u32-at .result) (is u) (some u))
 
-pub withdraw-form-spec : {M : Type 1} → statement M
-withdraw-form-spec =
+pub withdraw-spec : {M : Type 1} → statement M
+withdraw-spec =
     tie.close
     (tie.spec
     slice-reshare-prefix-find

@@ -2,10 +2,10 @@
 use native.Mathlib.Omega.{arith}
 use lib.ListN.{take}
 use Rattle.register.specs.Places.{entriesIn}
-use Rattle.registers.proofs.Leaves.{append-refuses, append-leaves}
+use Rattle.changes.proofs.Leaves.{append-refuses, append-leaves}
 use borrow.Author.Needs.{needs}
-use Rattle.registers.proofs.append.Statement.{statement}
-use Rattle.registers.proofs.append.Tie as tie
+use Rattle.changes.proofs.append.Statement.{statement}
+use Rattle.changes.proofs.append.Tie as tie
 
 sub-if1 : tie.Need-sub-if1
 sub-if1 c = search needs

@@ -1,8 +1,8 @@
 -- `put_entry`: length, count and form, one after the other (`entry-laid`).
-use Rattle.registers.proofs.Writing.{entry-laid}
+use Rattle.changes.proofs.Writing.{entry-laid}
 use borrow.Author.Needs.{needs}
-use Rattle.registers.proofs.put_entry.Statement.{statement}
-use Rattle.registers.proofs.put_entry.Tie as tie
+use Rattle.changes.proofs.put_entry.Statement.{statement}
+use Rattle.changes.proofs.put_entry.Tie as tie
 
 put-u32-requires : tie.Need-put-u32-requires
 put-u32-requires c κs = search needs

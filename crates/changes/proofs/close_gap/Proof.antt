@@ -3,9 +3,9 @@ use Prim.Native.Nat.{_-_}
 use native.Mathlib.Omega.{arith}
 use lib.ListN.{drop, length-drop}
 use Rattle.output.proofs.Laid.{Laying, laying-none, laying-all}
-use Rattle.registers.proofs.Writing.{gap-next}
-use Rattle.registers.proofs.close_gap.Statement.{statement}
-use Rattle.registers.proofs.close_gap.Tie as tie
+use Rattle.changes.proofs.Writing.{gap-next}
+use Rattle.changes.proofs.close_gap.Statement.{statement}
+use Rattle.changes.proofs.close_gap.Tie as tie
 
 abbrev Inv-loop : tie.InvT-loop
 Inv-loop bytes₀ gap kept i₀ bytes i = Laying (drop gap bytes₀) bytes₀ bytes i

@@ -3,12 +3,10 @@ use Prim.Native.Nat.{ℕ}
 use mathlib.Core.Path.{_≡_}
 use mathlib.Core.List.{List}
 use lib.ListN.{take}
-use Rattle.text.specs.Bytes.{pick}
-use Rattle.text.specs.Call.{Called, callOf, andThen, textCheck, passed}
+use Rattle.text.specs.Call.{Called, callOf}
 use Rattle.text.specs.declared.Answer.{Answer}
 use Rattle.text.specs.declared.Answer.the-variants.{Done, Refused}
 use Rattle.register.specs.Entries.{Entry, Change, changed, recount}
-use Rattle.register.specs.Stored.{intact}
 use Rattle.register.specs.RegisterCalls.{lent, leaves}
 use Rattle.register.specs.Places.{Stands, Sits, entriesIn}
 
@@ -19,15 +17,6 @@ usedAfter (Refused number first second) used = used
 
 abbrev pub leaving : Answer → ℕ → List ℕ → Called
 leaving r used buffer = callOf r (lent buffer (usedAfter r used))
-
--- K10: refusal 28
-unfoldable pub heldCheck : List ℕ → ℕ → Answer
-unfolding intact
-heldCheck buffer used = pick (intact buffer used) passed (Refused 28 0 0)
-
--- K10: 1 and 5 of the form, then 28
-abbrev pub registerCheck : List ℕ → List ℕ → ℕ → Answer
-registerCheck form buffer used = andThen (textCheck form) (heldCheck buffer used)
 
 -- ---- terms in which the changes are proved; no promise of a call rests on these
 

@@ -3,9 +3,9 @@ use Prim.Native.Nat.{_-_}
 use native.Mathlib.Omega.{arith}
 use lib.ListN.{length, replicate}
 use Rattle.output.proofs.Laid.{Laying, laying-none}
-use Rattle.registers.proofs.Writing.{zero-next, zero-all}
-use Rattle.registers.proofs.clear.Statement.{statement}
-use Rattle.registers.proofs.clear.Tie as tie
+use Rattle.changes.proofs.Writing.{zero-next, zero-all}
+use Rattle.changes.proofs.clear.Statement.{statement}
+use Rattle.changes.proofs.clear.Tie as tie
 
 abbrev Inv-loop : tie.InvT-loop
 Inv-loop out₀ i₀ i-end out i = Laying (replicate (length out₀) 0) out₀ out i

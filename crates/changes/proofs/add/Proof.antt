@@ -1,4 +1,4 @@
--- `add_form`: a form that is not found goes to the end; else its count is one more, if that is not the largest.
+-- `add`: a form that is not found goes to the end; else its count is one more, if that is not the largest.
 use mathlib.Core.Path.{_≡_, refl, sym, ap, subst, _∙_}
 use mathlib.Core.List.{List}
 use Prim.Native.Nat.{_+_, _≤_}
@@ -9,11 +9,11 @@ use lib.Seq.{length-take-le}
 use Rattle.text.specs.declared.Answer.{Answer}
 use Rattle.register.specs.Entries.{Entry, countIn}
 use Rattle.register.specs.Places.{Finds, Stands}
-use Rattle.registers.specs.Leaving.{leaving, present}
-use Rattle.registers.proofs.Changing.{stands-fits, stands-number, stands-is, stands-some}
-use Rattle.registers.proofs.Answering.{left-as, add-more, add-full}
-use Rattle.registers.proofs.add_form.Statement.{statement}
-use Rattle.registers.proofs.add_form.Tie as tie
+use Rattle.changes.specs.Leaving.{leaving, present}
+use Rattle.changes.proofs.Changing.{stands-fits, stands-number, stands-is, stands-some}
+use Rattle.changes.proofs.Cases.{left-as, add-more, add-full}
+use Rattle.changes.proofs.add.Statement.{statement}
+use Rattle.changes.proofs.add.Tie as tie
 
 -- places: the entry was found
 abbrev Known : Type 0
@@ -123,8 +123,8 @@ returns-3 c =
     left-as (s .args .buffer .now) (s .args .used) (k .change-count .ensures (s .args .form .now) (s .pre) (stands (u .before .before)))
     (add-more size (s .args .form .now) (held s) (u .u32-at .result) (is u) (some u) (omega (arith, k .before .before .if1 .left, u .u32-at .ensures .1)))
 
-pub add-form-spec : {M : Type 1} → statement M
-add-form-spec =
+pub add-spec : {M : Type 1} → statement M
+add-spec =
     tie.close
     (tie.spec
     slice-reshare-prefix-find

@@ -2,10 +2,10 @@
 use native.Mathlib.Omega.{arith}
 use lib.ListN.{set}
 use lib.Seq.{lt-length-set}
-use Rattle.registers.proofs.Writing.{u32-laid}
+use Rattle.changes.proofs.Writing.{u32-laid}
 use borrow.Author.Needs.{needs}
-use Rattle.registers.proofs.put_u32.Statement.{statement}
-use Rattle.registers.proofs.put_u32.Tie as tie
+use Rattle.changes.proofs.put_u32.Statement.{statement}
+use Rattle.changes.proofs.put_u32.Tie as tie
 
 low-byte-requires : tie.Need-low-byte-requires
 low-byte-requires c κs = search needs

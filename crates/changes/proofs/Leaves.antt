@@ -8,41 +8,18 @@ use borrow.Rule.Slice.PartMut.{midOf, putMid, mid-len, same-len-mid}
 use Rattle.text.specs.Call.{laid}
 use Rattle.text.specs.declared.Answer.{Answer}
 use Rattle.text.specs.declared.Answer.the-variants.{Done, Refused}
-use Rattle.register.specs.Entries.{Entry, entry, cost, countIn, recount, changed, add}
+use Rattle.register.specs.Entries.{Entry, entry, cost, recount, changed, add}
 use Rattle.register.specs.Stored.{u32At, u32, entryBytes}
 use Rattle.register.specs.RegisterCalls.{leaves}
-use Rattle.register.specs.Places.{Absent, Stands, Sits, Filled, entriesIn}
+use Rattle.register.specs.Places.{Absent, Stands, Sits}
 use Rattle.register.proofs.StoredLaws.{cost-join}
 use Rattle.register.proofs.Counts.{absent-zero}
-use Rattle.register.proofs.Boundaries.{Boundary, turn, within, one-cost}
+use Rattle.register.proofs.Boundaries.{within, one-cost}
 use Rattle.register.proofs.Sits.{sits-cost}
 use Rattle.output.proofs.Laid.{rest-part, rest-put, laid-length}
-use Rattle.registers.specs.Leaving.{leaving}
-use Rattle.registers.proofs.Changing.{appended, recounted, recounted-is, recounted-cost, removed-by, removed-is, removed-cost, stands-fits, stands-size, stands-count}
-use Rattle.registers.proofs.Answering.{leaving-changed, add-room, add-no-room}
-
--- ---- the entry of a form in bytes that are filled
-
-module _ (bytes : List ℕ) (f : Filled bytes) {form : List ℕ} {at : ℕ} (s : Stands form (entriesIn bytes) at) where
-  place : Boundary (entriesIn bytes) at
-  place = record { before = s .before; rest = entry form (s .count) ∷ s .after; is = s .is; place = s .place }
-
-  pub filled-fits : at + 8 ≤ length bytes
-  unfolding place cost
-  filled-fits = omega (arith, within f place)
-
-  pub filled-count : u32At bytes (at + 4) ≡ countIn form (entriesIn bytes)
-  unfolding place
-  filled-count =
-      let t = turn f place (omega (arith, filled-fits)) in
-      let q : entry form (s .count) ≡ t .one = same-head (t .is) in
-      t .count ∙ ap (λ (e : Entry). e .count) (sym q)
-      ∙ sym (ap (countIn form) (s .is) ∙ stands-count form (s .count) (s .before) (s .after) (s .others))
-    where
-      same-head : {a b : Entry} {xs ys : List Entry} → a ∷ xs ≡ b ∷ ys → a ≡ b
-      same-head e = cc
-
--- ---- changes
+use Rattle.changes.specs.Leaving.{leaving}
+use Rattle.changes.proofs.Changing.{appended, recounted, recounted-is, recounted-cost, removed-by, removed-is, removed-cost, stands-fits, stands-size}
+use Rattle.changes.proofs.Cases.{leaving-changed, add-room, add-no-room}
 
 module _ (buffer : List ℕ) (used : ℕ) (es : List Entry) (h : Sits buffer used es) where
   pub append-refuses : (form : List ℕ) {r : Answer} → r ≡ Refused 30 0 0 → Absent form es → length buffer < used + 8 + length form

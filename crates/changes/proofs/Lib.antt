@@ -1,0 +1,4 @@
+pub mod Changing
+pub mod Cases
+pub mod Writing
+pub mod Leaves
