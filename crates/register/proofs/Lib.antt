@@ -2,6 +2,7 @@ pub mod StoredLaws
 pub mod Counts
 pub mod Sits
 pub mod Replays
+pub mod Keeping
 pub mod Comparing
 pub mod Boundaries
 pub mod Checking
