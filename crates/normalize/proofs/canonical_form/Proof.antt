@@ -64,12 +64,14 @@ slice-aggregate-canonical-into c =
 
 canonical-into-requires : tie.Need-canonical-into-requires
 canonical-into-requires c κs =
-    let f = value-filled (c .before .before .before .before) in
-    let begin = c .before .before .before .before .before .before .before .before .before .before .before .before .before .before .before in
+    let known = c .before .before .before .before in
+    let walked = walk known in
+    let begin = entry walked in
     let a = begin .args in
-    let short = call-short (a .wanted) (a .list .now) (a .pool .now) (a .text .now) (f .whole)
-    (λ k. omega (arith, c .before .before .before .before .before .before .before .before .before .before .before .before .before .shared-slice-known2 .given k)) (begin .pre .1 .0) (begin .pre .1 .1) in
-    omega (arith, length-take (c .before .before .before .before .filled .given .0 .0) (c .before .before .before .before .before .before .before .before .normalized .last .1 .1 .1 .1 .1 .0), short, f .size)
+    let f = value-filled known in
+    let bytes = walked .before .before .before .before .before .shared-slice-known2 in
+    let short = call-short (a .wanted) (a .list .now) (a .pool .now) (a .text .now) (f .whole) (λ k. omega (arith, bytes .given k)) (begin .pre .1 .0) (begin .pre .1 .1) in
+    omega (arith, length-take (known .filled .given .0 .0) (walked .normalized .last .1 .1 .1 .1 .1 .0), short, f .size)
 
 same-length-2 : tie.Need-same-length-2
 same-length-2 c = search needs
