@@ -5,7 +5,8 @@ use Prim.Native.Nat.{ℕ}
 use lib.ListN.{length}
 use borrow.Author.Tests.{eq-eqb}
 use Rattle.text.specs.Utf8.{utf8End}
-use Rattle.text.specs.Call.{andThen, lengthCheck, utf8Check, textCheck, passed}
+use Rattle.text.specs.Call.{andThen, lengthCheck, utf8Check, textCheck, argumentCheck, passed}
+use Rattle.entity.specs.Table.{tableCheck}
 use Rattle.text.specs.declared.Answer.{Answer}
 use Rattle.text.specs.declared.Answer.the-variants.{Done, Refused}
 
@@ -29,3 +30,8 @@ module _ (text : List ℕ) (later : Answer) where
       where
         well : utf8End text ≡ length text → utf8Check text ≡ passed
         well v = unfold utf8Check in rw (eq-eqb (utf8End text) (length text) v)
+
+-- the check of the table after that of the arguments, whatever the settings gave
+pub with-table : (text list pool : List ℕ) {checked settings asked : Answer} → checked ≡ argumentCheck text settings → settings ≡ asked
+    → andThen checked (tableCheck list pool) ≡ andThen (argumentCheck text asked) (tableCheck list pool)
+with-table text list pool e s = ap (λ (a : Answer). andThen a (tableCheck list pool)) (e ∙ ap (argumentCheck text) s)

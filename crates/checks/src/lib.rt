@@ -193,6 +193,21 @@ pub fn check_walk(
     check_with_table(text::check_arguments(text, settings), list, pool)
 }
 
+// The same for the strict calls: a function of their own, so that the lenient ones have theirs compiled in.
+pub fn check_strictly(
+    text: &[u8],
+    version: u8,
+    depth: u64,
+    limit: u64,
+    list: &[u8],
+    pool: &[u8],
+) -> Answer
+    ensures { λ r. ⌜ r ≡ andThen (argumentCheck (now (text .entry)) (settingsCheck version depth limit)) (tableCheck (now (list .entry)) (now (pool .entry))) ⌝ }
+{
+    let settings = attribute::check_settings(version, depth, limit);
+    check_with_table(text::check_arguments(text, settings), list, pool)
+}
+
 // ---- an answer as C sees it
 
 // Writes both answer words and hands the number on.

@@ -161,8 +161,7 @@ pub extern "C" fn govlezna_normalize_attribute_value_strict(
 ) -> u32
     ensures { λ r. ⌜ called r (now (answer .exit)) (now (out .exit) ∷ []) ≡ normalizeAttributeValueStrictCall (now (text .entry)) version depth limit (now (list .entry)) (now (pool .entry)) (now (out .entry)) ⌝ }
 {
-    let simple = simple::is_simple(text);
-    let strict_checked = checks::check_walk(text, simple, version, depth, limit, list, pool);
+    let strict_checked = checks::check_strictly(text, version, depth, limit, list, pool);
     let Answer::Done {
         first: _,
         second: _,
@@ -171,9 +170,8 @@ pub extern "C" fn govlezna_normalize_attribute_value_strict(
         return put(strict_checked, answer);
     };
     put(
-        normalize::normalize_attribute_value(
+        normalize::normalize_strictly(
             text,
-            simple,
             Wanted {
                 version,
                 strict: true,
@@ -244,7 +242,7 @@ pub extern "C" fn govlezna_canonical_form_strict(
 ) -> u32
     ensures { λ r. ⌜ called r (now (answer .exit)) (now (scratch .exit) ∷ now (out .exit) ∷ []) ≡ canonicalFormStrictCall (now (text .entry)) version depth limit (now (list .entry)) (now (pool .entry)) (now (scratch .entry)) (now (out .entry)) ⌝ }
 {
-    let strict_form_checked = checks::check_walk(text, false, version, depth, limit, list, pool);
+    let strict_form_checked = checks::check_strictly(text, version, depth, limit, list, pool);
     let Answer::Done {
         first: _,
         second: _,
@@ -253,7 +251,7 @@ pub extern "C" fn govlezna_canonical_form_strict(
         return put(strict_form_checked, answer);
     };
     put(
-        normalize::canonical_form(
+        normalize::canonical_strictly(
             text,
             Wanted {
                 version,

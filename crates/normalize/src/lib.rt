@@ -302,6 +302,22 @@ pub fn normalize_attribute_value(
     normalized(text, wanted, list, pool, refusals::NO_ROOM, out)
 }
 
+// The same for the strict call, without the quick way: what the lenient call alone uses is compiled into it.
+pub fn normalize_strictly(
+    text: &[u8],
+    wanted: Wanted,
+    list: &[u8],
+    pool: &[u8],
+    out: &mut [u8],
+) -> Answer
+    requires { ⌜ ValidTable (now list) (now pool) ⌝ }
+    requires { ⌜ length (now text) ≤ 16777216 ⌝ }
+    requires { ⌜ wanted .limit ≤ 1000000 ⌝ }
+    ensures { λ r. ⌜ callOf r (now (out .exit) ∷ []) ≡ finished (outcomeFor wanted (now (list .entry)) (now (pool .entry)) (now (text .entry))) (now (out .entry)) ⌝ }
+{
+    normalized(text, wanted, list, pool, refusals::NO_ROOM, out)
+}
+
 // The canonical form of a value that a scratch holds. Where the output has six times its length there is room: no count is needed.
 fn canonical_into(value: &[u8], newer: bool, openings: u64, out: &mut [u8]) -> Answer
     requires { ⌜ length (now value) ≤ 0x1000000000000 ⌝ }
@@ -345,6 +361,31 @@ pub fn canonical_form(
     } = filled
     else {
         return filled;
+    };
+    canonical_into(&scratch[..len as usize], 1 < wanted.version, openings, out)
+}
+
+// The same for the strict call.
+pub fn canonical_strictly(
+    text: &[u8],
+    wanted: Wanted,
+    list: &[u8],
+    pool: &[u8],
+    scratch: &mut [u8],
+    out: &mut [u8],
+) -> Answer
+    requires { ⌜ ValidTable (now list) (now pool) ⌝ }
+    requires { ⌜ length (now text) ≤ 16777216 ⌝ }
+    requires { ⌜ wanted .limit ≤ 1000000 ⌝ }
+    ensures { λ r. ⌜ callOf r (now (scratch .exit) ∷ now (out .exit) ∷ []) ≡ formed (ruleOf (wanted .version)) (outcomeFor wanted (now (list .entry)) (now (pool .entry)) (now (text .entry))) (now (scratch .entry)) (now (out .entry)) ⌝ }
+{
+    let strictly_filled = normalized(text, wanted, list, pool, refusals::NO_SCRATCH, scratch);
+    let Answer::Done {
+        first: len,
+        second: openings,
+    } = strictly_filled
+    else {
+        return strictly_filled;
     };
     canonical_into(&scratch[..len as usize], 1 < wanted.version, openings, out)
 }

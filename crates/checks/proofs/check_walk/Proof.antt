@@ -1,18 +1,9 @@
 -- `check_walk` asks 1 to 5, by the quick way where the text is known to be simple, and then the table.
-use mathlib.Core.Path.{_≡_, ap, _∙_}
-use mathlib.Core.List.{List}
-use Prim.Native.Nat.{ℕ}
-use Rattle.text.specs.declared.Answer.{Answer}
-use Rattle.text.specs.Call.{andThen, argumentCheck}
-use Rattle.entity.specs.Table.{tableCheck}
+use mathlib.Core.Path.{_∙_}
+use Rattle.checks.proofs.Checks.{with-table}
 use borrow.Author.Needs.{needs}
 use Rattle.checks.proofs.check_walk.Statement.{statement}
 use Rattle.checks.proofs.check_walk.Tie as tie
-
--- the check of the table after that of the arguments, whatever the settings gave
-with-table : (text list pool : List ℕ) {checked settings asked : Answer} → checked ≡ argumentCheck text settings → settings ≡ asked
-    → andThen checked (tableCheck list pool) ≡ andThen (argumentCheck text asked) (tableCheck list pool)
-with-table text list pool e s = ap (λ (a : Answer). andThen a (tableCheck list pool)) (e ∙ ap (argumentCheck text) s)
 
 check-settings-requires : tie.Need-check-settings-requires
 check-settings-requires c κs = search needs
