@@ -12,19 +12,19 @@ use crate::tables;
 use crate::values::decimals;
 use crate::values::decode_hex;
 
-// Which call field 0 of the line names: its place among these names, or 12 where it is none of them.
+// Which call field 0 of the line names: its place among these names, or 14 where it is none of them.
 fn call_number(line: &[u8]) -> usize {
     let names =
-        b"check_utf8 parse_number trim_xml_start trim_xml_end trim_xml_spaces escape normalize_eols cdata_next check_table unescape normalize_attribute_value canonical_form";
+        b"check_utf8 parse_number trim_xml_start trim_xml_end trim_xml_spaces escape normalize_eols cdata_next check_table unescape normalize_attribute_value canonical_form normalize_attribute_value_strict canonical_form_strict";
     let call = field(line, 0);
     let mut k = 0;
-    while k < 12 {
+    while k < 14 {
         if check::same(call, field(names, k)) {
             return k;
         }
         k += 1;
     }
-    12
+    14
 }
 
 pub fn replay_line(line: &[u8]) -> Outcome {

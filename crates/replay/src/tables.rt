@@ -13,8 +13,9 @@ use crate::values::decimal;
 use crate::values::decimals;
 use crate::values::decode_hex;
 
-// VERSION DEPTH LIMIT
+// VERSION DEPTH LIMIT, of a lenient or a strict call
 struct Settings {
+    strict: bool,
     version: u8,
     depth: u64,
     limit: u64,
@@ -25,12 +26,12 @@ enum ParsedSettings {
     Malformed,
 }
 
-// The calls 8 to 11 (`call_number` of calls.rt).
+// The calls 8 to 13 (`call_number` of calls.rt).
 pub fn replay_table_line(line: &[u8], call: usize) -> Outcome {
     match call {
         8 => replay_table(line, call, b"", 1),
         9 => replay_text_and_table(line, call, 2),
-        10..=11 => replay_text_and_table(line, call, 5),
+        10..=13 => replay_text_and_table(line, call, 5),
         _ => Outcome::Malformed,
     }
 }
@@ -71,8 +72,10 @@ fn replay_call(line: &[u8], call: usize, text: &[u8], list: &[u8], pool: &[u8]) 
     match call {
         8 => replay_check_table(line, list, pool),
         9 => replay_unescape(line, text, list, pool),
-        10 => replay_normalize(line, text, list, pool),
-        _ => replay_canonical(line, text, list, pool),
+        10 => replay_normalize(line, false, text, list, pool),
+        11 => replay_canonical(line, false, text, list, pool),
+        12 => replay_normalize(line, true, text, list, pool),
+        _ => replay_canonical(line, true, text, list, pool),
     }
 }
 
@@ -105,7 +108,7 @@ fn replay_unescape(line: &[u8], text: &[u8], list: &[u8], pool: &[u8]) -> Outcom
 }
 
 // Fields 2 to 4 of a call that walks an attribute value.
-fn parse_settings(line: &[u8]) -> ParsedSettings {
+fn parse_settings(line: &[u8], strict: bool) -> ParsedSettings {
     let mut read = [0u64; 3];
     if !decimals(line, 2, 3, &mut read) {
         return ParsedSettings::Malformed;
@@ -115,18 +118,19 @@ fn parse_settings(line: &[u8]) -> ParsedSettings {
         return ParsedSettings::Malformed;
     }
     ParsedSettings::Known(Settings {
+        strict,
         version: version as u8,
         depth: read[1],
         limit: read[2],
     })
 }
 
-// normalize_attribute_value TEXT VERSION DEPTH LIMIT LIST POOL ROOM = NUMBER FIRST SECOND OUTPUT
-fn replay_normalize(line: &[u8], text: &[u8], list: &[u8], pool: &[u8]) -> Outcome {
+// normalize_attribute_value TEXT VERSION DEPTH LIMIT LIST POOL ROOM = NUMBER FIRST SECOND OUTPUT, and so the strict call
+fn replay_normalize(line: &[u8], strict: bool, text: &[u8], list: &[u8], pool: &[u8]) -> Outcome {
     if field_count(line) != 13 {
         return Outcome::Malformed;
     }
-    let ParsedSettings::Known(settings) = parse_settings(line) else {
+    let ParsedSettings::Known(settings) = parse_settings(line, strict) else {
         return Outcome::Malformed;
     };
     let Parsed::Number(room) = decimal(field(line, 7)) else {
@@ -150,6 +154,18 @@ fn call_normalize(
     out: &mut [u8],
     answer: &mut [u64; 2],
 ) -> u32 {
+    if settings.strict {
+        return govlezna::govlezna_normalize_attribute_value_strict(
+            text,
+            settings.version,
+            settings.depth,
+            settings.limit,
+            list,
+            pool,
+            out,
+            answer,
+        );
+    }
     govlezna::govlezna_normalize_attribute_value(
         text,
         settings.version,
@@ -162,12 +178,12 @@ fn call_normalize(
     )
 }
 
-// canonical_form TEXT VERSION DEPTH LIMIT LIST POOL SCRATCH ROOM = NUMBER FIRST SECOND VALUE OUTPUT
-fn replay_canonical(line: &[u8], text: &[u8], list: &[u8], pool: &[u8]) -> Outcome {
+// canonical_form TEXT VERSION DEPTH LIMIT LIST POOL SCRATCH ROOM = NUMBER FIRST SECOND VALUE OUTPUT, and so the strict call
+fn replay_canonical(line: &[u8], strict: bool, text: &[u8], list: &[u8], pool: &[u8]) -> Outcome {
     if field_count(line) != 15 {
         return Outcome::Malformed;
     }
-    let ParsedSettings::Known(settings) = parse_settings(line) else {
+    let ParsedSettings::Known(settings) = parse_settings(line, strict) else {
         return Outcome::Malformed;
     };
     let mut read = [0u64; 3];
@@ -229,6 +245,19 @@ fn call_canonical(
     out: &mut [u8],
     answer: &mut [u64; 2],
 ) -> u32 {
+    if settings.strict {
+        return govlezna::govlezna_canonical_form_strict(
+            text,
+            settings.version,
+            settings.depth,
+            settings.limit,
+            list,
+            pool,
+            scratch,
+            out,
+            answer,
+        );
+    }
     govlezna::govlezna_canonical_form(
         text,
         settings.version,
