@@ -1,6 +1,7 @@
 -- K8, of the calls: an answer other than 25 and 26 is the lenient call's (`k8-alike`, `k8-alike-form`); every character of a value that a strict
--- call gave is Char (`k8-chars`) and the value is the standard's with Char (`k8-standard`); its form read again strictly goes as in demand 3
--- (`k8-again`), and under 2 gets 26 at its first raw RestrictedChar (`k8-again-26`). Assumes nothing.
+-- call gave is Char (`k8-chars`) and the value is the standard's with Char (`k8-standard`); two such values are equal exactly when their forms
+-- are (`k8-equal`); a form read again strictly goes as in demand 3 (`k8-again`), and under 2 gets 26 at its first raw RestrictedChar
+-- (`k8-again-26`). Assumes nothing.
 use mathlib.Core.Path.{_≡_, refl, sym, ap, subst, _∙_}
 use Prim.Native.Nat.{ℕ, _≤_}
 use native.Mathlib.Omega.{arith}
@@ -17,20 +18,25 @@ use Rattle.text.specs.declared.Answer.{Answer}
 use Rattle.text.specs.declared.Answer.the-variants.{Done, Refused}
 use Rattle.output.proofs.Finish.{finish-laid}
 use Rattle.output.proofs.Laid.{laid-front}
+use Rattle.entity.specs.Table.{marked}
+use Rattle.entity.specs.Binding.{binding}
+use Rattle.entity.proofs.Tables.{binding-good}
 use Rattle.tokens.specs.Outcome.{Outcome, done, refused, finished}
 use Rattle.tokens.proofs.Related.{Keeps, Stays}
-use Rattle.attribute.specs.Walk.{normalize}
+use Rattle.attribute.specs.Walk.{normalize, readingOf}
 use Rattle.attribute.specs.Strict.{readingBy}
 use Rattle.attribute.specs.Form.{formed}
 use Rattle.attribute.proofs.Strict.{strictOnly, strict-alike}
 use Rattle.govlezna.specs.Calls.{walkCheck, normalizeAttributeValueCall, canonicalFormCall, normalizeAttributeValueStrictCall, canonicalFormStrictCall}
 use Rattle.demands.specs.Demands.{Asked, ruleFor, Taken, formOf, AskedAgain}
 use Rattle.demands.specs.Characters.{decode}
-use Rattle.demands.specs.CallDemands.{normalizeOf, canonicalOf}
+use Rattle.demands.specs.CallDemands.{normalizeOf, canonicalOf, Answered}
+use Rattle.demands.specs.Standard.{SteadyText, SteadyBound, FromStandard}
 use Rattle.demands.specs.StrictDemands.{strictlyNormalized, StrictlyAccepted, AllChar, restrictedFrom, Rereadable}
-use Rattle.demands.proofs.CallDemands.{taken-passes, normalize-answered}
+use Rattle.demands.proofs.CallDemands.{taken-passes, normalize-answered, demand-3-calls-equal}
+use Rattle.demands.proofs.StrictStandard.{strict-is-standard}
 use Rattle.demands.proofs.StrictDemands.{strict-chars, strict-again, strict-again-refused}
-use Rattle.requests.specs.Strict.{strictNormalizeOf, strictCanonicalOf, AlikeBut, StrictCallRereads, StrictCallRefuses}
+use Rattle.requests.specs.Strict.{strictNormalizeOf, strictCanonicalOf, AlikeBut, charStandardOf, StrictlyAnswered, StrictCallsEqualExactly, StrictCallRereads, StrictCallRefuses}
 
 -- ---- alike but for 25 and 26
 
@@ -79,6 +85,10 @@ pub k8-lenient : (a : Asked) (out : List ℕ) {words : List ℕ} {buffers : List
     → normalizeOf a out ≡ called 0 words buffers
 k8-lenient a out {words} {buffers} e = subst (λ (c : Called). AlikeBut c (normalizeOf a out)) e (k8-alike a out) refl
 
+pub k8-lenient-form : (a : Asked) (scratch out : List ℕ) {words : List ℕ} {buffers : List (List ℕ)} → strictCanonicalOf a scratch out ≡ called 0 words buffers
+    → canonicalOf a scratch out ≡ called 0 words buffers
+k8-lenient-form a scratch out {words} {buffers} e = subst (λ (c : Called). AlikeBut c (canonicalOf a scratch out)) e (k8-alike-form a scratch out) refl
+
 -- and the value is strictly accepted
 pub record StrictlyGave (a : Asked) (size openings : ℕ) (left : List ℕ) : Type 0 where
   pub accepted : StrictlyAccepted a (take size left) openings
@@ -112,6 +122,41 @@ k8-answered a out {size} {openings} {left} e =
 pub k8-chars : (a : Asked) (out : List ℕ) {size openings : ℕ} {left : List ℕ} → strictNormalizeOf a out ≡ called 0 (size ∷ openings ∷ []) (left ∷ [])
     → AllChar (ruleFor a) (decode (take size left))
 k8-chars a out {size} {openings} {left} e = strict-chars a (take size left) openings (k8-answered a out e .accepted)
+
+-- the standard's wording (3.3.3), of every value that a strict call gave: a character reference may name only Char. As in
+-- `accepted-standard`, no reference holds a line end, and of a marked list nothing is asked
+pub k8-standard : (a : Asked) → SteadyText (ruleFor a) (a .text)
+    → ((name : List ℕ) → SteadyBound (marked (a .list)) (ruleFor a) (binding (a .list) (a .pool) name))
+    → (out : List ℕ) {size openings : ℕ} {left : List ℕ} → strictNormalizeOf a out ≡ called 0 (size ∷ openings ∷ []) (left ∷ [])
+    → FromStandard (charStandardOf a) (take size left)
+unfolding readingBy readingOf
+k8-standard a still firm out {size} {openings} {left} e =
+    let p = k8-answered a out e .accepted in
+    strict-is-standard (ruleFor a) (marked (a .list)) (binding (a .list) (a .pool)) (a .limit) (binding-good (a .list) (a .pool) (p .taken .table)) firm (a .depth) (a .text)
+    (p .taken .utf8) still (take size left) openings (p .reads)
+
+-- ---- two values
+
+answered : (a : Asked) → StrictlyAnswered a → Answered a
+answered a x = record {
+  out = x .out;
+  size = x .size;
+  openings = x .openings;
+  left = x .left;
+  normalizes = k8-lenient a (x .out) (x .normalizes);
+  scratch = x .scratch;
+  formOut = x .formOut;
+  formSize = x .formSize;
+  formOpenings = x .formOpenings;
+  held = x .held;
+  formLeft = x .formLeft;
+  writes = k8-lenient-form a (x .scratch) (x .formOut) (x .writes);
+}
+
+-- K8: "Two strictly accepted values keep the canonical equivalence"
+pub k8-equal : (a b : Asked) → ruleFor a ≡ ruleFor b → (x : StrictlyAnswered a) (y : StrictlyAnswered b) → StrictCallsEqualExactly a b x y
+unfolding answered
+k8-equal a b e x y = demand-3-calls-equal a b e (answered a x) (answered b y)
 
 -- ---- read again
 

@@ -1,13 +1,20 @@
 -- K8, the strict reading (document 02), stated of the calls. Assumes nothing.
 use mathlib.Core.Path.{_≡_}
+use mathlib.Core.Logic.{_↔_}
 use Prim.Native.Nat.{ℕ, _≤_}
 use mathlib.Core.Bool.{false, _||_}
+use mathlib.Core.Option.{Option}
 use mathlib.Core.List.{List, [], _∷_}
 use lib.Dec.{eqb}
-use lib.ListN.{length}
+use lib.ListN.{length, take}
 use Rattle.text.specs.Call.{Called, called, laid}
 use Rattle.govlezna.specs.Calls.{normalizeAttributeValueStrictCall, canonicalFormStrictCall}
-use Rattle.demands.specs.Demands.{Asked}
+use Rattle.entity.specs.Table.{marked}
+use Rattle.entity.specs.Binding.{binding}
+use Rattle.attribute.specs.Strict.{onlyChar}
+use Rattle.demands.specs.Demands.{Asked, ruleFor}
+use Rattle.demands.specs.Characters.{decode}
+use Rattle.demands.specs.Standard.{lineEndsOf, linesOf, standard, lookupOf}
 
 -- K8: the two calls, as they are asked, with the buffers that they are lent
 abbrev pub strictNormalizeOf : Asked → List ℕ → Called
@@ -19,6 +26,31 @@ strictCanonicalOf a scratch out = canonicalFormStrictCall (a .text) (a .version)
 -- K8: "alike but for 25 and 26": any other answer is the lenient call's, number, words and buffers
 abbrev pub AlikeBut : Called → Called → Type 0
 AlikeBut (called number words buffers) lenient = eqb number 25 || eqb number 26 ≡ false → lenient ≡ called number words buffers
+
+-- XML 1.0 and 1.1, 3.3.3 after 2.11, where a character reference may name only Char (2.2, 4.1): what a call is asked to read
+abbrev pub charStandardOf : Asked → Option (List ℕ)
+charStandardOf a =
+    standard (onlyChar (ruleFor a)) (lookupOf (binding (a .list) (a .pool))) (linesOf (marked (a .list)) (ruleFor a)) (a .depth) (lineEndsOf (ruleFor a) (decode (a .text)))
+
+-- K8: strictly accepted: with these buffers the strict normalization answers 0, and so does the strict canonical form with these
+pub record StrictlyAnswered (a : Asked) : Type 0 where
+  pub out : List ℕ
+  pub size : ℕ
+  pub openings : ℕ
+  pub left : List ℕ
+  pub normalizes : strictNormalizeOf a out ≡ called 0 (size ∷ openings ∷ []) (left ∷ [])
+  pub scratch : List ℕ
+  pub formOut : List ℕ
+  pub formSize : ℕ
+  pub formOpenings : ℕ
+  pub held : List ℕ
+  pub formLeft : List ℕ
+  pub writes : strictCanonicalOf a scratch formOut ≡ called 0 (formSize ∷ formOpenings ∷ []) (held ∷ formLeft ∷ [])
+
+-- K8: "the canonical equivalence", of the bytes that the strict calls gave: values are equal exactly when forms are, in length and bytes
+abbrev pub StrictCallsEqualExactly : (a b : Asked) → StrictlyAnswered a → StrictlyAnswered b → Type 0
+StrictCallsEqualExactly a b x y =
+    (take (x .size) (x .left) ≡ take (y .size) (y .left)) ↔ ((x .formSize ≡ y .formSize) × (take (x .formSize) (x .formLeft) ≡ take (y .formSize) (y .formLeft)))
 
 -- K8: strict re-reading "goes as in demand 3", with room enough; the rest of each buffer is kept
 pub record StrictCallRereads (value : List ℕ) (b : Asked) : Type 0 where
