@@ -173,7 +173,8 @@ fn check_simple(text: &[u8], others: Answer) -> Answer
     }
 }
 
-// Of a call that walks an attribute value: 1 to 9.
+// Of a call that walks an attribute value: 1 to 9. The table is asked in one place: with a call of its check after each way, this function
+// was too long to be compiled into the calls, and took 40 instructions more.
 pub fn check_walk(
     text: &[u8],
     simple: bool,
@@ -187,25 +188,12 @@ pub fn check_walk(
     ensures { λ r. ⌜ r ≡ andThen (argumentCheck (now (text .entry)) (settingsCheck version depth limit)) (tableCheck (now (list .entry)) (now (pool .entry))) ⌝ }
 {
     let settings = attribute::check_settings(version, depth, limit);
-    if simple {
-        return check_with_table(check_simple(text, settings), list, pool);
-    }
-    check_with_table(text::check_arguments(text, settings), list, pool)
-}
-
-// The same for the strict calls: a function of their own, so that the lenient ones have theirs compiled in.
-pub fn check_strictly(
-    text: &[u8],
-    version: u8,
-    depth: u64,
-    limit: u64,
-    list: &[u8],
-    pool: &[u8],
-) -> Answer
-    ensures { λ r. ⌜ r ≡ andThen (argumentCheck (now (text .entry)) (settingsCheck version depth limit)) (tableCheck (now (list .entry)) (now (pool .entry))) ⌝ }
-{
-    let settings = attribute::check_settings(version, depth, limit);
-    check_with_table(text::check_arguments(text, settings), list, pool)
+    let checked = if simple {
+        check_simple(text, settings)
+    } else {
+        text::check_arguments(text, settings)
+    };
+    check_with_table(checked, list, pool)
 }
 
 // ---- an answer as C sees it

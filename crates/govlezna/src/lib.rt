@@ -161,7 +161,8 @@ pub extern "C" fn govlezna_normalize_attribute_value_strict(
 ) -> u32
     ensures { λ r. ⌜ called r (now (answer .exit)) (now (out .exit) ∷ []) ≡ normalizeAttributeValueStrictCall (now (text .entry)) version depth limit (now (list .entry)) (now (pool .entry)) (now (out .entry)) ⌝ }
 {
-    let strict_checked = checks::check_strictly(text, version, depth, limit, list, pool);
+    let strict_simple = simple::is_simple(text);
+    let strict_checked = checks::check_walk(text, strict_simple, version, depth, limit, list, pool);
     let Answer::Done {
         first: _,
         second: _,
@@ -170,8 +171,9 @@ pub extern "C" fn govlezna_normalize_attribute_value_strict(
         return put(strict_checked, answer);
     };
     put(
-        normalize::normalize_strictly(
+        normalize::normalize_attribute_value(
             text,
+            strict_simple,
             Wanted {
                 version,
                 strict: true,
@@ -242,7 +244,7 @@ pub extern "C" fn govlezna_canonical_form_strict(
 ) -> u32
     ensures { λ r. ⌜ called r (now (answer .exit)) (now (scratch .exit) ∷ now (out .exit) ∷ []) ≡ canonicalFormStrictCall (now (text .entry)) version depth limit (now (list .entry)) (now (pool .entry)) (now (scratch .entry)) (now (out .entry)) ⌝ }
 {
-    let strict_form_checked = checks::check_strictly(text, version, depth, limit, list, pool);
+    let strict_form_checked = checks::check_walk(text, false, version, depth, limit, list, pool);
     let Answer::Done {
         first: _,
         second: _,
@@ -251,7 +253,7 @@ pub extern "C" fn govlezna_canonical_form_strict(
         return put(strict_form_checked, answer);
     };
     put(
-        normalize::canonical_strictly(
+        normalize::canonical_form(
             text,
             Wanted {
                 version,

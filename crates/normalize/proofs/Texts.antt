@@ -273,54 +273,59 @@ module _ (w : Wanted) (list pool t : List ℕ) where
   flag true = refl
   flag false = refl
 
+  by-how : {first : ℕ} → HaltAt newer t 0 first → HaltAt (eqb how 1) t 0 first
+  by-how {first} h = subst (λ (x : Bool). HaltAt x t 0 first) (sym (flag newer)) h
+
   module _ {r : Reading} (is : r ≡ readingFor w (marked list)) where
     -- what the walk over the text is asked
-    pub read-asked : w .depth ≢ 0 → w .limit ≤ 1000000 → length t ≤ 16777216 → {first : ℕ} → HaltAt (eqb (r .how) 1) t 0 first
+    pub read-asked : w .depth ≢ 0 → w .limit ≤ 1000000 → length t ≤ 16777216 → {first : ℕ} → HaltAt newer t 0 first
         → ((r .base ≡ 0) × Walkable r t) × HaltAt (eqb (r .how) 1) t 0 first
     read-asked deep most short {first} h =
-        (subst (λ (x : Reading). (x .base ≡ 0) × Walkable x t) (sym is) (refl, record { deep = deep; most = most; short = short }), h)
-
-    reads-as : readBy (r .how) (r .guard) ≡ readBy how guard
-    reads-as = ap (λ (x : Reading). readBy (x .how) (x .guard)) is
-
-    value-is : walk s (readBy (r .how) (r .guard)) (w .depth) t 0 ≡ asked
-    value-is = ap (λ (x : Heads). walk s x (w .depth) t 0) reads-as ∙ asked-is
+        subst (λ (x : Reading). ((x .base ≡ 0) × Walkable x t) × HaltAt (eqb (x .how) 1) t 0 first) (sym is)
+        ((refl, record { deep = deep; most = most; short = short }), by-how h)
 
     module _ (short : ℕ) (out : List ℕ) where
       pub call-bottom : {last : List ℕ} {a : Answer} → w .depth ≡ 0 → ((s : Settings) → Ended short (walk s (readBy (r .how) (r .guard)) 0 t 0) out last a)
           → Ended short asked out last a
-      call-bottom z e =
-          ended-same short out (sym value-is ∙ ap (λ (d : ℕ). walk s (readBy (r .how) (r .guard)) d t 0) z) (e s)
+      call-bottom {last} {a} z e =
+          let bottom = subst (λ (x : Reading). (s : Settings) → Ended short (walk s (readBy (x .how) (x .guard)) 0 t 0) out last a) is e in
+          ended-same short out (sym asked-is ∙ ap (λ (d : ℕ). walk s (readBy how guard) d t 0) z) (bottom s)
 
       pub call-read : {last : List ℕ} {a : Answer} → Ended short (walkOf r list pool t) out last a → Ended short asked out last a
       call-read e = ended-same short out (sym (ap (λ (x : Reading). walkOf x list pool t) is ∙ walk-for)) e
 
-      -- a text without halts
-      module _ (deep : w .depth ≢ 0) {first : ℕ} (h : HaltAt (eqb (r .how) 1) t 0 first) (z : first ≡ length t) {fault : ℕ}
-          (f : FirstFault (faultBy (r .guard)) t 0 first fault) where
-        -- every character of it may stand
-        pub call-spaced : {last : List ℕ} {a : Answer} → fault ≡ first → Ended short (done (blanksSpaced t) 0) out last a → Ended short asked out last a
-        call-spaced q e =
-            let clean = subst (λ (k : ℕ). Clean (faultBy (r .guard)) t 0 k) (q ∙ z) (f .clean) in
-            let smooth = subst (Smooth (eqb (r .how) 1) t 0) z (h .smooth) in
-            ended-same short out (sym value-is ∙ smooth-whole s (r .how) (r .guard) (w .depth) deep t 0 smooth clean) e
+  -- a text without halts
+  module _ (deep : w .depth ≢ 0) {first : ℕ} (h : HaltAt newer t 0 first) (z : first ≡ length t) {g : ℕ} (is : g ≡ guard) {fault : ℕ}
+      (found : FirstFault (faultBy g) t 0 first fault) (short : ℕ) (out : List ℕ) where
+    abbrev halt : HaltAt (eqb how 1) t 0 first
+    halt = by-how h
 
-        -- or one may not: refusal 26
-        pub call-barred : fault ≢ first → Ended short asked out out (Refused 26 fault 0)
-        call-barred q =
-            let inside : fault < length t = omega (arith, f .within, q, z) in
-            let part = smooth-part (h .smooth) (f .clean .from) (f .within) in
-            let heads = readBy (r .how) (r .guard) in
-            let answers = stopAnswer s (w .depth) in
-            let stopped : fromOn (readBy (r .how) (r .guard)) (stopAnswer s (w .depth)) t fault 0 ≡ refused [] 0 26 fault 0 =
-            run-at heads answers t fault 0 inside
-            ∙ ap (λ (d : Head). followed (outcomeOf answers (tokenOf d) 0) (λ m. fromOn heads answers t (fault + 1 + skipOf d) m))
-            (read-barred t fault inside (r .guard) (headsBy (r .how)) (f .found (omega (arith, f .within, q)))) in
-            ended-26 short out
-            (sym value-is
-            ∙ walk-run s heads (w .depth) t 0
-            ∙ smooth-run s (r .how) (r .guard) (w .depth) deep t 0 part (f .clean)
-            ∙ ap (prepend (blanksSpaced (take (fault - 0) t))) stopped)
+    abbrev f : FirstFault (faultBy guard) t 0 first fault
+    f = subst (λ (x : ℕ). FirstFault (faultBy x) t 0 first fault) is found
+
+    -- every character of it may stand
+    pub call-spaced : {last : List ℕ} {a : Answer} → fault ≡ first → Ended short (done (blanksSpaced t) 0) out last a → Ended short asked out last a
+    call-spaced q e =
+        let clean = subst (λ (k : ℕ). Clean (faultBy guard) t 0 k) (q ∙ z) (f .clean) in
+        let smooth = subst (Smooth (eqb how 1) t 0) z (halt .smooth) in
+        ended-same short out (sym asked-is ∙ smooth-whole s how guard (w .depth) deep t 0 smooth clean) e
+
+    -- or one may not: refusal 26
+    pub call-barred : fault ≢ first → Ended short asked out out (Refused 26 fault 0)
+    call-barred q =
+        let inside : fault < length t = omega (arith, f .within, q, z) in
+        let part = smooth-part (halt .smooth) (f .clean .from) (f .within) in
+        let heads = readBy how guard in
+        let answers = stopAnswer s (w .depth) in
+        let stopped : fromOn (readBy how guard) (stopAnswer s (w .depth)) t fault 0 ≡ refused [] 0 26 fault 0 =
+        run-at heads answers t fault 0 inside
+        ∙ ap (λ (d : Head). followed (outcomeOf answers (tokenOf d) 0) (λ m. fromOn heads answers t (fault + 1 + skipOf d) m))
+        (read-barred t fault inside guard (headsBy how) (f .found (omega (arith, f .within, q)))) in
+        ended-26 short out
+        (sym asked-is
+        ∙ walk-run s heads (w .depth) t 0
+        ∙ smooth-run s how guard (w .depth) deep t 0 part (f .clean)
+        ∙ ap (prepend (blanksSpaced (take (fault - 0) t))) stopped)
 
   -- so no sum overflows
   pub call-short : {value : List ℕ} {made : ℕ} → asked ≡ done value made → ((k : ℕ) → getD list k 0 < 0x100) → length t ≤ 16777216 → w .limit ≤ 1000000

@@ -247,7 +247,8 @@ fn reading_for(list: &[u8], wanted: Wanted) -> Reading
     }
 }
 
-// The value of the text of a call, in a buffer that is refused by the number given where it is too short.
+// The value of the text of a call, in a buffer that is refused by the number given where it is too short. What the walk is set to is made
+// only where it walks: most values have no halt.
 fn normalized(
     text: &[u8],
     wanted: Wanted,
@@ -261,15 +262,17 @@ fn normalized(
     requires { ⌜ wanted .limit ≤ 1000000 ⌝ }
     ensures { λ r. ⌜ Ended short (outcomeFor wanted (now (list .entry)) (now (pool .entry)) (now (text .entry))) (now (out .entry)) (now (out .exit)) r ⌝ }
 {
-    let reading = reading_for(list, wanted);
     if wanted.depth == 0 {
-        return normalize_bottom(text, reading.how, reading.guard, short, out);
+        let used_up = reading_for(list, wanted);
+        return normalize_bottom(text, used_up.how, used_up.guard, short, out);
     }
-    let first = halts::first_halt(text, reading.how == 1);
+    let newer = 1 < wanted.version;
+    let first = halts::first_halt(text, newer);
     if first != text.len() {
+        let reading = reading_for(list, wanted);
         return normalize_into(text, first, reading, list, pool, short, out);
     }
-    let fault = flat::run_fault(text, 0, first, reading.guard);
+    let fault = flat::run_fault(text, 0, first, outer_guard(wanted.strict, newer));
     if fault != first {
         return Answer::Refused {
             number: refusals::FORBIDDEN_CHARACTER,
@@ -299,22 +302,6 @@ pub fn normalize_attribute_value(
     if simple {
         return tokens::copied_whole(text, refusals::NO_ROOM, out);
     }
-    normalized(text, wanted, list, pool, refusals::NO_ROOM, out)
-}
-
-// The same for the strict call, without the quick way: what the lenient call alone uses is compiled into it.
-pub fn normalize_strictly(
-    text: &[u8],
-    wanted: Wanted,
-    list: &[u8],
-    pool: &[u8],
-    out: &mut [u8],
-) -> Answer
-    requires { ⌜ ValidTable (now list) (now pool) ⌝ }
-    requires { ⌜ length (now text) ≤ 16777216 ⌝ }
-    requires { ⌜ wanted .limit ≤ 1000000 ⌝ }
-    ensures { λ r. ⌜ callOf r (now (out .exit) ∷ []) ≡ finished (outcomeFor wanted (now (list .entry)) (now (pool .entry)) (now (text .entry))) (now (out .entry)) ⌝ }
-{
     normalized(text, wanted, list, pool, refusals::NO_ROOM, out)
 }
 
@@ -361,31 +348,6 @@ pub fn canonical_form(
     } = filled
     else {
         return filled;
-    };
-    canonical_into(&scratch[..len as usize], 1 < wanted.version, openings, out)
-}
-
-// The same for the strict call.
-pub fn canonical_strictly(
-    text: &[u8],
-    wanted: Wanted,
-    list: &[u8],
-    pool: &[u8],
-    scratch: &mut [u8],
-    out: &mut [u8],
-) -> Answer
-    requires { ⌜ ValidTable (now list) (now pool) ⌝ }
-    requires { ⌜ length (now text) ≤ 16777216 ⌝ }
-    requires { ⌜ wanted .limit ≤ 1000000 ⌝ }
-    ensures { λ r. ⌜ callOf r (now (scratch .exit) ∷ now (out .exit) ∷ []) ≡ formed (ruleOf (wanted .version)) (outcomeFor wanted (now (list .entry)) (now (pool .entry)) (now (text .entry))) (now (scratch .entry)) (now (out .entry)) ⌝ }
-{
-    let strictly_filled = normalized(text, wanted, list, pool, refusals::NO_SCRATCH, scratch);
-    let Answer::Done {
-        first: len,
-        second: openings,
-    } = strictly_filled
-    else {
-        return strictly_filled;
     };
     canonical_into(&scratch[..len as usize], 1 < wanted.version, openings, out)
 }

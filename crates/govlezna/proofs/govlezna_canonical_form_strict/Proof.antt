@@ -1,16 +1,17 @@
--- `govlezna_canonical_form_strict` answers as its checks refuse, or else as the canonical form of the walk does; nothing is known of its text
+-- `govlezna_canonical_form_strict` answers as its checks refuse, or else as the canonical form of the strict walk does; nothing is known of its text
 -- before the checks, so `check_walk` is told that it is not simple.
-use mathlib.Core.Path.{_∙_}
+use mathlib.Core.Path.{_∙_, sym}
 use mathlib.Core.List.{[], _∷_}
 use Rattle.text.proofs.Call.{halts, passes}
 use Rattle.govlezna.specs.Calls.{canonicalFormStrictCall}
 use Rattle.govlezna.proofs.Passing.{passed-walk}
+use mathlib.Core.Bool.{true≢false}
 use borrow.Author.Needs.{needs}
 use Rattle.govlezna.proofs.govlezna_canonical_form_strict.Statement.{statement}
 use Rattle.govlezna.proofs.govlezna_canonical_form_strict.Tie as tie
 
-check-strictly-requires : tie.Need-check-strictly-requires
-check-strictly-requires c κs = search needs
+check-walk-requires : tie.Need-check-walk-requires
+check-walk-requires c κs = λ q. absurd (true≢false (sym q))
 
 enum-told : tie.Need-enum-told
 enum-told c = search needs
@@ -27,13 +28,13 @@ returns c =
     let checked = c .before .before .before .before in
     let a = checked .before .before .before .before .before .before .args in
     let lent = a .scratch .now ∷ a .out .now ∷ [] in
-    c .put .ensures lent ∙ halts lent _ (checked .check-strictly .ensures) (c .before .before .enum-told2 .given .1)
+    c .put .ensures lent ∙ halts lent _ (checked .check-walk .ensures) (c .before .before .enum-told2 .given .1)
 
-canonical-strictly-requires : tie.Need-canonical-strictly-requires
-canonical-strictly-requires c κs =
+canonical-form-requires : tie.Need-canonical-form-requires
+canonical-form-requires c κs =
     let checked = c .before .before .before .before in
     let a = checked .before .before .before .before .before .before .args in
-    passed-walk (a .text .now) (a .version) (a .depth) (a .limit) (a .list .now) (a .pool .now) (checked .check-strictly .ensures) (c .before .before .enum-told .given .1)
+    passed-walk (a .text .now) (a .version) (a .depth) (a .limit) (a .list .now) (a .pool .now) (checked .check-walk .ensures) (c .before .before .enum-told .given .1)
 
 put-requires-2 : tie.Need-put-requires-2
 put-requires-2 c κs = search needs
@@ -52,18 +53,18 @@ returns-2 c =
     let checked = told .before .before in
     let a = checked .before .before .before .before .before .before .args in
     let lent = a .scratch .now ∷ a .out .now ∷ [] in
-    c .put2 .ensures _ ∙ formed .canonical-strictly .ensures ∙ passes lent _ (checked .check-strictly .ensures) (told .enum-told .given .1)
+    c .put2 .ensures _ ∙ formed .canonical-form .ensures ∙ passes lent _ (checked .check-walk .ensures) (told .enum-told .given .1)
 
 pub govlezna-canonical-form-strict-spec : {M : Type 1} → statement M
 govlezna-canonical-form-strict-spec =
     tie.close
     (tie.spec
-    check-strictly-requires
+    check-walk-requires
     enum-told
     enum-told-2
     put-requires
     returns
-    canonical-strictly-requires
+    canonical-form-requires
     put-requires-2
     same-length
     same-length-2

@@ -1,17 +1,16 @@
 -- `normalized` takes one of four ways: depth 0, the walk, and of a text without halts a character that may not stand, or a copy; each is the
 -- walk that the call asks for (Texts.antt).
-use native.Mathlib.Omega.{arith}
 use Rattle.normalize.proofs.Texts.{call-bottom, read-asked, call-read, call-barred, call-spaced}
 use borrow.Author.Needs.{needs}
 use Rattle.normalize.proofs.normalized.Statement.{statement}
 use Rattle.normalize.proofs.normalized.Tie as tie
 
--- places: the entry, seen from the reading; the reading, seen from the halt
-abbrev entry : tie.After-reading-for → tie.Start
-entry c = c .before .before .before .before .before
+-- places: the entry, seen from the first halt; the first halt, seen from after the search for a fault
+abbrev entry : tie.After-first-halt → tie.Start
+entry c = c .before .before .before .before .before .before .before .before
 
-abbrev reading-of : tie.After-first-halt → tie.After-reading-for
-reading-of c = c .before .before .before .before
+abbrev halt-of : tie.After-run-fault → tie.After-first-halt
+halt-of c = c .before .before .before
 
 reading-for-requires : tie.Need-reading-for-requires
 reading-for-requires c κs = search needs
@@ -25,24 +24,27 @@ same-length c = search needs
 returns : tie.Need-returns
 returns c =
     let bottom = c .before .before in
-    let zero = bottom .before .before in
-    let read = zero .before .before in
-    let a = entry read .args in
+    let read = bottom .before .before in
+    let zero = read .before in
+    let a = zero .before .before .before .before .before .before .args in
     call-bottom (a .wanted) (a .list .now) (a .pool .now) (a .text .now) (read .reading-for .ensures) (a .short) (a .out .now) (zero .if1 .taken)
     (bottom .normalize-bottom .ensures)
 
 first-halt-requires : tie.Need-first-halt-requires
 first-halt-requires c κs = search needs
 
+reading-for-requires-2 : tie.Need-reading-for-requires-2
+reading-for-requires-2 c κs = search needs
+
 normalize-into-requires : tie.Need-normalize-into-requires
 normalize-into-requires c κs =
-    let halt = c .before .before in
-    let read = reading-of halt in
-    let start = entry read in
+    let read = c .before in
+    let halt = read .before .before in
+    let start = entry halt in
     let a = start .args in
     let asked = start .pre in
     let deep = halt .before .before .if1 .left in
-    (asked .0, read-asked (a .wanted) (a .list .now) (a .pool .now) (a .text .now) (read .reading-for .ensures) deep (asked .1 .1) (asked .1 .0) (halt .first-halt .ensures))
+    (asked .0, read-asked (a .wanted) (a .list .now) (a .pool .now) (a .text .now) (read .reading-for2 .ensures) deep (asked .1 .1) (asked .1 .0) (halt .first-halt .ensures))
 
 same-length-2 : tie.Need-same-length-2
 same-length-2 c = search needs
@@ -50,9 +52,12 @@ same-length-2 c = search needs
 returns-2 : tie.Need-returns-2
 returns-2 c =
     let walk = c .before .before in
-    let read = reading-of (walk .before .before .before) in
-    let a = entry read .args in
-    call-read (a .wanted) (a .list .now) (a .pool .now) (a .text .now) (read .reading-for .ensures) (a .short) (a .out .now) (walk .normalize-into .ensures)
+    let read = walk .before .before in
+    let a = entry (read .before .before) .args in
+    call-read (a .wanted) (a .list .now) (a .pool .now) (a .text .now) (read .reading-for2 .ensures) (a .short) (a .out .now) (walk .normalize-into .ensures)
+
+outer-guard-requires : tie.Need-outer-guard-requires
+outer-guard-requires c κs = search needs
 
 run-fault-requires : tie.Need-run-fault-requires
 run-fault-requires c κs = search needs
@@ -60,11 +65,11 @@ run-fault-requires c κs = search needs
 returns-3 : tie.Need-returns-3
 returns-3 c =
     let fault = c .before in
-    let halt = fault .before .before in
-    let read = reading-of halt in
-    let a = entry read .args in
-    call-barred (a .wanted) (a .list .now) (a .pool .now) (a .text .now) (read .reading-for .ensures) (a .short) (a .out .now) (halt .before .before .if1 .left)
-    (halt .first-halt .ensures) (fault .before .if2 .left) (fault .run-fault .ensures) (c .if3 .taken)
+    let guard = fault .before in
+    let halt = halt-of fault in
+    let a = entry halt .args in
+    call-barred (a .wanted) (a .list .now) (a .pool .now) (a .text .now) (halt .before .before .if1 .left) (halt .first-halt .ensures) (guard .before .if2 .left)
+    (guard .outer-guard .ensures) (fault .run-fault .ensures) (a .short) (a .out .now) (c .if3 .taken)
 
 spaced-whole-requires : tie.Need-spaced-whole-requires
 spaced-whole-requires c κs = search needs
@@ -77,11 +82,11 @@ returns-4 c =
     let copy = c .before .before in
     let test = copy .before .before in
     let fault = test .before in
-    let halt = fault .before .before in
-    let read = reading-of halt in
-    let a = entry read .args in
-    call-spaced (a .wanted) (a .list .now) (a .pool .now) (a .text .now) (read .reading-for .ensures) (a .short) (a .out .now) (halt .before .before .if1 .left)
-    (halt .first-halt .ensures) (fault .before .if2 .left) (fault .run-fault .ensures) (test .if3 .left) (copy .spaced-whole .ensures)
+    let guard = fault .before in
+    let halt = halt-of fault in
+    let a = entry halt .args in
+    call-spaced (a .wanted) (a .list .now) (a .pool .now) (a .text .now) (halt .before .before .if1 .left) (halt .first-halt .ensures) (guard .before .if2 .left)
+    (guard .outer-guard .ensures) (fault .run-fault .ensures) (a .short) (a .out .now) (test .if3 .left) (copy .spaced-whole .ensures)
 
 pub normalized-spec : {M : Type 1} → statement M
 normalized-spec =
@@ -92,9 +97,11 @@ normalized-spec =
     same-length
     returns
     first-halt-requires
+    reading-for-requires-2
     normalize-into-requires
     same-length-2
     returns-2
+    outer-guard-requires
     run-fault-requires
     returns-3
     spaced-whole-requires
