@@ -7,6 +7,7 @@ pub mod Single
 pub mod Guards
 pub mod Reread
 pub mod Deeper
+pub mod LookedUp
 pub mod Strict
 pub mod Guarded
 pub mod StrictReread
@@ -18,3 +19,4 @@ pub mod Formed
 pub mod Shifted
 mod Examples
 mod StrictExamples
+mod LookedUpExamples

@@ -10,6 +10,7 @@ pub mod Openings
 pub mod Lengths
 pub mod WellFormedness
 pub mod Related
+pub mod Lookups
 pub mod Barred
 pub mod Keys
 pub mod Moved

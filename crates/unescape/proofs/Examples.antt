@@ -1,10 +1,12 @@
--- Document 01's examples of unescaping (Test seams), by computation. Assumes nothing.
+-- Document 01's examples of unescaping (Test seams), and the names that small texts look up (document 02, K13), by computation. Assumes
+-- nothing.
 use mathlib.Core.Path.{_≡_, refl}
 use mathlib.Core.List.{List, [], _∷_}
 use Prim.Native.Nat.{ℕ}
 use Rattle.entity.specs.Binding.{binding}
 use Rattle.tokens.specs.Outcome.{Outcome, done, refused}
 use Rattle.unescape.specs.Unescape.{unescape}
+use Rattle.unescape.specs.LookedUpInText.{lookedUpInText}
 
 -- with the empty table
 empty : List ℕ → Outcome
@@ -30,3 +32,15 @@ table :
     × (amp-is-x (38 ∷ 97 ∷ 109 ∷ 112 ∷ 59 ∷ []) ≡ done (88 ∷ []) 0)  -- &amp;
 unfolding empty amp-is-x unescape binding
 table = (refl, refl, refl, refl, refl, refl, refl, refl, refl, refl, refl)
+
+-- K13: e = `&f;`; `amp` is looked up, the names in a text that is copied are not, and none is after the refusal
+names : List ℕ → List (List ℕ)
+unfolding lookedUpInText
+names t = lookedUpInText (binding (1 ∷ 0 ∷ 0 ∷ 0 ∷ 0 ∷ 1 ∷ 1 ∷ 0 ∷ 0 ∷ 0 ∷ 3 ∷ 0 ∷ 0 ∷ []) (101 ∷ 38 ∷ 102 ∷ 59 ∷ [])) t
+
+names-looked-up :
+    (names (38 ∷ 97 ∷ 109 ∷ 112 ∷ 59 ∷ 38 ∷ 101 ∷ 59 ∷ []) ≡ (97 ∷ 109 ∷ 112 ∷ []) ∷ (101 ∷ []) ∷ [])  -- &amp;&e;
+    × (names (38 ∷ 102 ∷ 59 ∷ 38 ∷ 101 ∷ 59 ∷ []) ≡ (102 ∷ []) ∷ [])  -- &f;&e;: 11 at f
+    × (names (38 ∷ 101 ∷ 59 ∷ 38 ∷ 35 ∷ 48 ∷ 59 ∷ 38 ∷ 101 ∷ 59 ∷ []) ≡ (101 ∷ []) ∷ [])  -- &e;&#0;&e;: 15
+unfolding names lookedUpInText binding
+names-looked-up = (refl, refl, refl)

@@ -3,4 +3,5 @@ pub mod Known
 pub mod Turns
 pub mod Unescaped
 pub mod Shifted
+pub mod LookedUpInText
 mod Examples

@@ -1,2 +1,3 @@
 pub mod Unescape
 pub mod Steps
+pub mod LookedUpInText
