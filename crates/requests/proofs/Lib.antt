@@ -2,3 +2,5 @@ pub mod External
 pub mod Marked
 pub mod Strict
 pub mod MarkedTable
+pub mod Unused
+mod UnusedExamples

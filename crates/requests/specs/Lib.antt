@@ -1,3 +1,4 @@
 pub mod External
 pub mod Marked
 pub mod Strict
+pub mod Unused
