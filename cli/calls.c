@@ -14,6 +14,7 @@ static uint32_t call(const struct request *q, uint8_t *scratch, size_t scratch_l
         return govlezna_unescape(q->text, q->text_length, q->list, q->list_length, q->pool, q->pool_length, out, length,
                                  answer);
     case NORMALIZE:
+    case USED:
         return (a->strict ? govlezna_normalize_attribute_value_strict : govlezna_normalize_attribute_value)(
             q->text, q->text_length, a->version, a->depth, a->limit, q->list, q->list_length, q->pool, q->pool_length, out,
             length, answer);
@@ -71,6 +72,13 @@ static uint32_t check(const struct request *q, uint64_t answer[2])
     return number;
 }
 
+/* The value itself is not made: it can be far longer than what was read. */
+static uint32_t read_only(const struct request *q, uint64_t answer[2])
+{
+    uint32_t number = call(q, NULL, 0, NULL, 0, answer);
+    return number == GOVLEZNA_NO_ROOM ? 0 : number;
+}
+
 uint32_t make_call(const struct request *q, struct outcome *o)
 {
     struct govlezna_cursor cursor = { 0, 0 };
@@ -79,6 +87,7 @@ uint32_t make_call(const struct request *q, struct outcome *o)
     case TRIM: return o->number = trim(q, o->answer);
     case CDATA: return o->number = govlezna_cdata_next(q->text, q->text_length, &cursor, o->answer);
     case CHECK: return o->number = check(q, o->answer);
+    case USED: return o->number = read_only(q, o->answer);
     default: return write_result(q, o);
     }
 }

@@ -10,7 +10,7 @@
 #define LIST_MOST ((size_t)49154)
 #define POOL_MOST ((size_t)1048576)
 
-enum command { ESCAPE, UNESCAPE, NORMALIZE, CANONICAL, EOLS, TRIM, CDATA, CHECK };
+enum command { ESCAPE, UNESCAPE, NORMALIZE, CANONICAL, EOLS, TRIM, CDATA, CHECK, USED };
 enum side { BOTH, START, END };
 
 /* Bytes that are lent. */
@@ -62,6 +62,32 @@ struct place {
     uint64_t character;    /* the character that is not allowed, of refusals 25 and 26 */
 };
 
+/* What a name is bound to. */
+enum bound { TABLE_TEXT, EXTERNAL_ENTITY, PREDEFINED, UNKNOWN };
+
+/* Of a text that was being read when the walk was refused: the part that was read whole, and the reference behind it. */
+struct step {
+    struct span read, reference;
+};
+
+/* All of these texts, the one given first; the depth is at most 128. */
+struct trail {
+    size_t count;
+    struct step steps[129];
+};
+
+/* A name that a reading asks the table for. */
+struct name {
+    struct span name;
+    enum bound bound;
+};
+
+/* All of them, each once, in the order of asking. */
+struct names {
+    struct name *names;
+    size_t count;
+};
+
 /* help.c */
 extern const char help[];
 
@@ -88,6 +114,16 @@ uint32_t next_piece(const struct request *request, struct govlezna_cursor *curso
 
 /* place.c */
 struct place find_place(const struct request *request, const struct outcome *outcome);
+/* 0: it was no text that was refused. */
+int find_trail(const struct request *request, const struct outcome *outcome, struct trail *trail);
+/* What a name is bound to in a table that was checked, and the table's text. */
+enum bound look_up(const struct request *request, struct span name, struct span *text);
+/* The name that an attribute's reference asks the table for. 0: it asks for none, as &#1; and &amp; do, and & without ;. */
+int asked_name(struct span reference, struct span *name);
+
+/* used.c */
+const char *bound_name(enum bound bound);
+struct names find_names(const struct request *request, const struct outcome *outcome);
 
 /* words.c. No words for a number that the header has not. */
 const char *words_of(uint32_t number);
@@ -96,6 +132,8 @@ const char *words_of(uint32_t number);
 /* Is it refused for a character that the XML version does not allow? */
 int is_forbidden(uint32_t number);
 size_t line_of(struct span text, size_t offset);
+/* The name with ? for what a terminal would not print. */
+void show_name(FILE *to, struct span name);
 void report_refusal(const struct request *request, const struct outcome *outcome);
 
 /* json.c */

@@ -31,10 +31,21 @@ static void put_check(const struct request *q, const struct outcome *o)
         printf("table valid, %" PRIu64 " definitions\n", o->answer[1]);
 }
 
+static void put_names(const struct request *q, const struct outcome *o)
+{
+    struct names names = find_names(q, o);
+    for (size_t i = 0; i < names.count; i++) {
+        show_name(stdout, names.names[i].name);
+        printf(": %s\n", bound_name(names.names[i].bound));
+    }
+    free(names.names);
+}
+
 static void put_success(const struct request *q, const struct outcome *o)
 {
     switch (q->arguments->command) {
     case CHECK: put_check(q, o); return;
+    case USED: return;
     case CDATA: put_sections(q); break;
     case TRIM: put(q->text + o->answer[0], o->answer[1]); break;
     default: put(o->bytes, o->answer[0]); break;
@@ -45,9 +56,13 @@ static void put_success(const struct request *q, const struct outcome *o)
 
 static void answer(const struct request *q, const struct outcome *o)
 {
-    if (q->arguments->json)
+    if (q->arguments->json) {
         (o->number == 0 ? json_success : json_refusal)(q, o);
-    else if (o->number == 0)
+        return;
+    }
+    if (q->arguments->command == USED)
+        put_names(q, o);
+    if (o->number == 0)
         put_success(q, o);
     else
         report_refusal(q, o);

@@ -2,6 +2,7 @@
 #include "cli.h"
 
 #include <inttypes.h>
+#include <stdlib.h>
 
 static void put_string(struct span text)
 {
@@ -42,6 +43,23 @@ static void put_pieces(const struct request *q)
     putchar(']');
 }
 
+/* Only `used` has names; of a value that is refused too. */
+static void put_names(const struct request *q, const struct outcome *o)
+{
+    struct names names;
+    if (q->arguments->command != USED)
+        return;
+    names = find_names(q, o);
+    printf(",\"names\":[");
+    for (size_t i = 0; i < names.count; i++) {
+        printf("%s{\"name\":", i > 0 ? "," : "");
+        put_string(names.names[i].name);
+        printf(",\"bound\":\"%s\"}", bound_name(names.names[i].bound));
+    }
+    putchar(']');
+    free(names.names);
+}
+
 static void begin(const struct request *q, uint32_t number)
 {
     printf("{\"command\":\"%s\"", command_name(q->arguments->command));
@@ -61,6 +79,8 @@ void json_success(const struct request *q, const struct outcome *o)
         put_number("start", o->answer[0]);
         put_number("length", o->answer[1]);
         put_result((struct span){ q->text + o->answer[0], o->answer[1] });
+    } else if (command == USED) {
+        put_names(q, o);
     } else {
         put_number("length", o->answer[0]);
         if (command == NORMALIZE || command == CANONICAL)
@@ -90,5 +110,6 @@ void json_refusal(const struct request *q, const struct outcome *o)
         if (is_forbidden(o->number))
             printf(",\"character\":\"U+%04" PRIX64 "\"", place.character);
     }
+    put_names(q, o);
     puts("}");
 }

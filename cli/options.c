@@ -5,8 +5,8 @@
 #include <stdlib.h>
 #include <string.h>
 
-static const char *const commands[] = { "escape", "unescape", "normalize", "canonical",
-                                        "eols",   "trim",     "cdata",     "check" };
+static const char *const commands[] = { "escape", "unescape", "normalize", "canonical", "eols",
+                                        "trim",   "cdata",    "check",     "used" };
 
 #define COMMANDS (sizeof commands / sizeof commands[0])
 
@@ -15,7 +15,10 @@ enum option {
 };
 
 #define ON(command) (1u << (command))
-#define ALL 0xFFu
+#define ALL (ON(COMMANDS) - 1)
+/* Those that read an attribute value, and those that have a table. */
+#define VALUES (ON(NORMALIZE) | ON(CANONICAL) | ON(USED))
+#define TABLES (VALUES | ON(UNESCAPE) | ON(CHECK))
 
 /* The options: how many values each takes, and which commands take it. */
 static const struct {
@@ -24,14 +27,14 @@ static const struct {
     unsigned commands;
 } options[OPTIONS] = {
     { "--level", 1, ON(ESCAPE) },
-    { "--version", 1, ON(NORMALIZE) | ON(CANONICAL) | ON(EOLS) },
-    { "--depth", 1, ON(NORMALIZE) | ON(CANONICAL) },
-    { "--limit", 1, ON(NORMALIZE) | ON(CANONICAL) },
-    { "--strict", 0, ON(NORMALIZE) | ON(CANONICAL) },
-    { "--entity", 1, ON(UNESCAPE) | ON(NORMALIZE) | ON(CANONICAL) | ON(CHECK) },
-    { "--external", 1, ON(UNESCAPE) | ON(NORMALIZE) | ON(CANONICAL) | ON(CHECK) },
-    { "--marked", 0, ON(UNESCAPE) | ON(NORMALIZE) | ON(CANONICAL) | ON(CHECK) },
-    { "--table", 2, ON(UNESCAPE) | ON(NORMALIZE) | ON(CANONICAL) | ON(CHECK) },
+    { "--version", 1, VALUES | ON(EOLS) },
+    { "--depth", 1, VALUES },
+    { "--limit", 1, VALUES },
+    { "--strict", 0, VALUES },
+    { "--entity", 1, TABLES },
+    { "--external", 1, TABLES },
+    { "--marked", 0, TABLES },
+    { "--table", 2, TABLES },
     { "--start", 0, ON(TRIM) },
     { "--end", 0, ON(TRIM) },
     { "--file", 1, ALL },

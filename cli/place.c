@@ -1,6 +1,7 @@
 /*
  * Where a refusal lies. The library's offsets are in the text that was being read, which may be the text of an entity, and
- * some refusals have none; the text and the reference are found here, by asking the library about shorter texts.
+ * some refusals have none; the text and the reference are found here, by asking the library about shorter texts. On the way
+ * there the trail says what was read of each text.
  */
 #include "cli.h"
 
@@ -140,31 +141,45 @@ static size_t little_endian(const uint8_t *bytes, size_t width)
     return value;
 }
 
-/* The text of a name in a table that was checked. 0: it gives that name none. */
-static int look_up(const struct request *q, struct span name, struct span *text)
+/* The first command of a table that was checked that defines the name; NULL: there is none. */
+static const uint8_t *defined_by(const struct request *q, struct span name)
 {
     for (const uint8_t *command = first_command(q); command[0] != 0; command += command_size(command)) {
         size_t length = little_endian(command + 5, 1);
-        if (length != name.length || memcmp(q->pool + little_endian(command + 1, 4), name.bytes, length) != 0)
-            continue;
-        if (command[0] == 2)
-            return 0;
-        *text = (struct span){ q->pool + little_endian(command + 6, 4), little_endian(command + 10, 2) };
-        return 1;
+        if (length == name.length && memcmp(q->pool + little_endian(command + 1, 4), name.bytes, length) == 0)
+            return command;
     }
-    return 0;
+    return NULL;
+}
+
+enum bound look_up(const struct request *q, struct span name, struct span *text)
+{
+    static const char *const predefined[] = { "lt", "gt", "amp", "apos", "quot" };
+    const uint8_t *command = defined_by(q, name);
+    if (command != NULL && command[0] == 2)
+        return EXTERNAL_ENTITY;
+    if (command != NULL) {
+        *text = (struct span){ q->pool + little_endian(command + 6, 4), little_endian(command + 10, 2) };
+        return TABLE_TEXT;
+    }
+    for (size_t i = 0; i < sizeof predefined / sizeof predefined[0]; i++)
+        if (name.length == strlen(predefined[i]) && memcmp(name.bytes, predefined[i], name.length) == 0)
+            return PREDEFINED;
+    return UNKNOWN;
+}
+
+int asked_name(struct span reference, struct span *name)
+{
+    *name = (struct span){ reference.bytes + 1, reference.length - 2 };
+    return reference.bytes[reference.length - 1] == ';' && !(name->length > 0 && name->bytes[0] == '#') &&
+           !(name->length == 3 && memcmp(name->bytes, "amp", 3) == 0);
 }
 
 /* Does the reference open an entity's text, and which? */
 static int opens(const struct walk *w, struct range reference, struct span *name, struct span *text)
 {
-    const uint8_t *bytes = w->text.bytes;
-    if (!attribute(w) || bytes[reference.end - 1] != ';')
-        return 0;
-    *name = (struct span){ bytes + reference.start + 1, reference.end - reference.start - 2 };
-    if (name->length == 0 || name->bytes[0] == '#' || (name->length == 3 && memcmp(name->bytes, "amp", 3) == 0))
-        return 0;
-    return look_up(w->request, *name, text);
+    struct span whole = { w->text.bytes + reference.start, reference.end - reference.start };
+    return attribute(w) && asked_name(whole, name) && look_up(w->request, *name, text) == TABLE_TEXT;
 }
 
 /* The first byte at which a text read at depth 0 is refused; `newer`: by the line ends of XML 1.1. */
@@ -238,23 +253,35 @@ static void enter(struct walk *w, struct span text)
     w->text = text;
 }
 
+/* This much of the text was read whole, then it went on or ended at the reference; none: at a character. */
+static void leave_trail(struct trail *trail, const struct walk *w, size_t read, struct range reference)
+{
+    if (trail == NULL)
+        return;
+    trail->steps[trail->count++] = (struct step){ { w->text.bytes, read },
+                                                  { w->text.bytes + reference.start, reference.end - reference.start } };
+}
+
 /* Goes into the texts of entities, down to the one where the walk ended. */
-static struct place find_in_walk(const struct request *q, const struct outcome *o)
+static struct place find_in_walk(const struct request *q, const struct outcome *o, struct trail *trail)
 {
     struct walk w = { q, { q->text, q->text_length }, q->text, NULL, q->arguments->depth, q->arguments->limit,
                       is_forbidden(o->number) };
     struct place place = { .known = 1 };
     struct span name, text;
     for (int nested = 0;; nested = 1) {
-        struct range found;
-        if (o->number == GOVLEZNA_FORBIDDEN_CHARACTER && stands_here(&w, o->answer[0], &place))
+        struct range found = { 0, 0 };
+        if (o->number == GOVLEZNA_FORBIDDEN_CHARACTER && stands_here(&w, o->answer[0], &place)) {
+            leave_trail(trail, &w, place.start, found);
             break;
+        }
         if (attribute(&w) && w.depth == 0) {
             place.start = first_stop(w.text, has_newer_line_ends(q, nested));
             place.end = place.start + 1;
             break;
         }
         found = refused_reference(&w);
+        leave_trail(trail, &w, found.start, found);
         if (!nested)
             place.opened = found.start;
         if (o->number == GOVLEZNA_TOO_MANY_OPENINGS)
@@ -276,6 +303,13 @@ static struct place find_in_walk(const struct request *q, const struct outcome *
     return place;
 }
 
+/* Is it the walk over a text that was refused? */
+static int ended_the_walk(uint32_t number)
+{
+    return (number >= GOVLEZNA_UNTERMINATED_ENTITY && number <= GOVLEZNA_TOO_MANY_OPENINGS) || number == GOVLEZNA_EXTERNAL_ENTITY ||
+           is_forbidden(number);
+}
+
 struct place find_place(const struct request *q, const struct outcome *o)
 {
     struct place none = { .known = 0 };
@@ -284,8 +318,14 @@ struct place find_place(const struct request *q, const struct outcome *o)
                                .text = { q->text, q->text_length },
                                .start = o->answer[0],
                                .end = o->answer[0] + 1 };
-    if ((o->number >= GOVLEZNA_UNTERMINATED_ENTITY && o->number <= GOVLEZNA_TOO_MANY_OPENINGS) ||
-        o->number == GOVLEZNA_EXTERNAL_ENTITY || is_forbidden(o->number))
-        return find_in_walk(q, o);
-    return none;
+    return ended_the_walk(o->number) ? find_in_walk(q, o, NULL) : none;
+}
+
+int find_trail(const struct request *q, const struct outcome *o, struct trail *trail)
+{
+    trail->count = 0;
+    if (!ended_the_walk(o->number))
+        return 0;
+    find_in_walk(q, o, trail);
+    return 1;
 }

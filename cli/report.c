@@ -45,14 +45,14 @@ static int control(const uint8_t *bytes, size_t length)
     return length == 3 && bytes[0] == 0xE2 && bytes[1] == 0x80 && (bytes[2] == 0xA8 || bytes[2] == 0xA9);
 }
 
-static void show_character(struct span text, size_t at, size_t length)
+static void show_character(FILE *to, struct span text, size_t at, size_t length)
 {
     if (length == 1 && text.bytes[at] == '\t')
-        fputc(' ', stderr);
+        fputc(' ', to);
     else if (length == 0 || control(text.bytes + at, length))
-        fputc('?', stderr);
+        fputc('?', to);
     else
-        fwrite(text.bytes + at, 1, length, stderr);
+        fwrite(text.bytes + at, 1, length, to);
 }
 
 /* Where to begin, so that the place is in sight. */
@@ -80,7 +80,7 @@ static void show_line(struct span text, size_t start, size_t end)
     fputs(whole ? "    " : "    ...", stderr);
     for (; shown < SHOWN && !ends_line(text, at); shown++) {
         size_t length = character(text, at);
-        show_character(text, at, length);
+        show_character(stderr, text, at, length);
         blanks += at < start;
         carets += at >= start && at < end;
         at += length > 0 ? length : 1;
@@ -93,12 +93,11 @@ static void show_line(struct span text, size_t start, size_t end)
     fputc('\n', stderr);
 }
 
-static void show_entity(struct span name)
+void show_name(FILE *to, struct span name)
 {
-    fputs(" of the entity ", stderr);
     for (size_t at = 0; at < name.length;) {
         size_t length = character(name, at);
-        show_character(name, at, length);
+        show_character(to, name, at, length);
         at += length > 0 ? length : 1;
     }
 }
@@ -111,8 +110,10 @@ static void show_place(const struct request *q, const struct place *place)
     else
         fprintf(stderr, ": byte %zu", place->start);
     fputs(" of the text", stderr);
-    if (place->entity.length > 0)
-        show_entity(place->entity);
+    if (place->entity.length > 0) {
+        fputs(" of the entity ", stderr);
+        show_name(stderr, place->entity);
+    }
     fprintf(stderr, ", line %zu\n", line_of(place->text, place->start));
     show_line(place->text, place->start, place->end);
     if (place->entity.length == 0)

@@ -75,6 +75,16 @@ misused() {
     expect $? "$@"
 }
 
+# lists NUMBER NAMES ARGUMENTS..: the names on standard output; with a number other than 0 also status 1 and the refusal on standard error.
+lists() {
+    local number=$1 names=$2
+    shift 2
+    run used "$@"
+    [ "$status" -eq $((number != 0)) ] && printf %s "$names" | cmp -s - "$room/out" &&
+        if [ "$number" -eq 0 ]; then [ ! -s "$room/err" ]; else [[ $(cat "$room/err") == "govlezna: refusal $number: "* ]]; fi
+    expect $? used "$@"
+}
+
 results() {
     gives 'a&lt;b&gt;&amp;&apos;&quot;&#13;' escape $'a<b>&\'"\r'
     gives '&lt;&gt;"' escape --level 1 '<>"'
@@ -126,7 +136,43 @@ results() {
     gives '-' escape -
 }
 
+# The names that reading a value asks the table for: those of replacement texts too, each once, and none after a refusal.
+names() {
+    local nested=(--entity 'e=&f;x' --entity 'f=&lt;' --entity f= --external g)
+    lists 0 '' 'a b'
+    lists 0 '' '&amp;&#65;' --entity amp=X
+    lists 0 $'e: text\nf: text\nlt: predefined\n' '&e;&f;&e;&lt;' "${nested[@]}"
+    lists 0 $'e: text\nf: text\nlt: predefined\n' '&e;' "${nested[@]}" --marked --strict --version 1.1
+    lists 0 $'lt: text\n' '&lt;' --entity lt=x
+    lists 11 $'e: text\nf: text\nlt: predefined\nu: unknown\n' '&e;&u;&gt;' "${nested[@]}"
+    lists 11 $': unknown\n' '&;&lt;'
+    lists 11 $'a&b: unknown\n' '&a&b;'
+    lists 27 $'g: external\n' '&g;&e;' "${nested[@]}"
+    lists 27 $'f: text\na: text\ng: external\n' '&f;&a;&e;' --entity 'a=x&g;' --entity f= --external g
+    lists 17 $'e: text\n' '&e;&gt;' "${nested[@]}" --limit 0
+    lists 17 $'e: text\nf: text\n' '&e;&gt;' "${nested[@]}" --limit 1
+    lists 17 $'gt: predefined\ne: text\nf: text\nlt: predefined\n' '&gt;&e;&e;&apos;' "${nested[@]}" --limit 3
+    lists 16 $'e: text\n' '&e;&gt;' "${nested[@]}" --depth 1
+    lists 16 '' '&e;' "${nested[@]}" --depth 0
+    lists 10 $'lt: predefined\n' '&lt;&e' "${nested[@]}"
+    lists 15 $'lt: predefined\n' '&lt;&#0;&e;' "${nested[@]}"
+    lists 25 $'lt: predefined\n' '&lt;&#1;&e;' "${nested[@]}" --strict
+    lists 26 $'lt: predefined\n' $'&lt;\x01&e;' "${nested[@]}" --strict
+    lists 26 $'h: text\ngt: predefined\n' '&h;&e;' --entity $'h=&gt;\x01&lt;' --strict
+    lists 26 $'h: text\n' '&h;&e;' --entity $'h=\x01&lt;' --strict --depth 1
+    lists 2 '' '&e;' --entity e=x --depth 129
+    lists 9 '' '&e;' --entity =x
+    lists 0 $'a?b: text\n' $'&a\nb;' --entity $'a\nb=x'
+    lists 0 $'a: text\n' '&a;' --entity "a=$(printf '%065535d' 0)"
+}
+
 json() {
+    gives '{"command":"used","number":0,"names":[{"name":"e","bound":"text"},{"name":"lt","bound":"predefined"}]}'$'\n' \
+        used --json '&e;' --entity 'e=&lt;'
+    gives '{"command":"used","number":0,"names":[]}'$'\n' used --json ''
+    run used --json $'&e;&"\n;' --entity e=
+    [ "$status" -eq 1 ] && [ ! -s "$room/err" ] && [ "$(cat "$room/out")" = '{"command":"used","number":11,"words":"unknown entity","first":4,"second":6,"start":4,"end":6,"line":1,"names":[{"name":"e","bound":"text"},{"name":"\"\u000a","bound":"unknown"}]}' ]
+    expect $? used --json unknown
     gives '{"command":"escape","number":0,"length":4,"result":"&lt;"}'$'\n' escape --json '<'
     gives '{"command":"unescape","number":0,"length":4,"result":"\"\\\u000a\u007f"}'$'\n' unescape --json $'"\\\n\x7F'
     gives '{"command":"canonical","number":0,"length":4,"openings":1,"result":"sail"}'$'\n' canonical '&e;' --entity e=sail --json
@@ -154,7 +200,7 @@ refusals() {
     refuses 4 '' escape a --level 4
     refuses 4 '' eols a --version 3
     refuses 4 '' normalize a --version=255
-    for command in escape unescape normalize canonical eols trim cdata check; do
+    for command in escape unescape normalize canonical eols trim cdata check used; do
         refuses 5 ': byte 1 of the text, line 1' "$command" $'a\xFF'
     done
     refuses 9 ': --entity number 2' unescape a --entity a=b --entity =c
@@ -387,6 +433,8 @@ usage() {
     misused 'not an option of this command' unescape a --strict
     misused 'given twice' normalize a --strict --strict
     misused 'takes no value' canonical a --strict=1
+    misused 'not an option of this command' used a --level 1
+    misused 'not an option of this command' used a --start
     misused 'at most 65,535 bytes' unescape a --entity "b=$(head -c 65536 /dev/zero | tr '\0' a)"
     misused 'two files' unescape a --table b
     misused '--table is given too' unescape a --entity b=c --table d e
@@ -398,6 +446,7 @@ usage() {
 }
 
 results
+names
 json
 refusals
 places
