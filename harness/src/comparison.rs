@@ -62,15 +62,24 @@ impl<'a> Comparison<'a> {
                 self.misread(arguments, &expected, &read);
             }
         }
-        let lent = self.buffers.lend(arguments, &expected, turn);
+        self.expect_at(arguments, &expected, turn);
+        expected
+    }
+
+    /// Compares with this answer, which may be that of other arguments.
+    pub fn expect(&mut self, arguments: &Arguments, expected: &Answer) {
+        self.expect_at(arguments, expected, self.compared);
+    }
+
+    fn expect_at(&mut self, arguments: &Arguments, expected: &Answer, turn: usize) {
+        let lent = self.buffers.lend(arguments, expected, turn);
         let number = (self.library)(&lent);
-        let damage = self.buffers.damage(arguments, &expected);
+        let damage = self.buffers.damage(arguments, expected);
         self.compared += 1;
         *self.numbers.entry(expected.number).or_default() += 1;
         if number != expected.number || damage.is_some() {
-            self.differ(arguments, &lent, &expected, number, damage);
+            self.differ(arguments, &lent, expected, number, damage);
         }
-        expected
     }
 
     #[cold]

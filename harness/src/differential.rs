@@ -5,6 +5,7 @@ use crate::comparison::{Comparison, Reading};
 use crate::corpus;
 use crate::lent::Lent;
 use crate::random::Random;
+use crate::unused;
 use std::time::{Duration, Instant};
 
 /// A run that compares fewer inputs of a call has failed: its inputs were lost somewhere.
@@ -20,6 +21,7 @@ pub fn run(calls: &[&Call], seed: u64, time: Duration) -> bool {
     let mut passed = true;
     for (call, turn) in calls.iter().zip(1..) {
         passed &= compare_call(call, seed, start + share * turn);
+        passed &= unused::have_no_say(call, seed);
     }
     println!("differential: {:.1} s", start.elapsed().as_secs_f64());
     passed

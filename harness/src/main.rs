@@ -30,6 +30,8 @@ mod self_test;
 mod stored;
 mod table;
 mod timing;
+mod unused;
+mod used;
 
 use call::Call;
 use random::DEFAULT_SEED;
@@ -41,6 +43,7 @@ const USAGE: &str = "\
 harness differential [--calls A,B] [--seed N] [--minutes M]   compare every call with the Rust
 harness self-test [--calls A,B]                               check that wrong libraries are caught
 harness stored [--calls A,B] [FILE]                           write a sample of the Rust's answers
+harness used                                                  write values and the names that they look up
 harness benchmark [--calls A,B]                               measure every call against the Rust
 harness instructions [--calls A,B] [--rows PART] [--before FILE]   count both sides' instructions (valgrind)
 harness corpus FOLDER                                         print those of a fuzzer's inputs that are kept
@@ -76,6 +79,7 @@ fn run(words: &[&str]) -> Option<bool> {
         ("self-test", []) => Some(self_test::run(&calls)),
         ("stored", []) => Some(passed(stored::write(&calls, &mut io::stdout()))),
         ("stored", [file]) => Some(passed(store(&calls, file))),
+        ("used", []) => Some(passed(used::write(&mut io::stdout()))),
         ("corpus", [folder]) => Some(passed(corpus::choose(folder, &mut io::stdout()))),
         ("benchmark", []) => {
             benchmark::run(&calls);

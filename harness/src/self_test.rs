@@ -6,13 +6,14 @@ use crate::comparison::{Comparison, Reading};
 use crate::faults;
 use crate::lent::{Lent, Run};
 use crate::random::{Random, DEFAULT_SEED};
+use crate::unused;
 
 /// True: the documents' rows are what is expected, every wrong library and every wrong reading is caught, and the real ones are not.
 pub fn run(calls: &[&Call]) -> bool {
     let (mut tried, mut missed, mut rows) = (0, 0, 0);
     for call in calls {
         rows += call.documented.len();
-        missed += differing_rows(call);
+        missed += differing_rows(call) + unused::differing_rows(call);
         let reading = call.reading.as_ref().map(|reading| reading as &Reading);
         if is_caught(call, &itself(call.run), reading, &[]) {
             println!("{}: the library or the reading itself differs", call.name);
@@ -28,6 +29,9 @@ pub fn run(calls: &[&Call]) -> bool {
             // SAFETY: the comparison lends memory of the lengths stated; the faults stay inside its guards.
             let library = |lent: &Lent| unsafe { fault(lent, call.run) };
             judge(name, is_caught(call, &library, None, call.families));
+        }
+        for (name, caught) in unused::misreadings(call) {
+            judge(&format!("names looked up: {name}"), caught);
         }
         let Some(real) = call.reading else {
             continue;

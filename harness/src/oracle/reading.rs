@@ -8,6 +8,7 @@ use super::text::checked;
 use crate::answer::{refusal, Answer};
 use crate::arguments::{Arguments, LONGEST_OUTPUT};
 use crate::table::Definition;
+use std::collections::HashSet;
 
 const PREDEFINED: [(&str, &str); 5] = [
     ("lt", "<"),
@@ -71,10 +72,36 @@ struct Walk<'a> {
     settings: Settings<'a>,
     value: Vec<u8>,
     openings: u64,
+    /// Told each name that the table is asked for.
+    asked: &'a mut dyn FnMut(&str),
 }
 
 /// Attribute normalization.
 pub fn normalized(arguments: &Arguments, rule: Rule) -> Result<Made, Answer> {
+    walked(arguments, rule, &mut |_| ())
+}
+
+/// The names that it asks the table for (K13), each once, in the order of asking.
+pub fn looked_up(arguments: &Arguments, rule: Rule) -> Vec<String> {
+    each_once(|asked| drop(walked(arguments, rule, asked)))
+}
+
+/// Those of unescaping.
+pub fn looked_up_in_text(arguments: &Arguments) -> Vec<String> {
+    each_once(|asked| drop(replaced(arguments, asked)))
+}
+
+fn each_once(read: impl FnOnce(&mut dyn FnMut(&str))) -> Vec<String> {
+    let (mut names, mut seen) = (vec![], HashSet::new());
+    read(&mut |name| {
+        if seen.insert(name.to_string()) {
+            names.push(name.to_string());
+        }
+    });
+    names
+}
+
+fn walked(arguments: &Arguments, rule: Rule, asked: &mut dyn FnMut(&str)) -> Result<Made, Answer> {
     settings_checked(arguments)?;
     let text = checked(arguments.text)?;
     let definitions = defined_by(arguments.table)?;
@@ -104,6 +131,7 @@ pub fn normalized(arguments: &Arguments, rule: Rule) -> Result<Made, Answer> {
         settings,
         value: vec![],
         openings: 0,
+        asked,
     };
     walk.text(text, Manner { ends, raw }, arguments.depth)?;
     Ok(Made {
@@ -153,6 +181,7 @@ impl Walk<'_> {
         } else if name == "amp" {
             self.value.push(b'&');
         } else {
+            (self.asked)(name);
             match bound(self.settings.definitions, name) {
                 Bound::Nothing => return Err(unknown(at, name)),
                 Bound::External => return Err(refusal(27, at as u64)),
@@ -227,6 +256,10 @@ impl LineEnds {
 
 /// Unescaping. A mark has no say in it. What no output is long enough for is counted and not made.
 pub fn unescaped(arguments: &Arguments) -> Result<Made, Answer> {
+    replaced(arguments, &mut |_| ())
+}
+
+fn replaced(arguments: &Arguments, asked: &mut dyn FnMut(&str)) -> Result<Made, Answer> {
     let text = checked(arguments.text)?;
     let definitions = defined_by(arguments.table)?;
     let (mut result, mut left_out, mut rest) = (String::new(), 0, text);
@@ -246,6 +279,7 @@ pub fn unescaped(arguments: &Arguments) -> Result<Made, Answer> {
             result.push(character(number)?);
             continue;
         }
+        asked(name);
         match bound(&definitions, name) {
             Bound::Nothing => return Err(unknown(at, name)),
             Bound::External => return Err(refusal(27, at as u64)),
