@@ -143,6 +143,7 @@ names() {
     lists 0 '' '&amp;&#65;' --entity amp=X
     lists 0 $'e: text\nf: text\nlt: predefined\n' '&e;&f;&e;&lt;' "${nested[@]}"
     lists 0 $'e: text\nf: text\nlt: predefined\n' '&e;' "${nested[@]}" --marked --strict --version 1.1
+    lists 0 $'panel: text\nsail: text\nlt: predefined\n' 'Panel &panel; &lt;3>' --entity 'panel=&sail; top' --entity sail=Fock --entity boom=Baum
     lists 0 $'lt: text\n' '&lt;' --entity lt=x
     lists 11 $'e: text\nf: text\nlt: predefined\nu: unknown\n' '&e;&u;&gt;' "${nested[@]}"
     lists 11 $': unknown\n' '&;&lt;'
