@@ -3,4 +3,5 @@ pub mod Marked
 pub mod Strict
 pub mod MarkedTable
 pub mod Unused
+pub mod UnusedBytes
 mod UnusedExamples

@@ -133,7 +133,7 @@ module _ (list pool : List ℕ) (bare : marked list ≡ false) where
 -- ---- anywhere but first
 
 -- commands that pass go on past their operands
-more-left : (pool : List ℕ) (offset skip : ℕ) (list : List ℕ) {x y : ℕ} → commandsCheck pool offset skip list ≡ Done x y → skip < length list
+pub more-left : (pool : List ℕ) (offset skip : ℕ) (list : List ℕ) {x y : ℕ} → commandsCheck pool offset skip list ≡ Done x y → skip < length list
 unfolding commandsCheck
 more-left pool offset skip [] e = let z : _≡_ {A = ℕ} 0 1 = cc in absurd (omega (arith, z))
 more-left pool offset zero (b ∷ bs) e = omega arith
@@ -148,7 +148,7 @@ same-number front x y at (suc width) h =
     rw (p, q, same-number front x y (suc at) width (omega (arith, h)))
 
 -- a declaration is read off its operands alone
-same-declaration : (b : ℕ) (front x y : List ℕ) → operands b ≤ length front → declaration b (front ++ x) ≡ declaration b (front ++ y)
+pub same-declaration : (b : ℕ) (front x y : List ℕ) → operands b ≤ length front → declaration b (front ++ x) ≡ declaration b (front ++ y)
 unfolding declaration operands
 same-declaration b front x y h = go (eqb b 1) refl h
   where
@@ -158,12 +158,12 @@ same-declaration b front x y h = go (eqb b 1) refl h
     go false q k = rw (q, same-number front x y 0 4 (omega (arith, k)), same-number front x y 4 1 (omega (arith, k)))
 
 -- an end with more after it is refused
-end-refused : (front : List ℕ) (offset : ℕ) {x y : ℕ} → endCheck (front ++ 0 ∷ []) offset ≡ Done x y → ⊥
+pub end-refused : (front : List ℕ) (offset : ℕ) {x y : ℕ} → endCheck (front ++ 0 ∷ []) offset ≡ Done x y → ⊥
 unfolding endCheck
 end-refused [] offset e = let z : _≡_ {A = ℕ} 0 1 = cc in omega (arith, z)
 end-refused (b ∷ bs) offset e = let z : _≡_ {A = ℕ} 0 1 = cc in omega (arith, z)
 
-no-answer : {why first second x y : ℕ} → Refused why first second ≡ Done x y → ⊥
+pub no-answer : {why first second x y : ℕ} → Refused why first second ≡ Done x y → ⊥
 no-answer e = let z : _≡_ {A = ℕ} 0 1 = cc in omega (arith, z)
 
 -- the check of a byte at which no operand stands, by the declaration that it starts

@@ -14,7 +14,7 @@ use Rattle.text.specs.Call.{Called, guarded, andThen, textCheck, argumentCheck}
 use Rattle.text.specs.declared.Answer.{Answer}
 use Rattle.text.specs.declared.Answer.the-variants.{Done, Refused}
 use Rattle.text.proofs.Bytes.{same-equal}
-use Rattle.entity.specs.Table.{Declaration, nameOf, declarations, tableCheck, marked}
+use Rattle.entity.specs.Table.{Declaration, nameOf, declarations, tableCheck}
 use Rattle.entity.specs.Binding.{Bound, text, predefined, external, unknown, predefinedOf, bodyBound, bindingIn, binding}
 use Rattle.tokens.specs.Outcome.{Outcome, finished}
 use Rattle.tokens.specs.Lookups.{Each}
@@ -23,7 +23,7 @@ use Rattle.unescape.specs.Unescape.{unescape}
 use Rattle.unescape.specs.LookedUpInText.{lookedUpInText}
 use Rattle.unescape.proofs.LookedUpInText.{unescape-agrees}
 use Rattle.attribute.specs.Checks.{settingsCheck}
-use Rattle.attribute.specs.Walk.{normalize, readingOf}
+use Rattle.attribute.specs.Walk.{normalize}
 use Rattle.attribute.specs.Strict.{readingBy}
 use Rattle.attribute.specs.Form.{formed}
 use Rattle.attribute.specs.LookedUp.{lookedUp}

@@ -3,8 +3,11 @@
 -- computation. Assumes nothing.
 use mathlib.Core.Path.{_≡_, refl}
 use mathlib.Core.Bool.{false}
-use mathlib.Core.List.{List, [], _∷_}
-use Prim.Native.Nat.{ℕ}
+use mathlib.Core.List.{List, [], _∷_, _++_}
+use mathlib.Core.Logic.{_≢_}
+use Prim.Native.Nat.{ℕ, _<_}
+use native.Mathlib.Omega.{arith}
+use lib.Dec.{lit<}
 use Rattle.text.specs.Call.{Called, called, lengthCheck, utf8Check}
 use Rattle.text.specs.Utf8.{utf8End}
 use Rattle.entity.specs.Table.{declarations, tableCheck, marked}
@@ -17,6 +20,7 @@ use Rattle.attribute.specs.LookedUp.{lookedUp}
 use Rattle.govlezna.specs.Calls.{checkTableCall, normalizeAttributeValueCall}
 use Rattle.requests.specs.Unused.{Reader, normalizing, callWith, namesWith, command1, BindAlike, OneMarking}
 use Rattle.requests.proofs.Unused.{k13-unused}
+use Rattle.requests.proofs.UnusedBytes.{k13-grown}
 
 -- e = `&f;`; f = `x`; g = `1`
 abbrev list : List ℕ
@@ -55,6 +59,27 @@ alike = (command1 (38 ∷ 102 ∷ 59 ∷ []), (command1 (120 ∷ []), tt))
 
 edited-same : callWith reader list pool ≡ callWith reader edited editedPool
 edited-same = k13-unused list pool edited editedPool one-marking reader alike
+
+-- e = `&f;`; f = `x`, and h = `z` put behind them
+abbrev front : List ℕ
+front = 1 ∷ 0 ∷ 0 ∷ 0 ∷ 0 ∷ 1 ∷ 1 ∷ 0 ∷ 0 ∷ 0 ∷ 3 ∷ 0 ∷ 1 ∷ 4 ∷ 0 ∷ 0 ∷ 0 ∷ 1 ∷ 5 ∷ 0 ∷ 0 ∷ 0 ∷ 1 ∷ 0 ∷ []
+
+abbrev added : List ℕ
+added = 1 ∷ 6 ∷ 0 ∷ 0 ∷ 0 ∷ 1 ∷ 7 ∷ 0 ∷ 0 ∷ 0 ∷ 1 ∷ 0 ∷ 0 ∷ []
+
+abbrev frontPool : List ℕ
+frontPool = 101 ∷ 38 ∷ 102 ∷ 59 ∷ 102 ∷ 120 ∷ []
+
+grown-marking : OneMarking (front ++ 0 ∷ []) frontPool (front ++ added) (frontPool ++ 104 ∷ 122 ∷ [])
+unfolding checkTableCall tableCheck declarations marked
+grown-marking = record { count = 2; accepted = refl; count′ = 3; accepted′ = refl; marking = refl }
+
+other : (a b : ℕ) → a < b → b ∷ [] ≢ a ∷ []
+other a b h e = let z : b ≡ a = cc in omega (arith, h, z)
+
+grown-same : callWith reader (front ++ 0 ∷ []) frontPool ≡ callWith reader (front ++ added) (frontPool ++ 104 ∷ 122 ∷ [])
+unfolding lookedUp readingBy
+grown-same = k13-grown front added frontPool (104 ∷ 122 ∷ []) grown-marking reader ((other 101 104 (lit< tt), (other 102 104 (lit< tt), tt)), tt)
 
 -- a value with a table, at depth 2, with two openings and room for two bytes
 normalized : List ℕ → List ℕ → List ℕ → Called

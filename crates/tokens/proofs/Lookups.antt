@@ -1,6 +1,6 @@
 -- Two runs whose answers agree wherever the names that the first asks for are of one kind, agree where those of the whole run are
 -- (`run-agrees`), and ask for the same names. Assumes nothing.
-use mathlib.Core.Path.{_≡_, refl, sym, ap, _∙_}
+use mathlib.Core.Path.{_≡_, refl, ap, _∙_}
 use Prim.Native.Nat.{ℕ}
 use mathlib.Core.List.{List, [], _∷_, _++_}
 use Rattle.tokens.specs.Tokens.{Stop, Token, copy, stop, barred}

@@ -2,10 +2,9 @@
 -- names (`unescape-agrees`). Assumes nothing.
 use mathlib.Core.Path.{_≡_, refl, ap}
 use Prim.Native.Nat.{ℕ}
-use mathlib.Core.List.{List, [], _∷_}
+use mathlib.Core.List.{List, []}
 use Rattle.entity.specs.Binding.{Bound}
 use Rattle.tokens.specs.Tokens.{Stop, kept, space, number, named, unterminated, tokens}
-use Rattle.tokens.specs.Outcome.{Outcome}
 use Rattle.tokens.specs.Lookups.{Each}
 use Rattle.tokens.proofs.Lookups.{Agree, agree-itself, run-agrees}
 use Rattle.unescape.specs.Unescape.{textHead, copied, replaced, unescapeFrom, unescape}
