@@ -23,6 +23,7 @@ use Rattle.attribute.specs.Walk.{normalize, readingOf}
 use Rattle.attribute.specs.Strict.{readingBy}
 use Rattle.attribute.specs.Form.{formed}
 use Rattle.charref.specs.CharRef.{charNumber, anyCharacter, numberAnswer}
+use Rattle.register.specs.RegisterCalls.{addCall, withdrawCall, countCall}
 
 -- document 01, UTF-8: 1 and 5, else the text's length
 unfoldable pub checkUtf8Call : List ℕ → Called
@@ -106,3 +107,15 @@ unfoldable pub canonicalFormStrictCall : List ℕ → ℕ → ℕ → ℕ → Li
 canonicalFormStrictCall text version depth limit list pool scratch out =
     guarded (walkCheck text version depth limit list pool) (scratch ∷ out ∷ [])
     (formed (ruleOf version) (walkedStrictly text version depth limit list pool) scratch out)
+
+-- document 02, K10, add one: 1 and 5 of the form, 28, then 30, else the form's count and the used length
+abbrev pub registerAddCall : List ℕ → List ℕ → ℕ → Called
+registerAddCall form buffer used = addCall form buffer used
+
+-- document 02, K10, withdraw one: 1 and 5 of the form, 28, then 29, else the form's count and the used length
+abbrev pub registerWithdrawCall : List ℕ → List ℕ → ℕ → Called
+registerWithdrawCall form buffer used = withdrawCall form buffer used
+
+-- document 02, K10, count one: 1 and 5 of the form, then 28, else the form's count
+abbrev pub registerCountCall : List ℕ → List ℕ → ℕ → Called
+registerCountCall form buffer used = countCall form buffer used

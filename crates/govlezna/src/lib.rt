@@ -7,9 +7,10 @@ use utils::Cursor;
 ghost use mathlib.Core.Path.{_≡_};
 ghost use mathlib.Core.List.{[], _∷_};
 ghost use Rattle.text.specs.Call.{called};
-ghost use Rattle.govlezna.specs.Calls.{checkUtf8Call, parseNumberCall, escapeCall, normalizeEolsCall, trimCall, cursorLeft, cdataNextCall, checkTableCall, unescapeCall, normalizeAttributeValueCall, canonicalFormCall, normalizeAttributeValueStrictCall, canonicalFormStrictCall};
+ghost use Rattle.govlezna.specs.Calls.{checkUtf8Call, parseNumberCall, escapeCall, normalizeEolsCall, trimCall, cursorLeft, cdataNextCall, checkTableCall, unescapeCall, normalizeAttributeValueCall, canonicalFormCall, normalizeAttributeValueStrictCall, canonicalFormStrictCall, registerAddCall, registerWithdrawCall, registerCountCall};
 ghost use Rattle.govlezna.specs.declared.CDataNext.{CDataNext};
 ghost use Rattle.utils.specs.Trim.{trimStart, trimEnd, trimSpaces};
+ghost use Rattle.register.specs.RegisterCalls.{lent};
 
 // All that `govlezna_cdata_next` leaves behind: its number, the answer words and the cursor.
 pub struct CDataNext {
@@ -348,4 +349,47 @@ pub extern "C" fn govlezna_cdata_next(
     *cursor = s.next;
     *answer = s.words;
     s.number
+}
+
+// One more of a form in a register (K10), whose used length is lent. Success: the form's count, the used length.
+#[no_mangle]
+pub extern "C" fn govlezna_register_add(
+    form: &[u8],
+    buffer: &mut [u8],
+    used: &mut u64,
+    answer: &mut [u64; 2],
+) -> u32
+    ensures { λ r. ⌜ called r (now (answer .exit)) (lent (now (buffer .exit)) (now (used .exit))) ≡ registerAddCall (now (form .entry)) (now (buffer .entry)) (now (used .entry)) ⌝ }
+{
+    let added = registers::add(form, buffer, *used);
+    *used = changes::used_after(added, *used);
+    put(added, answer)
+}
+
+// One less (K10). Success: the form's count, the used length.
+#[no_mangle]
+pub extern "C" fn govlezna_register_withdraw(
+    form: &[u8],
+    buffer: &mut [u8],
+    used: &mut u64,
+    answer: &mut [u64; 2],
+) -> u32
+    ensures { λ r. ⌜ called r (now (answer .exit)) (lent (now (buffer .exit)) (now (used .exit))) ≡ registerWithdrawCall (now (form .entry)) (now (buffer .entry)) (now (used .entry)) ⌝ }
+{
+    let withdrawn = registers::withdraw(form, buffer, *used);
+    *used = changes::used_after(withdrawn, *used);
+    put(withdrawn, answer)
+}
+
+// The count of a form in a register (K10). Success: the count.
+#[no_mangle]
+pub extern "C" fn govlezna_register_count(
+    form: &[u8],
+    buffer: &[u8],
+    used: u64,
+    answer: &mut [u64; 2],
+) -> u32
+    ensures { λ r. ⌜ called r (now (answer .exit)) [] ≡ registerCountCall (now (form .entry)) (now (buffer .entry)) used ⌝ }
+{
+    put(registers::count(form, buffer, used), answer)
 }
