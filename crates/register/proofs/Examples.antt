@@ -8,7 +8,7 @@ use Rattle.text.specs.Call.{called, lengthCheck, utf8Check}
 use Rattle.register.specs.Entries.{entry}
 use Rattle.register.specs.Stored.{bytesOf, written}
 use Rattle.register.specs.RegisterCalls.{lent, addCall, withdrawCall, countCall}
-use Rattle.register.specs.CallLists.{adds, withdraws, counts, empty, afterCalls, acceptedOf, isAdd, isWithdrawal}
+use Rattle.register.specs.CallLists.{adds, withdraws, counts, empty, afterCalls, acceptedOf, isAdd, isWithdrawal, becameBy}
 
 abbrev a : List ℕ
 a = 97 ∷ []
@@ -38,6 +38,7 @@ calls :
     × (addCall a (oneB ++ sevens 9) 10 ≡ called 0 (1 ∷ 19 ∷ []) (lent (oneB ++ oneA) 19))  -- at the end, where it just fits
     × (addCall a (oneB ++ sevens 8) 10 ≡ called 30 (0 ∷ 0 ∷ []) (lent (oneB ++ sevens 8) 10))  -- no room
     × (addCall a (oneA ++ sevens 3) 9 ≡ called 0 (2 ∷ 9 ∷ []) (lent (twoA ++ sevens 3) 9))
+    × (addCall a (oneA ++ oneB) 19 ≡ called 0 (2 ∷ 19 ∷ []) (lent (twoA ++ oneB) 19))  -- where it stood
     × (addCall a (fullA ++ sevens 9) 9 ≡ called 30 (0 ∷ 0 ∷ []) (lent (fullA ++ sevens 9) 9))  -- full, with room
     × (withdrawCall a (oneA ++ oneB ++ sevens 2) 19 ≡ called 0 (0 ∷ 10 ∷ []) (lent (oneB ++ replicate 9 0 ++ sevens 2) 10))  -- the freed bytes are zero
     × (withdrawCall a (twoA ++ oneB) 19 ≡ called 0 (1 ∷ 19 ∷ []) (lent (oneA ++ oneB) 19))
@@ -46,7 +47,7 @@ calls :
     × (countCall a (twoA ++ sevens 2) 9 ≡ called 0 (2 ∷ 0 ∷ []) [])
     × (countCall b (twoA ++ sevens 2) 9 ≡ called 0 (0 ∷ 0 ∷ []) [])
 unfolding addCall withdrawCall countCall lengthCheck utf8Check utf8End written
-calls = (refl, refl, refl, refl, refl, refl, refl, refl, refl, refl, refl)
+calls = (refl, refl, refl, refl, refl, refl, refl, refl, refl, refl, refl, refl)
 
 -- refusal 28, by each of its reasons
 damage :
@@ -67,6 +68,7 @@ lists :
     (afterCalls (adds a ∷ adds b ∷ withdraws a ∷ counts a ∷ adds a ∷ []) (empty (sevens 20)) ≡ record { buffer = oneB ++ oneA ++ sevens 1; used = 19 })
     × (acceptedOf (isAdd a) (adds a ∷ adds a ∷ withdraws b ∷ adds b ∷ []) (empty (sevens 9)) ≡ 2)
     × (acceptedOf (isWithdrawal b) (adds a ∷ withdraws b ∷ []) (empty (sevens 9)) ≡ 0)
+    × (becameBy (adds a ∷ adds b ∷ withdraws a ∷ adds b ∷ adds a ∷ []) (empty (sevens 20)) [] ≡ b ∷ a ∷ [])
     × (bytesOf (entry a 1 ∷ entry b 1 ∷ []) ≡ oneA ++ oneB)
-unfolding afterCalls acceptedOf bytesOf lengthCheck utf8Check utf8End written
-lists = (refl, refl, refl, refl)
+unfolding afterCalls acceptedOf becameBy bytesOf lengthCheck utf8Check utf8End written
+lists = (refl, refl, refl, refl, refl)

@@ -1,19 +1,15 @@
 -- What the calls on a register keep, in K10's words: a refused call leaves everything (`refused-keeps`), bytes past the used lengths stay
--- (`written-past`), those freed are zero (`written-freed`), and entries keep their order (`recount-forms`). Assumes nothing.
-use mathlib.Core.Path.{_≡_, refl, ap, ap₂, sym, _∙_}
+-- (`past-stays`), and those freed are zero (`freed-zero`). Assumes nothing.
+use mathlib.Core.Path.{_≡_, refl, ap, ap₂, sym, _∙_, subst}
 use Prim.Native.Nat.{ℕ, _+_, _-_, _≤_, _<_}
 use native.Mathlib.Omega.{arith}
-use mathlib.Core.Bool.{Bool, true, false}
-use mathlib.Core.List.{List, [], _∷_, _++_, append-assoc, map}
-use lib.Dec.{eqb}
+use mathlib.Core.List.{List, [], _++_, append-assoc}
 use lib.ListN.{length, getD, drop, replicate, length-append, length-replicate, getD-replicate, List·getD-append}
 use lib.Seq.{drop-append-add, drop-drop, getD-append-add}
-use borrow.Author.Tests.{ne-eqb}
-use Rattle.text.specs.Bytes.{pick, sameBytes}
 use Rattle.text.specs.Call.{guarded, textCheck}
 use Rattle.text.specs.declared.Answer.{Answer}
 use Rattle.text.specs.declared.Answer.the-variants.{Done, Refused}
-use Rattle.register.specs.Entries.{Entry, entry, cost, recount, Change, changed, refused, add, withdraw}
+use Rattle.register.specs.Entries.{Entry, cost, Change, changed, refused, add, withdraw}
 use Rattle.register.specs.Stored.{Held, holds, damaged, bytesOf, register, written}
 use Rattle.register.specs.RegisterCalls.{lent, leaves, ofHeld, addCall, withdrawCall, counted, countCall}
 use Rattle.register.specs.CallLists.{Asked, adds, withdraws, counts, Store, answered, leftBy, numberOf}
@@ -54,7 +50,7 @@ module _ (used : ℕ) (es : List Entry) (buffer : List ℕ) where
   value-length : length value ≡ cost es + (used - cost es)
   value-length = length-append (bytesOf es) zeros ∙ ap₂ _+_ (bytes-cost es) (length-replicate (used - cost es) 0)
 
-  pub written-past : (n : ℕ) → used ≤ n → cost es ≤ n → drop n (written used es buffer) ≡ drop n buffer
+  written-past : (n : ℕ) → used ≤ n → cost es ≤ n → drop n (written used es buffer) ≡ drop n buffer
   unfolding written
   written-past n h g =
       let k = n - length value in
@@ -64,7 +60,7 @@ module _ (used : ℕ) (es : List Entry) (buffer : List ℕ) where
       ∙ drop-drop k (length value) buffer
       ∙ ap (λ (m : ℕ). drop m buffer) (sym q)
 
-  pub written-freed : (k : ℕ) → cost es ≤ k → k < used → getD (written used es buffer) k 0 ≡ 0
+  written-freed : (k : ℕ) → cost es ≤ k → k < used → getD (written used es buffer) k 0 ≡ 0
   unfolding written
   written-freed k h g =
       let i = k - cost es in
@@ -76,17 +72,29 @@ module _ (used : ℕ) (es : List Entry) (buffer : List ℕ) where
       ∙ List·getD-append zeros rest 0 i (omega (arith, n))
       ∙ getD-replicate (used - cost es) i 0 0 (omega arith)
 
--- ---- K10: entries in the order in which they became present
+module _ (s : Store) where
+  -- what a call leaves is what it was lent, or the buffer with other entries
+  module _ (P : Store → Type 0) (same : P s) (other : (es : List Entry) → P (record { buffer = written (s .used) es (s .buffer); used = cost es })) where
+    change-leaves : (r : Change) → P (leftBy (leaves (s .buffer) (s .used) r) s)
+    change-leaves (changed n es) = other es
+    change-leaves (refused number) = same
 
-abbrev formOf : Entry → List ℕ
-formOf e = e .form
+    guard-leaves : (r : Change) (a : Answer) → P (leftBy (guarded a (lent (s .buffer) (s .used)) (leaves (s .buffer) (s .used) r)) s)
+    guard-leaves r (Done first second) = change-leaves r
+    guard-leaves r (Refused number first second) = same
 
-pub recount-forms : (f : List ℕ) (n : ℕ) → 0 < n → (es : List Entry) → map formOf (recount f n es) ≡ map formOf es
-unfolding recount
-recount-forms f n some [] = refl
-recount-forms f n some (e ∷ es) = go (sameBytes (e .form) f) (recount-forms f n some es)
-  where
-    go : (t : Bool) → map formOf (recount f n es) ≡ map formOf es
-        → map formOf (pick t (pick (eqb n 0) es (entry (e .form) n ∷ es)) (e ∷ recount f n es)) ≡ map formOf (e ∷ es)
-    go true ih = rw (ne-eqb n 0 (λ z. omega (arith, z))) refl
-    go false ih = ap (λ (l : List (List ℕ)). e .form ∷ l) ih
+    call-leaves : (c : Asked) → P (leftBy (answered c s) s)
+    unfolding answered addCall withdrawCall countCall
+    call-leaves (adds f) = guard-leaves (ofHeld (add (length (s .buffer)) f) (register (s .buffer) (s .used))) (textCheck f)
+    call-leaves (withdraws f) = guard-leaves (ofHeld (withdraw f) (register (s .buffer) (s .used))) (textCheck f)
+    call-leaves (counts f) = subst P (sym (count-keeps s f (register (s .buffer) (s .used)) (textCheck f))) same
+
+  pub past-stays : (c : Asked) (n : ℕ) → s .used ≤ n → leftBy (answered c s) s .used ≤ n → drop n (leftBy (answered c s) s .buffer) ≡ drop n (s .buffer)
+  past-stays c n h =
+      call-leaves (λ (t : Store). t .used ≤ n → drop n (t .buffer) ≡ drop n (s .buffer)) (λ g. refl)
+      (λ es g. written-past (s .used) es (s .buffer) n h g) c
+
+  pub freed-zero : (c : Asked) (k : ℕ) → leftBy (answered c s) s .used ≤ k → k < s .used → getD (leftBy (answered c s) s .buffer) k 0 ≡ 0
+  freed-zero c k =
+      call-leaves (λ (t : Store). t .used ≤ k → k < s .used → getD (t .buffer) k 0 ≡ 0) (λ h g. absurd (omega (arith, h, g)))
+      (λ es h g. written-freed (s .used) es (s .buffer) k h g) c

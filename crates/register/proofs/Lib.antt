@@ -1,6 +1,7 @@
 pub mod StoredLaws
 pub mod Counts
 pub mod Sits
+mod Order
 pub mod Replays
 pub mod Keeping
 pub mod Comparing

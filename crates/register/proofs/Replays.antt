@@ -3,7 +3,7 @@ use mathlib.Core.Path.{_≡_, refl, ap, _∙_, subst}
 use Prim.Native.Nat.{ℕ, _+_, _-_, _≤_, _<_}
 use native.Mathlib.Omega.{arith}
 use mathlib.Core.Bool.{Bool, true, false, _&&_}
-use mathlib.Core.List.{List, [], _∷_, _++_}
+use mathlib.Core.List.{List, [], _∷_, _++_, map-append}
 use lib.Dec.{eqb, ltb}
 use lib.ListN.{length}
 use borrow.Author.Tests.{eqb-true, eqb-false, ne-eqb, ltb-true, ltb-false}
@@ -18,10 +18,11 @@ use Rattle.text.proofs.Utf8.{testable}
 use Rattle.register.specs.Entries.{Entry, entry, cost, countIn, recount, largestCount, Change, changed, refused, add, withdraw}
 use Rattle.register.specs.Stored.{holds, bytesOf, register}
 use Rattle.register.specs.RegisterCalls.{lent, leaves, ofHeld, addCall, withdrawCall, counted, countCall}
-use Rattle.register.specs.CallLists.{Asked, adds, withdraws, counts, Store, empty, answered, leftBy, numberOf, afterCalls, acceptedOf, isAdd, isWithdrawal, None, Replayed}
+use Rattle.register.specs.CallLists.{Asked, adds, withdraws, counts, Store, empty, answered, leftBy, numberOf, afterCalls, acceptedOf, isAdd, isWithdrawal, forms, without, becoming, becameBy, None, Replayed}
 use Rattle.register.specs.Places.{Narrow, Absent, Sound, Sits}
 use Rattle.register.proofs.StoredLaws.{narrow-join, cost-join}
 use Rattle.register.proofs.Counts.{zero-absent, true-absent, recount-same, recount-other, recount-good, recount-distinct, recount-narrow, recount-cost, end-same, end-other, end-good, end-distinct}
+use Rattle.register.proofs.Order.{recount-forms, recount-without, becoming-refused}
 use Rattle.register.proofs.Sits.{sits-cost, sits-register, written-length, written-sits}
 
 -- ---- the checks of the form
@@ -56,6 +57,7 @@ pub record Moves (c : Asked) (s : Store) (es : List Entry) (r : Called) : Type 0
   pub after : List Entry
   pub sits : Sits (leftBy r s .buffer) (leftBy r s .used) after
   pub moved : (g : List ℕ) → countIn g after + pick (isWithdrawal g c && eqb (numberOf r) 0) 1 0 ≡ countIn g es + pick (isAdd g c && eqb (numberOf r) 0) 1 0
+  pub order : forms after ≡ becoming c r (forms es)
   pub not28 : numberOf r ≡ 28 → ⊥
   pub size : length (leftBy r s .buffer) ≡ length (s .buffer)
 
@@ -72,6 +74,7 @@ module _ (s : Store) (es : List Entry) (h : Sits (s .buffer) (s .used) es) where
         after = es;
         sits = h;
         moved = λ g. rw (ne-eqb number 0 n, and-false (isWithdrawal g c), and-false (isAdd g c)) refl;
+        order = becoming-refused c number n (first ∷ second ∷ []) (lent (s .buffer) (s .used)) (forms es);
         not28 = m;
         size = refl;
       }
@@ -79,12 +82,14 @@ module _ (s : Store) (es : List Entry) (h : Sits (s .buffer) (s .used) es) where
   -- an accepted change to entries that the buffer has room for
   changes : (c : Asked) (n : ℕ) (new : List Entry) → Sound new → cost new ≤ length (s .buffer)
       → ((g : List ℕ) → countIn g new + pick (isWithdrawal g c && true) 1 0 ≡ countIn g es + pick (isAdd g c && true) 1 0)
+      → forms new ≡ becoming c (leaves (s .buffer) (s .used) (changed n new)) (forms es)
       → Moves c s es (leaves (s .buffer) (s .used) (changed n new))
-  changes c n new sound room moved =
+  changes c n new sound room moved order =
       record {
         after = new;
         sits = written-sits (s .buffer) (s .used) new (h .within) room sound;
         moved = moved;
+        order = order;
         not28 = differ 0 28 refl;
         size = written-length (s .buffer) (s .used) new (h .within) room;
       }
@@ -142,12 +147,14 @@ module _ (s : Store) (es : List Entry) (h : Sits (s .buffer) (s .used) es) where
         changes (adds f) 1 (es ++ new) (end-sound a) (rw new-cost room)
         (by-form (λ (g : List ℕ) (t : Bool). countIn g (es ++ new) + 0 ≡ countIn g es + pick (t && true) 1 0)
         (omega (arith, end-same f es a, z)) (λ g q. omega (arith, end-other f g q es)))
+        (unfold becoming in map-append (λ (e : Entry). e .form) es new)
 
     add-more : (n ≡ 0 → ⊥) → n < largestCount → Adding (changed (n + 1) (recount f (n + 1) es))
     add-more z y =
         changes (adds f) (n + 1) (recount f (n + 1) es) (recount-sound (n + 1) (omega arith)) (recount-room (n + 1))
         (by-form (λ (g : List ℕ) (t : Bool). countIn g (recount f (n + 1) es) + 0 ≡ countIn g es + pick (t && true) 1 0)
         (omega (arith, recount-same f (n + 1) es (h .sound .distinct) z)) (λ g q. omega (arith, recount-other f (n + 1) g q es)))
+        (unfold becoming in rw (ne-eqb (n + 1) 1 (λ q. z (omega (arith, q)))) (recount-forms f (n + 1) (omega arith) es))
 
     add-moves : Adding (add (length (s .buffer)) f es)
     unfolding add
@@ -160,11 +167,17 @@ module _ (s : Store) (es : List Entry) (h : Sits (s .buffer) (s .used) es) where
         (λ y. add-new (eqb-true n 0 z) (ltb-false size (cost es + (8 + length f)) y)))
         (λ z. pick-by Adding (ltb n largestCount) {a = more} {b = refused 30} (λ y. add-more (eqb-false n 0 z) (ltb-true n largestCount y)) (λ y. add-full))
 
+    -- with the last of a form goes its place in the order
+    take-order : (t : Bool) → eqb (n - 1) 0 ≡ t → forms (recount f (n - 1) es) ≡ pick t (without f (forms es)) (forms es)
+    take-order true q = recount-without f (n - 1) q es
+    take-order false q = let k = eqb-false (n - 1) 0 q in recount-forms f (n - 1) (omega (arith, k)) es
+
     take-less : (n ≡ 0 → ⊥) → n < 0x100000000 → Taking (changed (n - 1) (recount f (n - 1) es))
     take-less z y =
         changes (withdraws f) (n - 1) (recount f (n - 1) es) (recount-sound (n - 1) (omega arith)) (recount-room (n - 1))
         (by-form (λ (g : List ℕ) (t : Bool). countIn g (recount f (n - 1) es) + pick (t && true) 1 0 ≡ countIn g es + 0)
         (omega (arith, recount-same f (n - 1) es (h .sound .distinct) z, z)) (λ g q. omega (arith, recount-other f (n - 1) g q es)))
+        (unfold becoming in take-order (eqb (n - 1) 0) refl)
 
     take-moves : Taking (withdraw f es)
     unfolding withdraw
@@ -185,9 +198,9 @@ module _ (s : Store) (es : List Entry) (h : Sits (s .buffer) (s .used) es) where
 
   counting : (f : List ℕ) (a : Answer) → Checked f a → Moves (counts f) s es (guarded a [] (counted f (register (s .buffer) (s .used))))
   counting f (Done first second) k =
-      rw holding (record { after = es; sits = h; moved = λ g. refl; not28 = differ 0 28 refl; size = refl })
+      rw holding (record { after = es; sits = h; moved = λ g. refl; order = unfold becoming in refl; not28 = differ 0 28 refl; size = refl })
   counting f (Refused number first second) k =
-      record { after = es; sits = h; moved = λ g. refl; not28 = k .1; size = refl }
+      record { after = es; sits = h; moved = λ g. refl; order = unfold becoming in refl; not28 = k .1; size = refl }
 
   pub call-moves : (c : Asked) → Moves c s es (answered c s)
   unfolding answered addCall withdrawCall countCall
@@ -201,12 +214,13 @@ pub record Replaying (s : Store) (es : List Entry) (cs : List Asked) : Type 0 wh
   pub after : List Entry
   pub sits : Sits (afterCalls cs s .buffer) (afterCalls cs s .used) after
   pub moved : (g : List ℕ) → countIn g after + acceptedOf (isWithdrawal g) cs s ≡ countIn g es + acceptedOf (isAdd g) cs s
+  pub order : forms after ≡ becameBy cs s (forms es)
   pub none28 : None 28 cs s
   pub size : length (afterCalls cs s .buffer) ≡ length (s .buffer)
 
 pub replaying : (cs : List Asked) (s : Store) (es : List Entry) → Sits (s .buffer) (s .used) es → Replaying s es cs
-unfolding afterCalls acceptedOf None
-replaying [] s es h = record { after = es; sits = h; moved = λ g. refl; none28 = tt; size = refl }
+unfolding afterCalls acceptedOf None becameBy
+replaying [] s es h = record { after = es; sits = h; moved = λ g. refl; order = refl; none28 = tt; size = refl }
 replaying (c ∷ cs) s es h =
     let m = call-moves s es h c in
     let r = replaying cs (leftBy (answered c s) s) (m .after) (m .sits) in
@@ -214,6 +228,7 @@ replaying (c ∷ cs) s es h =
       after = r .after;
       sits = r .sits;
       moved = λ g. omega (arith, m .moved g, r .moved g);
+      order = r .order ∙ ap (becameBy cs (leftBy (answered c s) s)) (m .order);
       none28 = (m .not28, r .none28);
       size = r .size ∙ m .size;
     }
@@ -232,6 +247,8 @@ replayed buffer cs =
       fewer = λ g. omega (arith, r .moved g, z g);
       gone = λ g e. true-absent g (r .after) (zero-absent g (r .after) (r .sits .sound .good) e);
       costs = sits-cost _ _ _ (r .sits);
+      bytes = r .sits .is;
+      ordered = r .order;
       none28 = r .none28;
       size = r .size;
     }

@@ -1,4 +1,5 @@
--- A register that sits in a buffer: what a call writes sits there again (`written-sits`), and what is intact sits (`intact-sits`). Assumes nothing.
+-- A register that sits in a buffer: what a call writes sits there again (`written-sits`), and what is intact or read sits (`intact-sits`,
+-- `held-sits`). Assumes nothing.
 use mathlib.Core.Path.{_≡_, refl, ap, ap₂, sym, _∙_, subst}
 use Prim.Native.Nat.{ℕ, _+_, _-_, _≤_, _<_}
 use native.Mathlib.Omega.{arith}
@@ -11,7 +12,7 @@ use borrow.Author.Tests.{le-leb, leb-true, ltb-true, ltb-false}
 use Rattle.text.proofs.Bytes.{and-left, and-right, contrary}
 use Rattle.register.specs.Entries.{Entry, cost, good, distinct}
 use Rattle.register.specs.Stored.{Held, holds, damaged, bytesOf, entries, sound, intact, register, written}
-use Rattle.register.proofs.StoredLaws.{bytes-cost, entries-of-bytes, bytes-of-entries}
+use Rattle.register.proofs.StoredLaws.{not-held, bytes-cost, entries-of-bytes, bytes-of-entries}
 use Rattle.register.specs.Places.{Small, Sound, Sits, listed, entriesIn}
 use Rattle.register.proofs.Counts.{good-true, true-good, distinct-true, true-distinct}
 
@@ -67,6 +68,25 @@ intact-holds buffer used e =
     let fits = leb used (length buffer) in
     let q : leb used (length buffer) && sound (entries bytes) ≡ true = unfold intact in e in
     rw e (sound-held (entries bytes) (and-right fits (sound (entries bytes)) q) .0)
+
+-- a register that is read: its entries are those of its bytes, and it sits in its buffer
+module _ (buffer : List ℕ) (used : ℕ) (es : List Entry) (e : register buffer used ≡ holds es) where
+  held-intact : intact buffer used ≡ true
+  held-intact = go (intact buffer used) refl
+    where
+      go : (t : Bool) → intact buffer used ≡ t → intact buffer used ≡ true
+      go true q = q
+      go false q =
+          let none : damaged ≡ register buffer used = unfold register in rw q refl in
+          not-held (none ∙ e)
+
+  pub held-entries : entries (take used buffer) ≡ holds es
+  held-entries =
+      let is : entries (take used buffer) ≡ register buffer used = unfold register in rw held-intact refl in
+      is ∙ e
+
+  pub held-sits : Small buffer → Sits buffer used es
+  held-sits s = subst (Sits buffer used) (ap listed held-entries) (intact-sits buffer used s held-intact)
 
 -- ---- what is written
 

@@ -5,3 +5,4 @@ pub mod MarkedTable
 pub mod Unused
 pub mod UnusedBytes
 mod UnusedExamples
+pub mod Register
