@@ -1,6 +1,7 @@
 //! What a call has to answer.
 
 use crate::lent::Cursor;
+use crate::register::Left;
 
 /// No refusal: there is nothing more.
 pub const NO_MORE: u32 = 255;
@@ -20,6 +21,8 @@ pub struct Answer {
     pub scratch: Vec<u8>,
     /// The cursor after the call.
     pub cursor: Cursor,
+    /// The register's buffer whole, and its used length.
+    pub register: Left,
 }
 
 pub fn success(first: u64) -> Answer {
@@ -36,5 +39,6 @@ pub fn refusal(number: u32, first: u64) -> Answer {
         scratch_room: 0,
         scratch: vec![],
         cursor: Cursor::default(),
+        register: Left::default(),
     }
 }

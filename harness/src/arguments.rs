@@ -2,6 +2,7 @@
 
 use crate::lent::Cursor;
 use crate::random::Random;
+use crate::register::Held;
 use crate::table::{Table, EMPTY};
 
 /// Document 01's limits. The Rust has the depth alone.
@@ -14,6 +15,8 @@ pub const MOST_SPARE: usize = 40;
 /// The longest text at 6 bytes for each of its own, and what is spare.
 pub const LONGEST_OUTPUT: usize = 6 * LONGEST_TEXT + MOST_SPARE;
 pub const LONGEST_SCRATCH: usize = LONGEST_TEXT + MOST_SPARE;
+/// A register with one entry of a form that is longer than a text may be.
+pub const LONGEST_REGISTER: usize = LONGEST_TEXT + 100;
 /// Buffers start at every address modulo this.
 pub const ALIGNMENTS: usize = 64;
 
@@ -34,6 +37,7 @@ pub struct Arguments<'a> {
     pub room: Room,
     pub scratch: Room,
     pub cursor: Cursor,
+    pub register: Held<'a>,
 }
 
 /// Where the text lies when the call is made.
@@ -91,6 +95,7 @@ impl<'a> Arguments<'a> {
             room: Room::Exact,
             scratch: Room::Exact,
             cursor: Cursor::default(),
+            register: Held::default(),
         }
     }
 

@@ -3,8 +3,11 @@
 
 use crate::answer::Answer;
 use crate::arguments::{Arguments, Place, Room};
-use crate::arguments::{ALIGNMENTS, LONGEST_OUTPUT, LONGEST_SCRATCH, LONGEST_TEXT};
+use crate::arguments::{
+    ALIGNMENTS, LONGEST_OUTPUT, LONGEST_REGISTER, LONGEST_SCRATCH, LONGEST_TEXT,
+};
 use crate::lent::{Cursor, Lent};
+use crate::register::Held;
 use crate::table::{Table, LONGEST_LIST, LONGEST_POOL};
 
 const GUARD: usize = 64;
@@ -132,6 +135,8 @@ pub struct Buffers {
     scratch: Guarded,
     out: Guarded,
     cursor: Guarded,
+    register: Guarded,
+    used: Guarded,
     answer: Guarded,
 }
 
@@ -144,6 +149,8 @@ impl Buffers {
             scratch: Guarded::new("the scratch", LONGEST_SCRATCH),
             out: Guarded::new("the output", LONGEST_OUTPUT),
             cursor: Guarded::new("the cursor", CURSOR),
+            register: Guarded::new("the register", LONGEST_REGISTER),
+            used: Guarded::new("the used length", WORD),
             answer: Guarded::new("the answer words", WORDS * WORD),
         }
     }
@@ -164,6 +171,11 @@ impl Buffers {
         self.cursor
             .prefill(CURSOR, (turn + 3) * WORD % ALIGNMENTS, fill)
             .copy_from_slice(&cursor_bytes(arguments.cursor));
+        let Held { buffer, used } = arguments.register;
+        self.used
+            .prefill(WORD, (turn + 5) * WORD % ALIGNMENTS, fill)
+            .copy_from_slice(&used.to_ne_bytes());
+        let register_place = place_in_table(buffer, LONGEST_REGISTER, turn);
         self.answer
             .prefill(WORDS * WORD, turn * WORD % ALIGNMENTS, fill);
         let Table { list, pool } = arguments.table;
@@ -186,6 +198,12 @@ impl Buffers {
             out: lent_pointer(&mut self.out, arguments.room),
             out_length: expected.room,
             cursor: self.cursor.pointer().cast(),
+            buffer: self
+                .register
+                .hold(buffer, register_place, other_alignment, fill)
+                .cast_mut(),
+            buffer_length: buffer.len(),
+            used: self.used.pointer().cast(),
             answer: self.answer.pointer().cast(),
         }
     }
@@ -197,6 +215,8 @@ impl Buffers {
             .or_else(|| self.out.damage(&expected.written))
             .or_else(|| self.scratch.damage(&expected.scratch))
             .or_else(|| self.cursor.damage(&cursor_bytes(expected.cursor)))
+            .or_else(|| self.register.damage_of_held(&expected.register.buffer))
+            .or_else(|| self.used.damage(&expected.register.used.to_ne_bytes()))
             .or_else(|| self.text.damage_of_held(arguments.text))
             .or_else(|| self.list.damage_of_held(arguments.table.list))
             .or_else(|| self.pool.damage_of_held(arguments.table.pool))

@@ -49,6 +49,10 @@ pub enum Parameter {
     Scratch,
     Output,
     Cursor,
+    /// A buffer that is read and written, and its used length.
+    Register,
+    /// The same, read alone.
+    RegisterRead,
 }
 
 /// A wrong library, made of the real call.

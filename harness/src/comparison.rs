@@ -139,6 +139,13 @@ impl<'a> Comparison<'a> {
         if self.call.has(Parameter::Table) {
             description += &table_description(arguments, lent);
         }
+        if self.call.has(Parameter::Register) || self.call.has(Parameter::RegisterRead) {
+            description += &format!(
+                "\n  register {}, used {}",
+                shortened(arguments.register.buffer),
+                arguments.register.used
+            );
+        }
         if let Some(damage) = damage {
             description += &format!(
                 "\n  byte {} of {} is {:02x} and has to be {:02x}",

@@ -6,6 +6,7 @@ use crate::call::{Call, Parameter};
 use crate::calls::CALLS;
 use crate::draft::Draft;
 use crate::lent::Cursor;
+use crate::register::{bytes_of, Held};
 use crate::table::{Table, MARK};
 
 /// Longer texts take longer, and are the differential run's.
@@ -46,7 +47,20 @@ pub fn cut_for(call: &Call, bytes: &[u8], each: &mut dyn FnMut(Arguments, usize)
         },
         false => Cursor::default(),
     };
+    let is_register = call.has(Parameter::Register) || call.has(Parameter::RegisterRead);
+    let buffer = match is_register {
+        true => register_of(pool, depth),
+        false => vec![],
+    };
+    // The used length is right where the offset is 0.
+    let spare = usize::from(depth).min(buffer.len());
+    let used = (buffer.len() - spare) as u64;
+    let register = Held {
+        buffer: &buffer,
+        used: used.wrapping_add_signed(i64::from(offset) * i64::from(is_register)),
+    };
     let arguments = Arguments {
+        register,
         choice: choice_of(choice),
         depth: depth_of(depth),
         limit: limit_of(limit),
@@ -58,6 +72,34 @@ pub fn cut_for(call: &Call, bytes: &[u8], each: &mut dyn FnMut(Arguments, usize)
     };
     let turn = u16::from_le_bytes([turn_low, turn_high]);
     each(arguments, turn.into());
+}
+
+/// After a 1 bytes as they are; else entries whose lengths and counts have a byte each. So many bytes more come after them.
+fn register_of(bytes: &[u8], spare: u8) -> Vec<u8> {
+    let mut buffer = match bytes {
+        [1, bytes @ ..] => bytes.to_vec(),
+        [_, shorts @ ..] => {
+            let mut entries: Vec<(&[u8], u32)> = vec![];
+            let mut rest = shorts;
+            while let [length, count, after @ ..] = rest {
+                let (form, after) = after.split_at(after.len().min((*length).into()));
+                entries.push((form, count_of(*count)));
+                rest = after;
+            }
+            bytes_of(entries)
+        }
+        [] => vec![],
+    };
+    buffer.extend(vec![0x91; spare.into()]);
+    buffer
+}
+
+/// Few, none, and nearly all that there can be.
+fn count_of(byte: u8) -> u32 {
+    match byte {
+        0..=199 => byte.into(),
+        _ => u32::MAX - u32::from(255 - byte),
+    }
 }
 
 /// Mostly a level or a version that there is.

@@ -4,6 +4,7 @@
 use crate::answer::{refusal, Answer};
 use crate::arguments::{Arguments, Sink};
 use crate::draft::{Draft, Entity};
+use crate::register::Held;
 
 pub struct Documented {
     given: Given,
@@ -21,6 +22,8 @@ enum Given {
     Marked(&'static [Entity<'static>]),
     /// List and pool as they are.
     Bytes(&'static [u8], &'static [u8]),
+    /// No table: a register's buffer and its used length.
+    Register(Held<'static>),
 }
 
 pub enum Outcome {
@@ -28,6 +31,8 @@ pub enum Outcome {
     Made(&'static str, u64),
     /// The number and both answer words.
     Answered(u32, u64, u64),
+    /// The same, and a register's buffer and its used length after the call.
+    Left(u32, u64, u64, &'static [u8], u64),
 }
 
 pub const fn row(text: &'static str, choice: u8, outcome: Outcome) -> Documented {
@@ -68,6 +73,21 @@ pub const fn table(list: &'static [u8], pool: &'static [u8], outcome: Outcome) -
     }
 }
 
+/// A form for a register, and what the call leaves.
+pub const fn register(
+    form: &'static str,
+    buffer: &'static [u8],
+    used: u64,
+    (number, first, second, after, used_after): (u32, u64, u64, &'static [u8], u64),
+) -> Documented {
+    let given = Given::Register(Held { buffer, used });
+    let outcome = Outcome::Left(number, first, second, after, used_after);
+    Documented {
+        given,
+        ..row(form, 0, outcome)
+    }
+}
+
 impl Documented {
     /// Its input.
     pub fn give(&self, sink: &mut Sink) {
@@ -79,8 +99,14 @@ impl Documented {
                 list: list.to_vec(),
                 pool: pool.to_vec(),
             },
+            Given::Register(_) => Draft::default(),
+        };
+        let register = match self.given {
+            Given::Register(held) => held,
+            _ => Held::default(),
         };
         sink(Arguments {
+            register,
             choice: self.choice,
             depth: self.depth,
             limit: self.limit,
@@ -99,6 +125,11 @@ impl Documented {
                 found == (0, result.len() as u64, second) && answer.written == result.as_bytes()
             }
             Outcome::Answered(number, first, second) => found == (number, first, second),
+            Outcome::Left(number, first, second, buffer, used) => {
+                found == (number, first, second)
+                    && answer.register.buffer == buffer
+                    && answer.register.used == used
+            }
         };
         (!agrees).then_some(answer)
     }

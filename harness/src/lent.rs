@@ -26,6 +26,9 @@ pub struct Lent {
     pub out: *mut u8,
     pub out_length: usize,
     pub cursor: *mut Cursor,
+    pub buffer: *mut u8,
+    pub buffer_length: usize,
+    pub used: *mut u64,
     pub answer: *mut u64,
 }
 
@@ -46,6 +49,9 @@ impl Lent {
         out: null_mut(),
         out_length: 0,
         cursor: null_mut(),
+        buffer: null_mut(),
+        buffer_length: 0,
+        used: null_mut(),
         answer: null_mut(),
     };
 }

@@ -5,6 +5,7 @@ use crate::arguments::Arguments;
 use crate::call::{Call, Parameter};
 use crate::hex::hex;
 use crate::lent::Cursor;
+use crate::register::{Held, Left};
 
 /// Inputs with more bytes to read or to write are left out, so that every line is short.
 const LONGEST: usize = 300;
@@ -12,7 +13,8 @@ const LONGEST_OUTPUT: usize = 700;
 
 pub fn is_short(arguments: &Arguments, answer: &Answer) -> bool {
     let table = arguments.table;
-    let read = [arguments.text, table.list, table.pool];
+    let register = arguments.register.buffer;
+    let read = [arguments.text, table.list, table.pool, register];
     let written = [answer.room, answer.scratch_room];
     read.iter().all(|bytes| bytes.len() <= LONGEST)
         && written.iter().all(|&room| room <= LONGEST_OUTPUT)
@@ -43,6 +45,10 @@ fn given(parameter: Parameter, arguments: &Arguments, answer: &Answer) -> Vec<St
         Parameter::Scratch => vec![answer.scratch_room.to_string()],
         Parameter::Output => vec![answer.room.to_string()],
         Parameter::Cursor => cursor_fields(arguments.cursor),
+        Parameter::Register | Parameter::RegisterRead => {
+            let Held { buffer, used } = arguments.register;
+            vec![hex(buffer), used.to_string()]
+        }
     }
 }
 
@@ -52,6 +58,10 @@ fn left(parameter: Parameter, answer: &Answer) -> Vec<String> {
         Parameter::Scratch => vec![hex(&answer.scratch)],
         Parameter::Output => vec![hex(&answer.written)],
         Parameter::Cursor => cursor_fields(answer.cursor),
+        Parameter::Register => {
+            let Left { buffer, used } = &answer.register;
+            vec![hex(buffer), used.to_string()]
+        }
         _ => vec![],
     }
 }

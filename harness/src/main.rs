@@ -24,6 +24,7 @@ mod line;
 mod oracle;
 mod profile;
 mod random;
+mod register;
 mod rows;
 mod rust;
 mod self_test;

@@ -8,6 +8,7 @@ pub mod escape;
 pub mod normalize_attribute_value;
 pub mod normalize_eols;
 pub mod parse_number;
+pub mod register;
 pub mod trim_xml;
 pub mod unescape;
 
@@ -28,6 +29,9 @@ pub static CALLS: &[Call] = &[
     canonical_form::CALL,
     normalize_attribute_value::STRICT,
     canonical_form::STRICT,
+    register::ADD,
+    register::WITHDRAW,
+    register::COUNT,
 ];
 
 /// The calls of these names, or all where none is named; nothing if one is unknown.

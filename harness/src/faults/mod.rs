@@ -7,6 +7,7 @@ pub mod memory;
 pub mod output;
 pub mod parts;
 pub mod reading;
+pub mod register;
 pub mod strict;
 pub mod table;
 pub mod text;
@@ -21,6 +22,8 @@ pub fn of(parameter: Parameter) -> Faults {
         Parameter::Choice => output::CHOICE,
         Parameter::Table => table::TABLE,
         Parameter::Output => output::OUTPUT,
+        Parameter::Register => register::WRITTEN,
+        Parameter::RegisterRead => register::READ,
         // What goes wrong with these is the call's own.
         Parameter::Depth | Parameter::Limit | Parameter::Scratch | Parameter::Cursor => &[],
     }
