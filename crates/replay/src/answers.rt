@@ -99,7 +99,7 @@ pub fn compare_lent(
 }
 
 // Lent as arrays, since the length of an array that a call has changed is known by its type alone.
-fn same_bytes(lent: &[u8; 2048], stored: &[u8; 2048]) -> bool {
+pub fn same_bytes(lent: &[u8; 2048], stored: &[u8; 2048]) -> bool {
     check::same(lent, stored)
 }
 
