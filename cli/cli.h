@@ -10,8 +10,9 @@
 #define LIST_MOST ((size_t)49154)
 #define POOL_MOST ((size_t)1048576)
 
-enum command { ESCAPE, UNESCAPE, NORMALIZE, CANONICAL, EOLS, TRIM, CDATA, CHECK, USED };
+enum command { ESCAPE, UNESCAPE, NORMALIZE, CANONICAL, EOLS, TRIM, CDATA, CHECK, USED, REGISTER };
 enum side { BOTH, START, END };
+enum action { ADD, WITHDRAW, COUNT, LIST };
 
 /* Bytes that are lent. */
 struct span {
@@ -35,6 +36,9 @@ struct arguments {
     uint8_t level, version;
     uint64_t depth, limit;
     enum side side;
+    const char *register_path, *action_name; /* of register; NULL where they are missing */
+    enum action action;
+    size_t room;
     int json;
 };
 
@@ -136,7 +140,12 @@ size_t line_of(struct span text, size_t offset);
 void show_name(FILE *to, struct span name);
 void report_refusal(const struct request *request, const struct outcome *outcome);
 
+/* register.c: the whole command, its answer too; the number of that */
+uint32_t run_register(const struct request *request);
+
 /* json.c */
+void json_string(struct span text);
+void json_number(const char *name, uint64_t value);
 void json_success(const struct request *request, const struct outcome *outcome);
 void json_refusal(const struct request *request, const struct outcome *outcome);
 

@@ -75,8 +75,12 @@ int main(int argc, char **argv)
     struct outcome outcome;
     read_arguments(argc, argv, &arguments);
     read_request(&arguments, &request);
-    make_call(&request, &outcome);
-    answer(&request, &outcome);
+    if (arguments.command == REGISTER) {
+        outcome = (struct outcome){ .number = run_register(&request) };
+    } else {
+        make_call(&request, &outcome);
+        answer(&request, &outcome);
+    }
     flush_output();
     free(outcome.bytes);
     free_request(&request);

@@ -62,7 +62,9 @@ static uint8_t *read_file(const char *path, size_t most, size_t *length)
 
 static void read_text(const struct arguments *a, struct request *request)
 {
-    if (a->text != NULL) {
+    if (a->command == REGISTER && a->action == LIST) {
+        request->text = allocate(0);
+    } else if (a->text != NULL) {
         request->text_length = strlen(a->text);
         request->text = allocate(request->text_length);
         memcpy(request->text, a->text, request->text_length);

@@ -4,7 +4,7 @@
 #include <inttypes.h>
 #include <stdlib.h>
 
-static void put_string(struct span text)
+void json_string(struct span text)
 {
     putchar('"');
     for (size_t i = 0; i < text.length; i++) {
@@ -19,7 +19,7 @@ static void put_string(struct span text)
     putchar('"');
 }
 
-static void put_number(const char *name, uint64_t value)
+void json_number(const char *name, uint64_t value)
 {
     printf(",\"%s\":%" PRIu64, name, value);
 }
@@ -27,7 +27,7 @@ static void put_number(const char *name, uint64_t value)
 static void put_result(struct span result)
 {
     printf(",\"result\":");
-    put_string(result);
+    json_string(result);
 }
 
 static void put_pieces(const struct request *q)
@@ -63,7 +63,7 @@ static void put_names(const struct request *q, const struct outcome *o)
 static void begin(const struct request *q, uint32_t number)
 {
     printf("{\"command\":\"%s\"", command_name(q->arguments->command));
-    put_number("number", number);
+    json_number("number", number);
 }
 
 void json_success(const struct request *q, const struct outcome *o)
@@ -73,18 +73,18 @@ void json_success(const struct request *q, const struct outcome *o)
     if (command == CDATA) {
         put_pieces(q);
     } else if (command == CHECK) {
-        put_number("length", o->answer[0]);
-        put_number("definitions", o->answer[1]);
+        json_number("length", o->answer[0]);
+        json_number("definitions", o->answer[1]);
     } else if (command == TRIM) {
-        put_number("start", o->answer[0]);
-        put_number("length", o->answer[1]);
+        json_number("start", o->answer[0]);
+        json_number("length", o->answer[1]);
         put_result((struct span){ q->text + o->answer[0], o->answer[1] });
     } else if (command == USED) {
         put_names(q, o);
     } else {
-        put_number("length", o->answer[0]);
+        json_number("length", o->answer[0]);
         if (command == NORMALIZE || command == CANONICAL)
-            put_number("openings", o->answer[1]);
+            json_number("openings", o->answer[1]);
         put_result((struct span){ o->bytes, o->answer[0] });
     }
     puts("}");
@@ -96,17 +96,17 @@ void json_refusal(const struct request *q, const struct outcome *o)
     struct place place = find_place(q, o);
     begin(q, o->number);
     printf(",\"words\":\"%s\"", words_of(o->number));
-    put_number("first", o->answer[0]);
-    put_number("second", o->answer[1]);
+    json_number("first", o->answer[0]);
+    json_number("second", o->answer[1]);
     if (place.known) {
         if (place.entity.length > 0) {
             printf(",\"entity\":");
-            put_string(place.entity);
-            put_number("opened", place.opened);
+            json_string(place.entity);
+            json_number("opened", place.opened);
         }
-        put_number("start", place.start);
-        put_number("end", place.end);
-        put_number("line", line_of(place.text, place.start));
+        json_number("start", place.start);
+        json_number("end", place.end);
+        json_number("line", line_of(place.text, place.start));
         if (is_forbidden(o->number))
             printf(",\"character\":\"U+%04" PRIX64 "\"", place.character);
     }

@@ -6,12 +6,15 @@
 #include <string.h>
 
 static const char *const commands[] = { "escape", "unescape", "normalize", "canonical", "eols",
-                                        "trim",   "cdata",    "check",     "used" };
+                                        "trim",   "cdata",    "check",     "used",      "register" };
+static const char *const actions[] = { "add", "withdraw", "count", "list" };
 
 #define COMMANDS (sizeof commands / sizeof commands[0])
+#define ACTIONS (sizeof actions / sizeof actions[0])
+#define ROOM_IF_NOT_GIVEN ((size_t)1048576)
 
 enum option {
-    LEVEL, VERSION, DEPTH, LIMIT, STRICT, ENTITY, EXTERNAL, MARKED, TABLE, AT_START, AT_END, FROM_FILE, JSON, OPTIONS
+    LEVEL, VERSION, DEPTH, LIMIT, STRICT, ENTITY, EXTERNAL, MARKED, TABLE, AT_START, AT_END, ROOM, FROM_FILE, JSON, OPTIONS
 };
 
 #define ON(command) (1u << (command))
@@ -37,6 +40,7 @@ static const struct {
     { "--table", 2, TABLES },
     { "--start", 0, ON(TRIM) },
     { "--end", 0, ON(TRIM) },
+    { "--room", 1, ON(REGISTER) },
     { "--file", 1, ALL },
     { "--json", 0, ALL },
 };
@@ -134,10 +138,30 @@ static void set_option(struct arguments *a, enum option option, char **values)
     case TABLE: a->list = values[0], a->pool = values[1]; break;
     case AT_START: a->side = START; break;
     case AT_END: a->side = END; break;
+    case ROOM: a->room = read_number(name, values[0], SIZE_MAX); break;
     case FROM_FILE: a->file = values[0]; break;
     case JSON: a->json = 1; break;
     case OPTIONS: break;
     }
+}
+
+/* The first two words of register that are no options: its file, and what is done. */
+static int take_action(struct arguments *a, const char *word)
+{
+    if (a->command != REGISTER || a->action_name != NULL)
+        return 0;
+    if (a->register_path == NULL) {
+        a->register_path = word;
+        return 1;
+    }
+    for (size_t i = 0; i < ACTIONS; i++)
+        if (strcmp(word, actions[i]) == 0) {
+            a->action = (enum action)i;
+            a->action_name = actions[i];
+            return 1;
+        }
+    bad_usage(word, "expected add, withdraw, count or list");
+    return 0;
 }
 
 static void check_together(const struct arguments *a, unsigned seen)
@@ -150,6 +174,10 @@ static void check_together(const struct arguments *a, unsigned seen)
         bad_usage("--marked", "--table is given too; a marked list starts with the byte 3");
     if (seen & ON(AT_START) && seen & ON(AT_END))
         bad_usage("--start", "--end is given too; for both ends give neither");
+    if (a->command == REGISTER && a->action_name == NULL)
+        bad_usage("register", "expected FILE and one of add, withdraw, count and list");
+    if (a->command == REGISTER && a->action == LIST && (a->text != NULL || a->file != NULL))
+        bad_usage("list", "takes no form");
 }
 
 /* Takes the option at argv[at] with its values; the place after them. */
@@ -186,13 +214,16 @@ void read_arguments(int argc, char **argv, struct arguments *a)
             flush_output();
             exit(0);
         }
-    *a = (struct arguments){ .command = read_command(argv[1]), .depth = 128, .limit = 10000 };
+    *a = (struct arguments){ .command = read_command(argv[1]), .depth = 128, .limit = 10000,
+                              .room = ROOM_IF_NOT_GIVEN };
     a->entities = allocate((size_t)argc * sizeof *a->entities);
     for (int at = 2; at < argc;) {
         if (!options_end && strcmp(argv[at], "--") == 0)
             options_end = 1, at++;
         else if (!options_end && argv[at][0] == '-' && argv[at][1] != '\0')
             at = take_option(a, &seen, argc, argv, at);
+        else if (take_action(a, argv[at]))
+            at++;
         else if (a->text != NULL)
             bad_usage(argv[at], "a second text; put one text in quotes");
         else

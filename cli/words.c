@@ -29,6 +29,9 @@ static const struct {
     { GOVLEZNA_FORBIDDEN_REFERENCE, "a reference to a character that this version of XML does not allow" },
     { GOVLEZNA_FORBIDDEN_CHARACTER, "a character that may not stand here in this version of XML" },
     { GOVLEZNA_EXTERNAL_ENTITY, "the entity is external: it has no text here, and may not stand in an attribute value" },
+    { GOVLEZNA_DAMAGED_REGISTER, "the register is damaged" },
+    { GOVLEZNA_ABSENT_FORM, "the form is not in the register" },
+    { GOVLEZNA_REGISTER_FULL, "the register is full: no room for the form, or its count is 4,294,967,295 already" },
     { GOVLEZNA_NO_MORE, "there is no further piece" },
 };
 

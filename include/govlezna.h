@@ -14,7 +14,8 @@
  * - `text`, `list` and `pool` point to as many readable bytes as their length says, of any value; `out` and `scratch` to
  *   as many writable bytes. NULL is allowed where the length is 0; but a list of no bytes is refused: "no table" is the
  *   list { 0 } of length 1.
- * - `answer` points to two writable words, `cursor` to a cursor.
+ * - `answer` points to two writable words, `cursor` to a cursor; `form` and `buffer` of a register are as `text` and
+ *   `out` (for govlezna_register_count both are read alone), `used` points to a writable word.
  * - What a call may write overlaps nothing else that it is lent.
  * Nothing is kept after a call, and no call allocates: calls on different buffers may run at the same time.
  * A call takes at most 72 KiB of stack: about 530 bytes for each level of depth (measured at depth 128: 69,832 bytes).
@@ -63,6 +64,9 @@ extern "C" {
 #define GOVLEZNA_FORBIDDEN_REFERENCE 25 /* strict calls: a reference names a character that the version does not allow */
 #define GOVLEZNA_FORBIDDEN_CHARACTER 26 /* strict calls: a character that may not stand there: first is its offset */
 #define GOVLEZNA_EXTERNAL_ENTITY 27     /* the name of an external entity: first is the offset of & */
+#define GOVLEZNA_DAMAGED_REGISTER 28    /* the used bytes are no register */
+#define GOVLEZNA_ABSENT_FORM 29         /* the form to withdraw is not in the register */
+#define GOVLEZNA_REGISTER_FULL 30       /* no room for a new form, or its count is 4,294,967,295 already */
 
 /* No refusal: there is no further piece. */
 #define GOVLEZNA_NO_MORE 255
@@ -298,6 +302,59 @@ struct govlezna_cursor {
  */
 uint32_t govlezna_cdata_next(const uint8_t *text, size_t text_length, struct govlezna_cursor *cursor,
                              uint64_t answer[2]);
+
+/*
+ * Registers. A register counts forms, such as the canonical forms of panel names; any UTF-8 text of at most 16,777,216
+ * bytes is taken as a form, the empty one too. It is a buffer of the caller's and a used length, to start with 0 and any
+ * bytes. The used bytes are an entry for each form whose count is not 0, in the order in which they became present: the
+ * form's length (4 bytes) and its count (4), little-endian, then the form. So each present form costs its bytes plus 8.
+ * While nothing else writes to the two, each count is the accepted adds minus the accepted withdrawals of that form, and
+ * no call answers DAMAGED_REGISTER. The used bytes may be kept in a file, and lent again in a buffer of any length that
+ * takes them.
+ *
+ * Time: each call checks the used bytes whole, and looks through them for the form. The check that no form repeats grows
+ * with the number of forms up to about 11,000, and from there on with its square; forms that are made to collide in it
+ * take longer. It takes 31 KiB of the stack.
+ */
+
+/*
+ * One more of a form. A new form goes to the end; the count of a present one grows where it stands.
+ *
+ * Success: answer[0] is the form's count, answer[1] the used length, which *used is set to. Bytes past it keep their
+ * values.
+ * Refusals, in this order: TOO_LONG; NOT_UTF8 (both of the form; answer[0] as in govlezna_check_utf8);
+ * DAMAGED_REGISTER (*used passes the buffer, or its entries do not fill it exactly, repeat a form, are not UTF-8 or have
+ * a count of 0); REGISTER_FULL (the buffer has no room for a new form's entry, or the count is 4,294,967,295 already).
+ * None writes to `buffer` or *used.
+ * Example: *used is 0 and `buffer` has 9 bytes: `a` gives count 1, used length 9, the bytes { 1,0,0,0, 1,0,0,0, 'a' }.
+ * `a` again gives count 2, used length 9; then the empty form is refused by REGISTER_FULL.
+ */
+uint32_t govlezna_register_add(const uint8_t *form, size_t form_length, uint8_t *buffer, size_t buffer_length,
+                               uint64_t *used, uint64_t answer[2]);
+
+/*
+ * One less of a form. With its last one its entry goes: those after it move up, and the bytes freed at the end of the
+ * used ones are set to 0.
+ *
+ * Success: answer[0] is the form's count, answer[1] the used length, which *used is set to.
+ * Refusals, in this order: TOO_LONG; NOT_UTF8; DAMAGED_REGISTER, all as in govlezna_register_add; ABSENT_FORM (the form
+ * is not in the register). None writes to `buffer` or *used.
+ * Example: after the two adds above `a` gives count 1, used length 9, and again `a` count 0, used length 0 and nine bytes
+ * of 0; then it is refused by ABSENT_FORM. With *used 8 the bytes { 1,0,0,0, 1,0,0,0, 'a' } are refused by
+ * DAMAGED_REGISTER.
+ */
+uint32_t govlezna_register_withdraw(const uint8_t *form, size_t form_length, uint8_t *buffer, size_t buffer_length,
+                                    uint64_t *used, uint64_t answer[2]);
+
+/*
+ * The count of a form, 0 where it is not in the register.
+ *
+ * Success: answer[0] is the form's count.
+ * Refusals, in this order: TOO_LONG; NOT_UTF8; DAMAGED_REGISTER, all as in govlezna_register_add.
+ * Example: used 9 and the bytes { 1,0,0,0, 2,0,0,0, 'a' }: `a` gives 2, `b` gives 0.
+ */
+uint32_t govlezna_register_count(const uint8_t *form, size_t form_length, const uint8_t *buffer, size_t buffer_length,
+                                 uint64_t used, uint64_t answer[2]);
 
 #ifdef __cplusplus
 }

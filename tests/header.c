@@ -36,6 +36,14 @@ static void expect_bytes(int line, const uint8_t *got, const char *text)
     printf("line %d: other bytes than %s\n", line, text);
 }
 
+static void expect_register(int line, const uint8_t *got, const uint8_t *buffer, uint64_t used, uint64_t length)
+{
+    if (memcmp(got, buffer, 9) == 0 && used == length)
+        return;
+    wrong = 1;
+    printf("line %d: another register\n", line);
+}
+
 static uint32_t unescape(const char *text, const uint8_t *commands, size_t length, const uint8_t *from, size_t size)
 {
     return govlezna_unescape(bytes(text), strlen(text), commands, length, from, size, out, sizeof out, answer);
@@ -94,6 +102,32 @@ static void strict_calls(void)
     expect(__LINE__, strict_form("&lt;\1"), GOVLEZNA_FORBIDDEN_CHARACTER, 4, 0);
 }
 
+/* A register of nine bytes, through one call after the other. */
+static void registers(void)
+{
+    uint8_t buffer[9];
+    uint64_t used = 0;
+    static const uint8_t one[9] = { 1, 0, 0, 0, 1, 0, 0, 0, 'a' }, two[9] = { 1, 0, 0, 0, 2, 0, 0, 0, 'a' }, none[9] = { 0 };
+    memset(buffer, 7, sizeof buffer);
+    expect(__LINE__, govlezna_register_add(bytes("a"), 1, buffer, 9, &used, answer), 0, 1, 9);
+    expect_register(__LINE__, buffer, one, used, 9);
+    expect(__LINE__, govlezna_register_add(bytes("a"), 1, buffer, 9, &used, answer), 0, 2, 9);
+    expect_register(__LINE__, buffer, two, used, 9);
+    expect(__LINE__, govlezna_register_add(NULL, 0, buffer, 9, &used, answer), GOVLEZNA_REGISTER_FULL, 0, 0);
+    expect(__LINE__, govlezna_register_count(bytes("a"), 1, buffer, 9, used, answer), 0, 2, 0);
+    expect(__LINE__, govlezna_register_count(bytes("b"), 1, buffer, 9, used, answer), 0, 0, 0);
+    expect(__LINE__, govlezna_register_withdraw(bytes("a"), 1, buffer, 9, &used, answer), 0, 1, 9);
+    expect_register(__LINE__, buffer, one, used, 9);
+    used = 8;
+    expect(__LINE__, govlezna_register_withdraw(bytes("a"), 1, buffer, 9, &used, answer), GOVLEZNA_DAMAGED_REGISTER, 0, 0);
+    expect_register(__LINE__, buffer, one, used, 8);
+    used = 9;
+    expect(__LINE__, govlezna_register_withdraw(bytes("a"), 1, buffer, 9, &used, answer), 0, 0, 0);
+    expect_register(__LINE__, buffer, none, used, 0);
+    expect(__LINE__, govlezna_register_withdraw(bytes("a"), 1, buffer, 9, &used, answer), GOVLEZNA_ABSENT_FORM, 0, 0);
+    expect(__LINE__, govlezna_register_count(NULL, 0, NULL, 0, 0, answer), 0, 0, 0);
+}
+
 static void examples(void)
 {
     const char *text = "&e;\t&#9;";
@@ -110,6 +144,7 @@ static void examples(void)
     expect(__LINE__, normalize(2, 10, external, sizeof external), GOVLEZNA_EXTERNAL_ENTITY, 0, 0);
     marked_lists();
     strict_calls();
+    registers();
     expect(__LINE__,
            govlezna_canonical_form(bytes(text), strlen(text), 0, 2, 10, list, sizeof list, pool, sizeof pool, scratch,
                                    sizeof scratch, out, sizeof out, answer),

@@ -1,5 +1,5 @@
 /*
- * How much stack the calls use at depth 128. Each input runs in a thread whose stack was filled with one byte; the bytes
+ * How much stack the calls use at depth 128, and those on a register of 300 forms. Each input runs in a thread whose stack was filled with one byte; the bytes
  * that changed are what the thread used. A thread that makes no call is measured first, and taken off.
  */
 #define _POSIX_C_SOURCE 200809L
@@ -12,6 +12,7 @@
 #include <string.h>
 
 #define PROMISED ((size_t)73728) /* as include/govlezna.h says */
+#define PROMISED_OF_REGISTERS ((size_t)32768)
 #define DEPTH 128
 #define ROOM ((size_t)1 << 20)
 #define PAINT 0xA5
@@ -95,6 +96,22 @@ static uint32_t canonical_strictly(const struct job *job, uint64_t answer[2])
                                           ROOM, answer);
 }
 
+/* A register of 300 forms of three digits. */
+static uint32_t register_call(const struct job *job, uint64_t answer[2])
+{
+    uint64_t length = 0;
+    for (int i = 0; i < 300; i++, length += 11) {
+        uint8_t *entry = scratch + length;
+        put_number(entry, 4, 3);
+        put_number(entry + 4, 4, 1);
+        entry[8] = (uint8_t)('0' + i / 100), entry[9] = (uint8_t)('0' + i / 10 % 10), entry[10] = (uint8_t)('0' + i % 10);
+    }
+    if (job->version == 0)
+        return govlezna_register_count(scratch, 0, scratch, ROOM, length, answer);
+    return (job->version == 1 ? govlezna_register_add : govlezna_register_withdraw)((const uint8_t *)"299", 3, scratch, ROOM,
+                                                                                    &length, answer);
+}
+
 static void *run(void *given)
 {
     struct job *job = given;
@@ -134,6 +151,21 @@ static size_t measure(struct job job, const char *last, uint32_t expected)
     return job.number == expected ? bytes : 0;
 }
 
+/* The most that the three calls take; 0 where one is refused. */
+static size_t measure_registers(void)
+{
+    struct job none = { .call = no_call };
+    size_t most = 0, before = used(&none);
+    for (uint8_t which = 0; which < 3; which++) {
+        struct job job = { .call = register_call, .version = which };
+        size_t bytes = used(&job) - before;
+        if (job.number != 0)
+            return 0;
+        most = bytes > most ? bytes : most;
+    }
+    return most;
+}
+
 int main(void)
 {
     static uint32_t (*const calls[])(const struct job *, uint64_t *) = { normalize, canonical, normalize_strictly,
@@ -146,7 +178,7 @@ int main(void)
     } walks[] = { { "x", 0, 0 },        { "x", 2, 0 },
                   { "\t", 0, GOVLEZNA_TOO_DEEP }, { "&a0;", 2, GOVLEZNA_TOO_DEEP },
                   { "\xC2\xBD", 0, 0 }, { "\xC2\xBD", 2, GOVLEZNA_TOO_DEEP } };
-    size_t most = 0, least = SIZE_MAX;
+    size_t most = 0, least = SIZE_MAX, registers = measure_registers();
     for (size_t i = 0; i < CALLS * (sizeof walks / sizeof walks[0]); i++) {
         struct job job = { .call = calls[i % CALLS], .version = walks[i / CALLS].version };
         size_t bytes = measure(job, walks[i / CALLS].last, walks[i / CALLS].expected);
@@ -154,5 +186,6 @@ int main(void)
         least = bytes < least ? bytes : least;
     }
     printf("stack at depth %d: %zu bytes; promised: at most %zu\n", DEPTH, most, PROMISED);
-    return least == 0 || most > PROMISED;
+    printf("stack with 300 forms: %zu bytes; promised: at most %zu\n", registers, PROMISED_OF_REGISTERS);
+    return least == 0 || most > PROMISED || registers == 0 || registers > PROMISED_OF_REGISTERS;
 }
