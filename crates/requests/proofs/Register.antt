@@ -2,23 +2,31 @@
 -- (`k10-counts`), no call answered 28 (`k10-no-28`), and the register is what the request says (`k10-used`, `k10-zero`, `k10-order`,
 -- `k10-bytes`). Bytes and entries of any register determine each other (`k10-same-entries`, `k10-same-bytes`); a refused call leaves
 -- everything (`k10-refused`), freed bytes are zero (`k10-freed`), others stay (`k10-past`); what is no register is 28 (`k10-28-add`,
--- `k10-28-withdraw`, `k10-28-count`). Assumes nothing.
+-- `k10-28-withdraw`, `k10-28-count`); and demand 1 holds of them (`k10-add-refuses`, `k10-withdraw-refuses`, `k10-count-refuses`). Assumes
+-- nothing.
 use mathlib.Core.Path.{_≡_, refl, ap, sym, _∙_, subst}
-use Prim.Native.Nat.{ℕ, _-_, _≤_, _<_}
+use Prim.Native.Nat.{ℕ, _+_, _-_, _≤_, _<_}
 use mathlib.Core.Bool.{true, false}
-use mathlib.Core.List.{List, [], _∷_}
+use mathlib.Core.List.{List, [], _∷_, _++_}
+use lib.Dec.{eqb, ltb}
 use lib.ListN.{length, getD, take, drop}
+use Rattle.text.specs.Bytes.{pick}
 use Rattle.text.specs.Utf8.{WellFormed}
-use Rattle.text.specs.Call.{called, textCheck, passed, longestText}
-use Rattle.register.specs.Entries.{Entry, cost, countIn, absent}
-use Rattle.register.specs.Stored.{holds, damaged, bytesOf, entries, intact, register}
-use Rattle.register.specs.RegisterCalls.{lent, addCall, withdrawCall, countCall}
+use Rattle.text.specs.Call.{Called, called, guarded, lengthCheck, utf8Check, textCheck, passed, longestText}
+use Rattle.text.specs.declared.Answer.{Answer}
+use Rattle.text.specs.declared.Answer.the-variants.{Done, Refused}
+use Rattle.text.proofs.Bytes.{pick-both}
+use Rattle.register.specs.Entries.{Entry, entry, cost, countIn, recount, largestCount, Change, changed, refused, add, withdraw, absent}
+use Rattle.register.specs.Stored.{Held, holds, damaged, bytesOf, entries, intact, register, written}
+use Rattle.register.specs.RegisterCalls.{lent, leaves, ofHeld, addCall, withdrawCall, counted, countCall}
 use Rattle.register.specs.CallLists.{Asked, adds, withdraws, counts, Store, empty, answered, leftBy, numberOf, afterCalls, acceptedOf, isAdd, isWithdrawal, forms, becameBy, None}
 use Rattle.register.specs.Places.{Small}
 use Rattle.register.proofs.Replays.{replayed, replayed-count}
 use Rattle.register.proofs.Keeping.{refused-keeps, past-stays, freed-zero}
 use Rattle.register.proofs.Sits.{held-entries, held-sits}
 use Rattle.govlezna.specs.Calls.{registerAddCall, registerWithdrawCall, registerCountCall}
+use Rattle.demands.specs.CallDemands.{listed, Refuses, success, refusal}
+use Rattle.demands.proofs.Numbers.{By, by-then, by-length, by-utf8}
 use Rattle.demands.proofs.CallDemands.{length-passes, utf8-passes}
 
 -- ---- lists of calls from an empty register, nothing else writing
@@ -117,3 +125,75 @@ module _ (f : List ℕ) (w : WellFormed f) (l : length f ≤ longestText) (buffe
   pub k10-28-count : registerCountCall f buffer used ≡ called 28 (0 ∷ 0 ∷ []) []
   unfolding countCall
   k10-28-count = rw (form-passes f w l, no-register) refl
+
+-- ---- demand 1, of these calls: they answer 0, or refuse by one of their numbers and leave what they were lent
+
+module _ (numbers : List ℕ) where
+  abbrev In : ℕ → Type 0
+  In n = listed n numbers ≡ true
+
+  abbrev RefusedBy : Change → Type 0
+  RefusedBy (changed n es) = Unit {0}
+  RefusedBy (refused number) = In number
+
+  guarded-refuses : (entry : List (List ℕ)) (a : Answer) (rest : Called) → By In a → Refuses numbers entry rest → Refuses numbers entry (guarded a entry rest)
+  guarded-refuses entry (Done first second) rest h k = k
+  guarded-refuses entry (Refused number first second) rest h k = refusal number (first ∷ second ∷ []) h
+
+  by-form : In 1 → In 5 → (f : List ℕ) → By In (textCheck f)
+  by-form h k f = by-then In (lengthCheck f) (utf8Check f) (by-length In h f) (by-utf8 In k f)
+
+  leaves-refuses : (buffer : List ℕ) (used : ℕ) (r : Change) → RefusedBy r → Refuses numbers (lent buffer used) (leaves buffer used r)
+  leaves-refuses buffer used (changed n es) h = success (n ∷ cost es ∷ []) (lent (written used es buffer) (cost es))
+  leaves-refuses buffer used (refused number) h = refusal number (0 ∷ 0 ∷ []) h
+
+  held-refused : In 28 → (change : List Entry → Change) → ((es : List Entry) → RefusedBy (change es)) → (h : Held) → RefusedBy (ofHeld change h)
+  held-refused k change by (holds es) = by es
+  held-refused k change by damaged = k
+
+  change-refuses : In 1 → In 5 → In 28 → (change : List Entry → Change) → ((es : List Entry) → RefusedBy (change es)) → (f buffer : List ℕ) (used : ℕ)
+      → Refuses numbers (lent buffer used) (guarded (textCheck f) (lent buffer used) (leaves buffer used (ofHeld change (register buffer used))))
+  change-refuses one five k change by f buffer used =
+      let r = ofHeld change (register buffer used) in
+      guarded-refuses (lent buffer used) (textCheck f) (leaves buffer used r) (by-form one five f)
+      (leaves-refuses buffer used r (held-refused k change by (register buffer used)))
+
+abbrev addNumbers : List ℕ
+addNumbers = 1 ∷ 5 ∷ 28 ∷ 30 ∷ []
+
+abbrev withdrawNumbers : List ℕ
+withdrawNumbers = 1 ∷ 5 ∷ 28 ∷ 29 ∷ []
+
+abbrev countNumbers : List ℕ
+countNumbers = 1 ∷ 5 ∷ 28 ∷ []
+
+pub k10-add-refuses : (f buffer : List ℕ) (used : ℕ) → Refuses addNumbers (lent buffer used) (registerAddCall f buffer used)
+unfolding addCall add
+k10-add-refuses f buffer used = change-refuses addNumbers refl refl refl (add (length buffer) f) by f buffer used
+  where
+    by : (es : List Entry) → RefusedBy addNumbers (add (length buffer) f es)
+    by es =
+        let n = countIn f es in
+        let fresh = changed 1 (es ++ (entry f 1 ∷ [])) in
+        let more = changed (n + 1) (recount f (n + 1) es) in
+        pick-both (RefusedBy addNumbers) (eqb n 0) {a = pick (ltb (length buffer) (cost es + (8 + length f))) (refused 30) fresh} {b = pick (ltb n largestCount) more (refused 30)}
+        (pick-both (RefusedBy addNumbers) (ltb (length buffer) (cost es + (8 + length f))) {a = refused 30} {b = fresh} refl tt)
+        (pick-both (RefusedBy addNumbers) (ltb n largestCount) {a = more} {b = refused 30} tt refl)
+
+pub k10-withdraw-refuses : (f buffer : List ℕ) (used : ℕ) → Refuses withdrawNumbers (lent buffer used) (registerWithdrawCall f buffer used)
+unfolding withdrawCall withdraw
+k10-withdraw-refuses f buffer used = change-refuses withdrawNumbers refl refl refl (withdraw f) by f buffer used
+  where
+    by : (es : List Entry) → RefusedBy withdrawNumbers (withdraw f es)
+    by es =
+        let n = countIn f es in
+        pick-both (RefusedBy withdrawNumbers) (eqb n 0) {a = refused 29} {b = changed (n - 1) (recount f (n - 1) es)} refl tt
+
+pub k10-count-refuses : (f buffer : List ℕ) (used : ℕ) → Refuses countNumbers [] (registerCountCall f buffer used)
+unfolding countCall
+k10-count-refuses f buffer used =
+    guarded-refuses countNumbers [] (textCheck f) (counted f (register buffer used)) (by-form countNumbers refl refl f) (go (register buffer used))
+  where
+    go : (h : Held) → Refuses countNumbers [] (counted f h)
+    go (holds es) = success (countIn f es ∷ 0 ∷ []) []
+    go damaged = refusal 28 (0 ∷ 0 ∷ []) refl

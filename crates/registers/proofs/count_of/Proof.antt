@@ -44,7 +44,7 @@ u32-at-requires c κs = omega (arith, filled-fits (entry c .args .register .now)
 returns-2 : tie.Need-returns-2
 returns-2 c =
     let k = c .before in
-    c .u32-at .ensures .0 ∙ filled-count (entry k .args .register .now) (entry k .pre) (stands k)
+    omega (arith, c .u32-at .ensures .0, filled-count (entry k .args .register .now) (entry k .pre) (stands k))
 
 pub count-of-spec : {M : Type 1} → statement M
 count-of-spec =
