@@ -53,7 +53,7 @@ static void put_names(const struct request *q, const struct outcome *o)
     printf(",\"names\":[");
     for (size_t i = 0; i < names.count; i++) {
         printf("%s{\"name\":", i > 0 ? "," : "");
-        put_string(names.names[i].name);
+        json_string(names.names[i].name);
         printf(",\"bound\":\"%s\"}", bound_name(names.names[i].bound));
     }
     putchar(']');
