@@ -241,7 +241,7 @@ fn piece_end(text: &[u8], from: usize) -> usize
 }
 
 // Is the offset past the end or inside a character?
-fn is_outside(text: &[u8], offset: u64) -> bool
+pub fn is_outside(text: &[u8], offset: u64) -> bool
     ensures { λ r. ⌜ r ≡ outside (now (text .entry)) offset ⌝ }
 {
     let length = text.len() as u64;

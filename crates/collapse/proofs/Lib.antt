@@ -1,0 +1,6 @@
+pub mod Spaces
+pub mod Stage
+pub mod NextToken
+pub mod Tokens
+pub mod Hands
+mod Examples

@@ -1,0 +1,5 @@
+pub mod Collapse
+pub mod NextToken
+pub mod Tokens
+pub mod Stage
+pub mod Checked
