@@ -2,5 +2,5 @@ pub mod Spaces
 pub mod Stage
 pub mod NextToken
 pub mod Tokens
-pub mod Hands
+pub mod Handing
 mod Examples

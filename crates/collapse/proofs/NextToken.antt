@@ -2,7 +2,7 @@
 use mathlib.Core.Path.{_≡_, refl, sym, ap, _∙_}
 use Prim.Native.Nat.{ℕ, zero, suc, _+_, _-_, _≤_, _<_}
 use native.Mathlib.Omega.{arith}
-use mathlib.Core.Bool.{Bool, true, false, true≢false}
+use mathlib.Core.Bool.{Bool, true, false}
 use mathlib.Core.List.{List, [], _∷_}
 use lib.ListN.{length, drop, getD, length-drop, drop-of-length-le}
 use lib.Seq.{getD-drop}
@@ -10,7 +10,6 @@ use lib.Dec.{ltb}
 use borrow.Author.Tests.{ltb-true, ltb-false}
 use Rattle.text.specs.Bytes.{pick}
 use Rattle.text.proofs.Bytes.{contrary}
-use Rattle.output.specs.Runs.{Plain}
 use Rattle.runs.specs.RunEnds.{RunEnd}
 use Rattle.text.specs.Call.{textCheck}
 use Rattle.text.specs.declared.Answer.{Answer}

@@ -1,16 +1,12 @@
 -- Spaces by their index in a text: how they are counted, which of them go, and where a token ends. Assumes nothing.
-use mathlib.Core.Path.{_≡_, refl, sym, ap, _∙_}
-use Prim.Native.Nat.{ℕ, zero, suc, _+_, _-_, _≤_, _<_}
+use mathlib.Core.Path.{_≡_, ap, _∙_}
+use Prim.Native.Nat.{ℕ, suc, _+_, _≤_, _<_}
 use native.Mathlib.Omega.{arith}
-use mathlib.Core.Bool.{Bool, true, false, _&&_}
-use mathlib.Core.List.{List, [], _∷_}
-use lib.ListN.{length, drop, getD, length-drop, drop-of-length-le}
-use Rattle.text.specs.Bytes.{pick}
-use Rattle.output.specs.Runs.{Plain}
-use Rattle.runs.specs.RunEnds.{RunEnd}
+use mathlib.Core.Bool.{true, false, _&&_}
+use mathlib.Core.List.{List, _∷_}
+use lib.ListN.{length, drop, getD, drop-of-length-le}
 use Rattle.utils.proofs.Rest.{byte-first}
 use Rattle.collapse.specs.Collapse.{isSpace, spaces, ends}
-use Rattle.collapse.specs.NextToken.{tokenSize}
 use Rattle.collapse.specs.Stage.{goes}
 
 module _ (t : List ℕ) (i : ℕ) where

@@ -5,9 +5,9 @@ use Prim.Native.Nat.{ℕ, zero, suc, _+_, _-_, _≤_, _<_, min}
 use native.Mathlib.Omega.{arith}
 use mathlib.Core.Bool.{Bool, true, false, _&&_, true≢false}
 use mathlib.Core.List.{List, [], _∷_, _++_, append-assoc, append-nil}
-use lib.ListN.{length, take, drop, getD, length-append, length-drop}
+use lib.ListN.{length, take, drop, length-append, length-drop}
 use lib.Seq.{length-take-le, drop-drop}
-use lib.Dec.{eqb, ltb}
+use lib.Dec.{ltb}
 use borrow.Author.Tests.{ltb-true, ltb-false}
 use borrow.Rule.Slice.PartMut.{midOf, putMid}
 use Rattle.text.specs.Bytes.{pick}
@@ -15,7 +15,7 @@ use Rattle.text.proofs.Bytes.{pick-both}
 use Rattle.output.specs.Over.{over}
 use Rattle.output.proofs.Clip.{length-over, over-more}
 use Rattle.collapse.specs.Collapse.{isSpace, spaces, isEmpty, spaceFirst, dropLeading, dropTrailing, singleSpaces, collapse, ends}
-use Rattle.collapse.specs.Stage.{goes, tidied, Stays, StayEnd}
+use Rattle.collapse.specs.Stage.{goes, tidied, Stays}
 
 -- ---- one pass
 

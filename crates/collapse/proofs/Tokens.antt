@@ -1,9 +1,9 @@
 -- The second stage done twice is done once (`collapse-twice`). It keeps the tokens (`tokens-collapse`), and is these with one space between
 -- each two (`collapse-spaced`); none is empty or holds a space (`tokens-clean`). UTF-8 is kept (`collapse-utf8`). Assumes nothing.
 use mathlib.Core.Path.{_≡_, refl, ap, ap₂, sym, _∙_}
-use Prim.Native.Nat.{ℕ, zero, suc, _+_, _≤_, _<_}
+use Prim.Native.Nat.{ℕ, zero, suc, _<_}
 use native.Mathlib.Omega.{arith}
-use mathlib.Core.Bool.{Bool, true, false, _&&_, _||_, true≢false}
+use mathlib.Core.Bool.{Bool, true, false, _&&_, true≢false}
 use mathlib.Core.List.{List, [], _∷_, _++_}
 use lib.ListN.{length, drop, getD}
 use borrow.Author.Tests.{eqb-true}
@@ -12,7 +12,7 @@ use Rattle.text.specs.Utf8.{State, between, next, after, WellFormed}
 use Rattle.text.proofs.Bytes.{pick-by, pick-both, and-left, and-right}
 use Rattle.text.proofs.Utf8.{settle, settled, settle-settle, next-ascii}
 use Rattle.collapse.specs.Collapse.{isSpace, spaces, isEmpty, spaceFirst, dropLeading, dropTrailing, singleSpaces, collapse, ends, push, tokens, spaced}
-use Rattle.collapse.specs.Tokens.{spaceIn, Clean}
+use Rattle.collapse.specs.Tokens.{Clean}
 use Rattle.collapse.proofs.Stage.{ends-trailing}
 
 -- ---- a tidy text: no space at its ends, and each space before a byte that is none
@@ -36,7 +36,7 @@ trailing-trail (b ∷ bs) =
     pick-by Trail (isSpace b && isEmpty (dropTrailing bs)) {a = []} {b = b ∷ dropTrailing bs} (λ e. tt)
     (λ e. (λ q. rw q at e, trailing-trail bs))
 
-pub leading-start : (t : List ℕ) → spaceFirst (drop (spaces t) t) ≡ false
+leading-start : (t : List ℕ) → spaceFirst (drop (spaces t) t) ≡ false
 unfolding spaces spaceFirst
 leading-start [] = refl
 leading-start (b ∷ bs) = go (isSpace b) refl (leading-start bs)
@@ -135,7 +135,7 @@ collapse-twice t = tidy-stays (collapse t) (collapse-tidy t)
 
 -- ---- the tokens are kept
 
-pub tokens-leading : (t : List ℕ) → tokens (drop (spaces t) t) ≡ tokens t
+tokens-leading : (t : List ℕ) → tokens (drop (spaces t) t) ≡ tokens t
 unfolding spaces tokens
 tokens-leading [] = refl
 tokens-leading (b ∷ bs) = go (isSpace b) refl (tokens-leading bs)

@@ -55,7 +55,7 @@ module _ (numbers : List ℕ) where
   finished-refuses h (done value openings) out k = rw (finished-done value openings out) (finish-refuses h value openings out)
   finished-refuses h (refused before openings why first second) out k = refusal why (first ∷ second ∷ []) k
 
-  by-text : In 1 → In 5 → (t : List ℕ) → By In (textCheck t)
+  pub by-text : In 1 → In 5 → (t : List ℕ) → By In (textCheck t)
   by-text h k t = by-then In (lengthCheck t) (utf8Check t) (by-length In h t) (by-utf8 In k t)
 
   by-arguments : In 1 → In 5 → (t : List ℕ) (others : Answer) → By In others → By In (argumentCheck t others)
@@ -159,13 +159,13 @@ unescape-refuses text list pool out =
 
 -- the checks and the walk of an attribute value
 module _ (numbers : List ℕ) (text : List ℕ) (version depth limit : ℕ) (list pool : List ℕ) where
-  by-walk : In numbers 1 → In numbers 2 → In numbers 3 → In numbers 4 → In numbers 5 → TableNumbers (In numbers) → By (In numbers) (walkCheck text version depth limit list pool)
+  pub by-walk : In numbers 1 → In numbers 2 → In numbers 3 → In numbers 4 → In numbers 5 → TableNumbers (In numbers) → By (In numbers) (walkCheck text version depth limit list pool)
   by-walk a b c d e t =
       by-then (In numbers) (argumentCheck text (settingsCheck version depth limit)) (tableCheck list pool)
       (by-arguments numbers a e text (settingsCheck version depth limit) (by-settings (In numbers) b c d version depth limit))
       (by-table (In numbers) t list pool)
 
-  fails-walked : WalkNumbers (In numbers) → Fails (In numbers) (walked text version depth limit list pool)
+  pub fails-walked : WalkNumbers (In numbers) → Fails (In numbers) (walked text version depth limit list pool)
   fails-walked h = fails-reading (In numbers) h (ruleOf version) list pool limit depth text
 
 -- Demand 1: normalization answers 0, or refuses by 1 to 17 or 19 and leaves the output's bytes untouched.

@@ -22,6 +22,9 @@ use Rattle.attribute.specs.Checks.{settingsCheck}
 use Rattle.attribute.specs.Walk.{normalize, readingOf}
 use Rattle.attribute.specs.Strict.{readingBy}
 use Rattle.attribute.specs.Form.{formed}
+use Rattle.collapse.specs.NextToken.{nextToken}
+use Rattle.collapse.specs.declared.Found.{Found}
+use Rattle.nmtokens.specs.Nmtokens.{collapsed}
 use Rattle.charref.specs.CharRef.{charNumber, anyCharacter, numberAnswer}
 use Rattle.register.specs.RegisterCalls.{addCall, withdrawCall, countCall}
 
@@ -107,6 +110,19 @@ unfoldable pub canonicalFormStrictCall : List ℕ → ℕ → ℕ → ℕ → Li
 canonicalFormStrictCall text version depth limit list pool scratch out =
     guarded (walkCheck text version depth limit list pool) (scratch ∷ out ∷ [])
     (formed (ruleOf version) (walkedStrictly text version depth limit list pool) scratch out)
+
+-- document 02, K5: 1 to 9, then 10 to 17, 27, 18 and 19, else the value after the second stage, and the value in the scratch
+unfoldable pub normalizeNmtokensCall : List ℕ → ℕ → ℕ → ℕ → List ℕ → List ℕ → List ℕ → List ℕ → Called
+normalizeNmtokensCall text version depth limit list pool scratch out =
+    guarded (walkCheck text version depth limit list pool) (scratch ∷ out ∷ []) (collapsed (walked text version depth limit list pool) scratch out)
+
+-- what is found as an answer, and the lent offset, a buffer of one word
+abbrev pub tokenCall : Found → Called
+tokenCall f = callOf (pieceAnswer (f .piece)) ((f .next ∷ []) ∷ [])
+
+-- document 02, K5: 1 and 5, then 20; the next token, or "no more"; the offset changes with a token only
+unfoldable pub nextNmtokenCall : List ℕ → ℕ → Called
+nextNmtokenCall text offset = guarded (textCheck text) ((offset ∷ []) ∷ []) (tokenCall (nextToken text offset))
 
 -- document 02, K10, add one: 1 and 5 of the form, 28, then 30, else the form's count and the used length
 abbrev pub registerAddCall : List ℕ → List ℕ → ℕ → Called

@@ -7,7 +7,7 @@ use utils::Cursor;
 ghost use mathlib.Core.Path.{_≡_};
 ghost use mathlib.Core.List.{[], _∷_};
 ghost use Rattle.text.specs.Call.{called};
-ghost use Rattle.govlezna.specs.Calls.{checkUtf8Call, parseNumberCall, escapeCall, normalizeEolsCall, trimCall, cursorLeft, cdataNextCall, checkTableCall, unescapeCall, normalizeAttributeValueCall, canonicalFormCall, normalizeAttributeValueStrictCall, canonicalFormStrictCall, registerAddCall, registerWithdrawCall, registerCountCall};
+ghost use Rattle.govlezna.specs.Calls.{checkUtf8Call, parseNumberCall, escapeCall, normalizeEolsCall, trimCall, cursorLeft, cdataNextCall, checkTableCall, unescapeCall, normalizeAttributeValueCall, canonicalFormCall, normalizeAttributeValueStrictCall, canonicalFormStrictCall, registerAddCall, registerWithdrawCall, registerCountCall, normalizeNmtokensCall, nextNmtokenCall};
 ghost use Rattle.govlezna.specs.declared.CDataNext.{CDataNext};
 ghost use Rattle.utils.specs.Trim.{trimStart, trimEnd, trimSpaces};
 ghost use Rattle.register.specs.RegisterCalls.{lent};
@@ -269,6 +269,59 @@ pub extern "C" fn govlezna_canonical_form_strict(
         ),
         answer,
     )
+}
+
+// The value normalized as a list of tokens (K5): the scratch takes it, its second stage goes to `out`. Success: the length written, the
+// openings.
+#[no_mangle]
+pub extern "C" fn govlezna_normalize_nmtokens(
+    text: &[u8],
+    version: u8,
+    depth: u64,
+    limit: u64,
+    list: &[u8],
+    pool: &[u8],
+    scratch: &mut [u8],
+    out: &mut [u8],
+    answer: &mut [u64; 2],
+) -> u32
+    ensures { λ r. ⌜ called r (now (answer .exit)) (now (scratch .exit) ∷ now (out .exit) ∷ []) ≡ normalizeNmtokensCall (now (text .entry)) version depth limit (now (list .entry)) (now (pool .entry)) (now (scratch .entry)) (now (out .entry)) ⌝ }
+{
+    let list_checked = checks::check_walk(text, false, version, depth, limit, list, pool);
+    let Answer::Done {
+        first: _,
+        second: _,
+    } = list_checked
+    else {
+        return put(list_checked, answer);
+    };
+    put(
+        nmtokens::normalize_nmtokens(
+            text,
+            Wanted {
+                version,
+                strict: false,
+                depth,
+                limit,
+            },
+            list,
+            pool,
+            scratch,
+            out,
+        ),
+        answer,
+    )
+}
+
+// The next token of such a result; the offset is lent, and moves on. Success: start, length.
+#[no_mangle]
+pub extern "C" fn govlezna_next_nmtoken(text: &[u8], offset: &mut u64, answer: &mut [u64; 2]) -> u32
+    ensures { λ r. ⌜ called r (now (answer .exit)) ((now (offset .exit) ∷ []) ∷ []) ≡ nextNmtokenCall (now (text .entry)) (now (offset .entry)) ⌝ }
+{
+    let moved = collapse::checked_token(text, *offset);
+    *offset = moved.offset;
+    let token = moved.answer;
+    put(token, answer)
 }
 
 // The text without the white space at its start. Success: start, length.

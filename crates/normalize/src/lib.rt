@@ -249,7 +249,7 @@ fn reading_for(list: &[u8], wanted: Wanted) -> Reading
 
 // The value of the text of a call, in a buffer that is refused by the number given where it is too short. What the walk is set to is made
 // only where it walks: most values have no halt.
-fn normalized(
+pub fn normalized(
     text: &[u8],
     wanted: Wanted,
     list: &[u8],

@@ -1,7 +1,7 @@
 -- `any_pair`: where nothing was hit (`Missed`), none of the 16 bytes is a space before a space, and so each stays (`goes-pair`).
-use Prim.Native.Nat.{ℕ, _+_, _-_, _≤_, _<_}
+use Prim.Native.Nat.{ℕ, _+_, _-_}
 use native.Mathlib.Omega.{arith}
-use mathlib.Core.Path.{_≡_, refl, _∙_}
+use mathlib.Core.Path.{refl, _∙_}
 use mathlib.Core.Bool.{_&&_}
 use lib.ListN.{getD}
 use Rattle.text.proofs.Missed.{Missed, missed-start, missed-more, missed-all}

@@ -1,5 +1,5 @@
 -- `collapse_into` counts only where the output may be too short: the second stage adds nothing (`collapse-shorter`).
-use mathlib.Core.Path.{sym, _∙_}
+use mathlib.Core.Path.{_∙_}
 use mathlib.Core.Logic.{⊎-elim}
 use native.Mathlib.Omega.{arith}
 use Prim.Native.Nat.{_≤_}

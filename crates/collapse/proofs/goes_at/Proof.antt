@@ -1,6 +1,6 @@
 -- `goes_at` by the byte and the one after it (`goes-not`, `goes-pair`), which the last byte does not have (`goes-last`).
 use native.Mathlib.Omega.{arith}
-use mathlib.Core.Path.{_≡_, sym, _∙_}
+use mathlib.Core.Path.{sym, _∙_}
 use borrow.Author.Tests.{eq-eqb, ne-eqb}
 use Rattle.collapse.proofs.Spaces.{goes-not, goes-last, goes-pair}
 use borrow.Author.Needs.{needs}
