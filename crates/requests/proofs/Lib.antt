@@ -1,6 +1,7 @@
 pub mod External
 pub mod Marked
 pub mod Strict
+pub mod Nmtokens
 pub mod MarkedTable
 pub mod Unused
 pub mod UnusedBytes

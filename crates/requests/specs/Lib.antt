@@ -2,3 +2,4 @@ pub mod External
 pub mod Marked
 pub mod Strict
 pub mod Unused
+pub mod Nmtokens
