@@ -21,6 +21,8 @@ pub struct Answer {
     pub scratch: Vec<u8>,
     /// The cursor after the call.
     pub cursor: Cursor,
+    /// The lent offset after it.
+    pub offset: u64,
     /// The register's buffer whole, and its used length.
     pub register: Left,
 }
@@ -39,6 +41,7 @@ pub fn refusal(number: u32, first: u64) -> Answer {
         scratch_room: 0,
         scratch: vec![],
         cursor: Cursor::default(),
+        offset: 0,
         register: Left::default(),
     }
 }

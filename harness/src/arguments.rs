@@ -37,6 +37,7 @@ pub struct Arguments<'a> {
     pub room: Room,
     pub scratch: Room,
     pub cursor: Cursor,
+    pub offset: u64,
     pub register: Held<'a>,
 }
 
@@ -95,6 +96,7 @@ impl<'a> Arguments<'a> {
             room: Room::Exact,
             scratch: Room::Exact,
             cursor: Cursor::default(),
+            offset: 0,
             register: Held::default(),
         }
     }

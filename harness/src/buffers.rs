@@ -135,6 +135,7 @@ pub struct Buffers {
     scratch: Guarded,
     out: Guarded,
     cursor: Guarded,
+    offset: Guarded,
     register: Guarded,
     used: Guarded,
     answer: Guarded,
@@ -149,6 +150,7 @@ impl Buffers {
             scratch: Guarded::new("the scratch", LONGEST_SCRATCH),
             out: Guarded::new("the output", LONGEST_OUTPUT),
             cursor: Guarded::new("the cursor", CURSOR),
+            offset: Guarded::new("the offset", WORD),
             register: Guarded::new("the register", LONGEST_REGISTER),
             used: Guarded::new("the used length", WORD),
             answer: Guarded::new("the answer words", WORDS * WORD),
@@ -167,10 +169,13 @@ impl Buffers {
         self.out.prefill(expected.room, other_alignment, fill);
         self.scratch
             .prefill(expected.scratch_room, other_alignment ^ alignment, fill);
-        // A cursor and an array of words are owed no more than a word's alignment.
+        // A cursor, an offset and an array of words are owed no more than a word's alignment.
         self.cursor
             .prefill(CURSOR, (turn + 3) * WORD % ALIGNMENTS, fill)
             .copy_from_slice(&cursor_bytes(arguments.cursor));
+        self.offset
+            .prefill(WORD, (turn + 5) * WORD % ALIGNMENTS, fill)
+            .copy_from_slice(&arguments.offset.to_ne_bytes());
         let Held { buffer, used } = arguments.register;
         self.used
             .prefill(WORD, (turn + 5) * WORD % ALIGNMENTS, fill)
@@ -198,6 +203,7 @@ impl Buffers {
             out: lent_pointer(&mut self.out, arguments.room),
             out_length: expected.room,
             cursor: self.cursor.pointer().cast(),
+            offset: self.offset.pointer().cast(),
             buffer: self
                 .register
                 .hold(buffer, register_place, other_alignment, fill)
@@ -215,6 +221,7 @@ impl Buffers {
             .or_else(|| self.out.damage(&expected.written))
             .or_else(|| self.scratch.damage(&expected.scratch))
             .or_else(|| self.cursor.damage(&cursor_bytes(expected.cursor)))
+            .or_else(|| self.offset.damage(&expected.offset.to_ne_bytes()))
             .or_else(|| self.register.damage_of_held(&expected.register.buffer))
             .or_else(|| self.used.damage(&expected.register.used.to_ne_bytes()))
             .or_else(|| self.text.damage_of_held(arguments.text))

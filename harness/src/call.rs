@@ -49,6 +49,8 @@ pub enum Parameter {
     Scratch,
     Output,
     Cursor,
+    /// A lent offset, of the next token.
+    Offset,
     /// A buffer that is read and written, and its used length.
     Register,
     /// The same, read alone.

@@ -122,7 +122,7 @@ impl<'a> Comparison<'a> {
         let [first, second] = self.buffers.answer_words();
         let mut description = format!(
             "{}: {} bytes at address {} modulo {ALIGNMENTS}: {}\n  \
-             level or version {}, output of {} bytes, cursor {} {}\n  \
+             level or version {}, output of {} bytes, cursor {} {}, offset {}\n  \
              expected {} {} {}\n  found    {number} {first} {second}",
             self.call.name,
             lent.text_length,
@@ -132,6 +132,7 @@ impl<'a> Comparison<'a> {
             lent.out_length,
             arguments.cursor.offset,
             arguments.cursor.finished,
+            arguments.offset,
             expected.number,
             expected.first,
             expected.second,

@@ -39,7 +39,7 @@ pub fn cut_for(call: &Call, bytes: &[u8], each: &mut dyn FnMut(Arguments, usize)
     let list = list_of(list);
     let text = &text[..text.len().min(LONGEST_TEXT)];
     let offset = i16::from_le_bytes([offset_low, offset_high]);
-    // The others leave the cursor as it is lent, the usual one.
+    // The others leave the cursor and the offset as they are lent, the usual ones.
     let cursor = match call.has(Parameter::Cursor) {
         true => Cursor {
             offset: i64::from(offset) as u64,
@@ -59,6 +59,10 @@ pub fn cut_for(call: &Call, bytes: &[u8], each: &mut dyn FnMut(Arguments, usize)
         buffer: &buffer,
         used: used.wrapping_add_signed(i64::from(offset) * i64::from(is_register)),
     };
+    let lent_offset = match call.has(Parameter::Offset) {
+        true => i64::from(offset) as u64,
+        false => 0,
+    };
     let arguments = Arguments {
         register,
         choice: choice_of(choice),
@@ -68,6 +72,7 @@ pub fn cut_for(call: &Call, bytes: &[u8], each: &mut dyn FnMut(Arguments, usize)
         room: room_of(room),
         scratch: room_of(scratch),
         cursor,
+        offset: lent_offset,
         ..Arguments::text(text)
     };
     let turn = u16::from_le_bytes([turn_low, turn_high]);

@@ -45,6 +45,7 @@ fn given(parameter: Parameter, arguments: &Arguments, answer: &Answer) -> Vec<St
         Parameter::Scratch => vec![answer.scratch_room.to_string()],
         Parameter::Output => vec![answer.room.to_string()],
         Parameter::Cursor => cursor_fields(arguments.cursor),
+        Parameter::Offset => vec![arguments.offset.to_string()],
         Parameter::Register | Parameter::RegisterRead => {
             let Held { buffer, used } = arguments.register;
             vec![hex(buffer), used.to_string()]
@@ -58,6 +59,7 @@ fn left(parameter: Parameter, answer: &Answer) -> Vec<String> {
         Parameter::Scratch => vec![hex(&answer.scratch)],
         Parameter::Output => vec![hex(&answer.written)],
         Parameter::Cursor => cursor_fields(answer.cursor),
+        Parameter::Offset => vec![answer.offset.to_string()],
         Parameter::Register => {
             let Left { buffer, used } = &answer.register;
             vec![hex(buffer), used.to_string()]

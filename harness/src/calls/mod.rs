@@ -5,8 +5,10 @@ pub mod cdata_next;
 pub mod check_table;
 pub mod check_utf8;
 pub mod escape;
+pub mod next_nmtoken;
 pub mod normalize_attribute_value;
 pub mod normalize_eols;
+pub mod normalize_nmtokens;
 pub mod parse_number;
 pub mod register;
 pub mod trim_xml;
@@ -29,6 +31,8 @@ pub static CALLS: &[Call] = &[
     canonical_form::CALL,
     normalize_attribute_value::STRICT,
     canonical_form::STRICT,
+    normalize_nmtokens::CALL,
+    next_nmtoken::CALL,
     register::ADD,
     register::WITHDRAW,
     register::COUNT,

@@ -25,6 +25,10 @@ pub fn of(parameter: Parameter) -> Faults {
         Parameter::Register => register::WRITTEN,
         Parameter::RegisterRead => register::READ,
         // What goes wrong with these is the call's own.
-        Parameter::Depth | Parameter::Limit | Parameter::Scratch | Parameter::Cursor => &[],
+        Parameter::Depth
+        | Parameter::Limit
+        | Parameter::Scratch
+        | Parameter::Cursor
+        | Parameter::Offset => &[],
     }
 }
