@@ -22,6 +22,9 @@ static uint32_t call(const struct request *q, uint8_t *scratch, size_t scratch_l
         return (a->strict ? govlezna_canonical_form_strict : govlezna_canonical_form)(
             q->text, q->text_length, a->version, a->depth, a->limit, q->list, q->list_length, q->pool, q->pool_length,
             scratch, scratch_length, out, length, answer);
+    case NMTOKENS:
+        return govlezna_normalize_nmtokens(q->text, q->text_length, a->version, a->depth, a->limit, q->list, q->list_length,
+                                           q->pool, q->pool_length, scratch, scratch_length, out, length, answer);
     case EOLS:
         return govlezna_normalize_eols(q->text, q->text_length, a->version, out, length, answer);
     default:

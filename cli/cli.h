@@ -10,7 +10,7 @@
 #define LIST_MOST ((size_t)49154)
 #define POOL_MOST ((size_t)1048576)
 
-enum command { ESCAPE, UNESCAPE, NORMALIZE, CANONICAL, EOLS, TRIM, CDATA, CHECK, USED, REGISTER };
+enum command { ESCAPE, UNESCAPE, NORMALIZE, CANONICAL, NMTOKENS, EOLS, TRIM, CDATA, CHECK, USED, REGISTER };
 enum side { BOTH, START, END };
 enum action { ADD, WITHDRAW, COUNT, LIST };
 
@@ -39,7 +39,7 @@ struct arguments {
     const char *register_path, *action_name; /* of register; NULL where they are missing */
     enum action action;
     size_t room;
-    int json;
+    int lines, json;
 };
 
 /* One call to make: the arguments with their text and table read. The buffers are owned. */
@@ -115,6 +115,9 @@ uint32_t make_call(const struct request *request, struct outcome *outcome);
 
 /* pieces.c */
 uint32_t next_piece(const struct request *request, struct govlezna_cursor *cursor, uint64_t answer[2]);
+
+/* tokens.c. The token from the offset on: its start and its length, and the offset after it; 0 if there is none. */
+int next_token(struct span result, size_t *offset, struct span *token);
 
 /* place.c */
 struct place find_place(const struct request *request, const struct outcome *outcome);

@@ -24,6 +24,17 @@ static void put_sections(const struct request *q)
     }
 }
 
+/* One to a line. */
+static void put_tokens(struct span result)
+{
+    struct span token;
+    size_t offset = 0;
+    while (next_token(result, &offset, &token)) {
+        put(token.bytes, token.length);
+        putchar('\n');
+    }
+}
+
 static void put_check(const struct request *q, const struct outcome *o)
 {
     printf("UTF-8, %" PRIu64 " bytes\n", o->answer[0]);
@@ -45,6 +56,13 @@ static void put_success(const struct request *q, const struct outcome *o)
 {
     switch (q->arguments->command) {
     case CHECK: put_check(q, o); return;
+    case NMTOKENS:
+        if (q->arguments->lines) {
+            put_tokens((struct span){ o->bytes, o->answer[0] });
+            return;
+        }
+        put(o->bytes, o->answer[0]);
+        break;
     case USED: return;
     case CDATA: put_sections(q); break;
     case TRIM: put(q->text + o->answer[0], o->answer[1]); break;

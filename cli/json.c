@@ -43,6 +43,19 @@ static void put_pieces(const struct request *q)
     putchar(']');
 }
 
+static void put_tokens(struct span result)
+{
+    struct span token;
+    size_t offset = 0;
+    const char *between = "";
+    printf(",\"tokens\":[");
+    while (next_token(result, &offset, &token)) {
+        printf("%s[%zu,%zu]", between, (size_t)(token.bytes - result.bytes), token.length);
+        between = ",";
+    }
+    putchar(']');
+}
+
 /* Only `used` has names; of a value that is refused too. */
 static void put_names(const struct request *q, const struct outcome *o)
 {
@@ -83,8 +96,10 @@ void json_success(const struct request *q, const struct outcome *o)
         put_names(q, o);
     } else {
         json_number("length", o->answer[0]);
-        if (command == NORMALIZE || command == CANONICAL)
+        if (command == NORMALIZE || command == CANONICAL || command == NMTOKENS)
             json_number("openings", o->answer[1]);
+        if (command == NMTOKENS)
+            put_tokens((struct span){ o->bytes, o->answer[0] });
         put_result((struct span){ o->bytes, o->answer[0] });
     }
     puts("}");

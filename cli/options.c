@@ -5,7 +5,7 @@
 #include <stdlib.h>
 #include <string.h>
 
-static const char *const commands[] = { "escape", "unescape", "normalize", "canonical", "eols",
+static const char *const commands[] = { "escape", "unescape", "normalize", "canonical", "nmtokens", "eols",
                                         "trim",   "cdata",    "check",     "used",      "register" };
 static const char *const actions[] = { "add", "withdraw", "count", "list" };
 
@@ -14,13 +14,13 @@ static const char *const actions[] = { "add", "withdraw", "count", "list" };
 #define ROOM_IF_NOT_GIVEN ((size_t)1048576)
 
 enum option {
-    LEVEL, VERSION, DEPTH, LIMIT, STRICT, ENTITY, EXTERNAL, MARKED, TABLE, AT_START, AT_END, ROOM, FROM_FILE, JSON, OPTIONS
+    LEVEL, VERSION, DEPTH, LIMIT, STRICT, ENTITY, EXTERNAL, MARKED, TABLE, LINES, AT_START, AT_END, ROOM, FROM_FILE, JSON, OPTIONS
 };
 
 #define ON(command) (1u << (command))
 #define ALL (ON(COMMANDS) - 1)
 /* Those that read an attribute value, and those that have a table. */
-#define VALUES (ON(NORMALIZE) | ON(CANONICAL) | ON(USED))
+#define VALUES (ON(NORMALIZE) | ON(CANONICAL) | ON(NMTOKENS) | ON(USED))
 #define TABLES (VALUES | ON(UNESCAPE) | ON(CHECK))
 
 /* The options: how many values each takes, and which commands take it. */
@@ -33,11 +33,12 @@ static const struct {
     { "--version", 1, VALUES | ON(EOLS) },
     { "--depth", 1, VALUES },
     { "--limit", 1, VALUES },
-    { "--strict", 0, VALUES },
+    { "--strict", 0, ON(NORMALIZE) | ON(CANONICAL) | ON(USED) },
     { "--entity", 1, TABLES },
     { "--external", 1, TABLES },
     { "--marked", 0, TABLES },
     { "--table", 2, TABLES },
+    { "--lines", 0, ON(NMTOKENS) },
     { "--start", 0, ON(TRIM) },
     { "--end", 0, ON(TRIM) },
     { "--room", 1, ON(REGISTER) },
@@ -136,6 +137,7 @@ static void set_option(struct arguments *a, enum option option, char **values)
     case EXTERNAL: add_entity(a, name, values[0], strlen(values[0]), NULL); break;
     case MARKED: a->marked = 1; break;
     case TABLE: a->list = values[0], a->pool = values[1]; break;
+    case LINES: a->lines = 1; break;
     case AT_START: a->side = START; break;
     case AT_END: a->side = END; break;
     case ROOM: a->room = read_number(name, values[0], SIZE_MAX); break;
@@ -172,6 +174,8 @@ static void check_together(const struct arguments *a, unsigned seen)
         bad_usage(seen & ON(ENTITY) ? "--entity" : "--external", "--table is given too");
     if (a->marked && a->list != NULL)
         bad_usage("--marked", "--table is given too; a marked list starts with the byte 3");
+    if (a->lines && a->json)
+        bad_usage("--lines", "--json is given too, which has the tokens");
     if (seen & ON(AT_START) && seen & ON(AT_END))
         bad_usage("--start", "--end is given too; for both ends give neither");
     if (a->command == REGISTER && a->action_name == NULL)

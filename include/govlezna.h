@@ -5,7 +5,8 @@
  * the refusal. Both words of `answer` are written by every call: on success what the call says below, on a refusal its
  * first and second; a word that nothing is said of is 0. On success the first bytes of an output are the result and the
  * rest keep their bytes. A refusal writes nothing but the answer words; the one exception is GOVLEZNA_NO_ROOM of
- * govlezna_canonical_form and govlezna_canonical_form_strict, whose scratch then holds the value.
+ * govlezna_canonical_form, govlezna_canonical_form_strict and govlezna_normalize_nmtokens, whose scratch then holds the
+ * value.
  *
  * To learn how long a result is, call with an output of length 0: GOVLEZNA_NO_ROOM gives the length needed, and success
  * means that the result is empty.
@@ -14,8 +15,8 @@
  * - `text`, `list` and `pool` point to as many readable bytes as their length says, of any value; `out` and `scratch` to
  *   as many writable bytes. NULL is allowed where the length is 0; but a list of no bytes is refused: "no table" is the
  *   list { 0 } of length 1.
- * - `answer` points to two writable words, `cursor` to a cursor; `form` and `buffer` of a register are as `text` and
- *   `out` (for govlezna_register_count both are read alone), `used` points to a writable word.
+ * - `answer` points to two writable words, `cursor` to a cursor, `offset` to a word; `form` and `buffer` of a register are as
+ *   `text` and `out` (for govlezna_register_count both are read alone), `used` points to a writable word.
  * - What a call may write overlaps nothing else that it is lent.
  * Nothing is kept after a call, and no call allocates: calls on different buffers may run at the same time.
  * A call takes at most 72 KiB of stack: about 530 bytes for each level of depth (measured at depth 128: 69,832 bytes).
@@ -60,7 +61,7 @@ extern "C" {
 #define GOVLEZNA_TOO_MANY_OPENINGS 17   /* opening limit used up: first is the offset of & */
 #define GOVLEZNA_NO_SCRATCH 18          /* scratch shorter than the value: first is the length needed */
 #define GOVLEZNA_NO_ROOM 19             /* output shorter than the result: first is the length needed */
-#define GOVLEZNA_CURSOR_OUTSIDE 20      /* cursor past the end or inside a character: first is its offset */
+#define GOVLEZNA_CURSOR_OUTSIDE 20      /* cursor or offset past the end or inside a character: first is it */
 #define GOVLEZNA_FORBIDDEN_REFERENCE 25 /* strict calls: a reference names a character that the version does not allow */
 #define GOVLEZNA_FORBIDDEN_CHARACTER 26 /* strict calls: a character that may not stand there: first is its offset */
 #define GOVLEZNA_EXTERNAL_ENTITY 27     /* the name of an external entity: first is the offset of & */
@@ -68,7 +69,7 @@ extern "C" {
 #define GOVLEZNA_ABSENT_FORM 29         /* the form to withdraw is not in the register */
 #define GOVLEZNA_REGISTER_FULL 30       /* no room for a new form, or its count is 4,294,967,295 already */
 
-/* No refusal: there is no further piece. */
+/* No refusal: there is no further piece or token. */
 #define GOVLEZNA_NO_MORE 255
 
 /*
@@ -269,6 +270,40 @@ uint32_t govlezna_canonical_form_strict(const uint8_t *text, size_t text_length,
                                         uint64_t limit, const uint8_t *list, size_t list_length, const uint8_t *pool,
                                         size_t pool_length, uint8_t *scratch, size_t scratch_length, uint8_t *out,
                                         size_t out_length, uint64_t answer[2]);
+
+/*
+ * The value of an attribute of type NMTOKENS (XML 1.0, 3.3.3): the value normalized as by
+ * govlezna_normalize_attribute_value, then without spaces at its ends and with one in the place of each run of spaces.
+ * U+0020 alone counts: an LF, TAB or CR that came by a reference stays. What is in a token is held to no rule.
+ *
+ * `depth`, `limit`: as there. `list`, `pool`: the table; for none the list { 0 } of length 1, and NULL with length 0.
+ * Success: answer[0] is the length of the result, answer[1] the number of openings. The first bytes of the scratch are
+ * the normalized value, which is at least as long; the rest of `scratch` and of `out` keep their bytes.
+ * Refusals, in this order: those of govlezna_normalize_attribute_value without its last; NO_SCRATCH (scratch shorter
+ * than the normalized value; answer[0]: its length); NO_ROOM (answer[0]: the length of the result). None writes to `out`,
+ * and of them NO_ROOM alone to the scratch: it holds the normalized value, as after success.
+ * Time: as govlezna_normalize_attribute_value; then the value is read once, and once more where `out` is shorter than it.
+ * Example: version 0, depth 1, limit 0, no table: two spaces, `p1`, TAB, a space, `p2&#10;p3` and a space give the 8 bytes
+ * `p1`, space, `p2`, LF, `p3`; the value in the scratch has 12.
+ */
+uint32_t govlezna_normalize_nmtokens(const uint8_t *text, size_t text_length, uint8_t version, uint64_t depth,
+                                     uint64_t limit, const uint8_t *list, size_t list_length, const uint8_t *pool,
+                                     size_t pool_length, uint8_t *scratch, size_t scratch_length, uint8_t *out,
+                                     size_t out_length, uint64_t answer[2]);
+
+/*
+ * The next token of such a result, or of any text: spaces at the offset are skipped, and the token goes on to the next
+ * space or to the end. Start with 0: each token is handed out once, in order; from inside a token its rest is.
+ *
+ * Success: answer[0] is the token's start, answer[1] its length, at least 1; the offset is moved to their sum.
+ * Refusals, in this order: TOO_LONG; NOT_UTF8; CURSOR_OUTSIDE (the offset is past the end or inside a character;
+ * answer[0]: the offset). After these, where only spaces or nothing is left, NO_MORE. The offset stays as it is.
+ * Time: each call checks all that it is handed, so the tokens of a text that is handed over whole take the square of its
+ * length. Hand over windows of a long text instead, from the token's start on, which end within no character; a token
+ * that a window's end cuts goes on in the next.
+ * Example: of `p1 p2` from 0 start 0 and length 2, then 3 and 2, then NO_MORE with the offset 5.
+ */
+uint32_t govlezna_next_nmtoken(const uint8_t *text, size_t text_length, uint64_t *offset, uint64_t answer[2]);
 
 /*
  * The part of the text without white space (space, TAB, CR, LF) at its start, at its end, at both.

@@ -118,6 +118,14 @@ results() {
     gives '  ' normalize $'\xC2\x85\xE2\x80\xA8' --strict --version 1.1
     gives $'\x01' normalize $'\x01'
     gives $'&lt;\x01' canonical '<&#1;' --strict --version 1.1
+    gives 'p1 p2' nmtokens $'  p1 \t p2\n'
+    gives $'p1 p2\np3' nmtokens ' p1  p2&#10;p3 '
+    gives $'p1\np2\tq\np3\n' nmtokens --lines ' p1  p2&#9;q &e;' --entity 'e=  p3 '
+    gives '' nmtokens --lines $' \t '
+    gives '' nmtokens ''
+    gives 'A B' nmtokens '&d;&d;A&a;&#x20;&a;B&da;' --marked --entity d=$'\r' --entity a=$'\n' --entity da=$'\r\n'
+    gives 'a b' nmtokens $'a\xC2\x85\xE2\x80\xA8b' --version 1.1
+    gives $'\xC2\xA0 \xE3\x80\x80' nmtokens $' \xC2\xA0  \xE3\x80\x80'
     gives $'\r\n\t' unescape '&e;' --marked --entity $'e=\r\n\t'
     gives $'a\nb\nc' eols $'a\r\nb\rc'
     gives $'\n' eols $'\r\xC2\x85' --version 2
@@ -183,6 +191,9 @@ json() {
     gives '{"command":"check","number":0,"length":0,"definitions":1}'$'\n' check --json --marked --entity e=x ''
     gives '{"command":"normalize","number":0,"length":2,"openings":1,"result":"  "}'$'\n' normalize --json '&e;' --marked --entity $'e=\r\n'
     gives '{"command":"normalize","number":0,"length":1,"openings":0,"result":"\u0001"}'$'\n' normalize --json '&#1;' --strict --version 1.1
+    gives '{"command":"nmtokens","number":0,"length":5,"openings":1,"tokens":[[0,1],[2,3]],"result":"a b\u000ac"}'$'\n' \
+        nmtokens --json ' a &e;' --entity 'e= b&#10;c'
+    gives '{"command":"nmtokens","number":0,"length":0,"openings":0,"tokens":[],"result":""}'$'\n' nmtokens --json '  '
     run canonical --json 'x &e;' --strict --version 1.1 --entity $'e=\x01\r\n\xEF\xBF\xBE'
     [ "$status" -eq 1 ] && [ "$(cat "$room/out")" = '{"command":"canonical","number":26,"words":"a character that may not stand here in this version of XML","first":3,"second":0,"entity":"e","opened":2,"start":3,"end":6,"line":2,"character":"U+FFFE"}' ]
     expect $? canonical --json strict
@@ -201,7 +212,7 @@ refusals() {
     refuses 4 '' escape a --level 4
     refuses 4 '' eols a --version 3
     refuses 4 '' normalize a --version=255
-    for command in escape unescape normalize canonical eols trim cdata check used; do
+    for command in escape unescape normalize canonical nmtokens eols trim cdata check used; do
         refuses 5 ': byte 1 of the text, line 1' "$command" $'a\xFF'
     done
     refuses 9 ': --entity number 2' unescape a --entity a=b --entity =c
@@ -237,6 +248,10 @@ refusals() {
     refuses 27 ': bytes 2 to 4 of the text' canonical 'a &e; b' --external e --limit 0
     refuses 27 ': bytes 0 to 4 of the text' unescape '&amp;' --external amp
     refuses 27 ': bytes 0 to 3 of the text' normalize '&lt;' --external lt
+    refuses 27 ': bytes 2 to 4 of the text' nmtokens 'a &e;' --external e
+    refuses 11 ': byte 3 of the text of the entity e' nmtokens 'a &e;' --entity 'e=b &f;'
+    refuses 17 ': byte 0 of the text' nmtokens '&e;' --entity e=b --limit 0
+    refuses 4 '' nmtokens a --version 3
     refuses 27 ': bytes 1 to 3 of the text of the entity a' normalize 'q &a;' --entity 'a=x&e;' --external e
     refuses 16 ': byte 0 of the text' normalize '&e;' --external e --depth 0
     strict_refusals
@@ -406,7 +421,30 @@ sections() {
     expect $? cdata 16 MiB of cuts
 }
 
+# The library gets windows of the list, as above (cli/tokens.c): tokens and characters at the ends of the first windows, and
+# nothing but tokens, which take about a second.
+tokens() {
+    local before text
+    for before in {61..66} {125..130} {253..258}; do
+        text=$(printf 'a%.0s' $(seq "$before"))
+        gives "$text"$'\nb\n' nmtokens --lines "$text  b"
+        gives "$text"$'ß\nc\n' nmtokens --lines "$text"'ß c'
+        gives "$text"$'€𝄞\n' nmtokens --lines " $text€𝄞"
+    done
+    yes p1 | tr '\n' ' ' | head -c 16777216 >"$room/ids"
+    tr ' ' '\n' <"$room/ids" >"$room/lines"
+    echo >>"$room/lines"
+    timeout 60 "$program" nmtokens --lines --file "$room/ids" >"$room/out" 2>"$room/err"
+    status=$?
+    cases=$((cases + 1))
+    [ "$status" -eq 0 ] && cmp -s "$room/lines" "$room/out"
+    expect $? nmtokens 16 MiB of tokens
+}
+
 usage() {
+    misused 'not an option of this command' normalize a --lines
+    misused 'not an option of this command' nmtokens a --strict
+    misused '--json is given too' nmtokens a --lines --json
     misused 'govlezna COMMAND'
     misused 'no such command' frobnicate a
     misused 'no such option' escape a --frobnicate
@@ -454,6 +492,7 @@ places
 files
 sizes
 sections
+tokens
 usage
 echo "$cases runs, $wrong wrong"
 [ "$wrong" -eq 0 ]

@@ -102,6 +102,27 @@ static void strict_calls(void)
     expect(__LINE__, strict_form("&lt;\1"), GOVLEZNA_FORBIDDEN_CHARACTER, 4, 0);
 }
 
+static uint32_t list_tokens(const char *text)
+{
+    return govlezna_normalize_nmtokens(bytes(text), strlen(text), 0, 1, 0, empty, 1, NULL, 0, scratch, sizeof scratch, out,
+                                       sizeof out, answer);
+}
+
+static void tokens(void)
+{
+    uint64_t offset = 0;
+    expect(__LINE__, list_tokens("  p1\t p2&#10;p3 "), 0, 8, 0);
+    expect_bytes(__LINE__, out, "p1 p2\np3");
+    expect_bytes(__LINE__, scratch, "  p1  p2\np3 ");
+    expect(__LINE__, govlezna_next_nmtoken(bytes("p1 p2"), 5, &offset, answer), 0, 0, 2);
+    expect(__LINE__, govlezna_next_nmtoken(bytes("p1 p2"), 5, &offset, answer), 0, 3, 2);
+    expect(__LINE__, govlezna_next_nmtoken(bytes("p1 p2"), 5, &offset, answer), GOVLEZNA_NO_MORE, 0, 0);
+    answer[0] = offset;
+    expect(__LINE__, 0, 0, 5, 0);
+    offset = 6;
+    expect(__LINE__, govlezna_next_nmtoken(bytes("p1 p2"), 5, &offset, answer), GOVLEZNA_CURSOR_OUTSIDE, 6, 0);
+}
+
 /* A register of nine bytes, through one call after the other. */
 static void registers(void)
 {
@@ -144,6 +165,7 @@ static void examples(void)
     expect(__LINE__, normalize(2, 10, external, sizeof external), GOVLEZNA_EXTERNAL_ENTITY, 0, 0);
     marked_lists();
     strict_calls();
+    tokens();
     registers();
     expect(__LINE__,
            govlezna_canonical_form(bytes(text), strlen(text), 0, 2, 10, list, sizeof list, pool, sizeof pool, scratch,

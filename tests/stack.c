@@ -96,6 +96,13 @@ static uint32_t canonical_strictly(const struct job *job, uint64_t answer[2])
                                           ROOM, answer);
 }
 
+static uint32_t nmtokens(const struct job *job, uint64_t answer[2])
+{
+    return govlezna_normalize_nmtokens(text, sizeof text, job->version, DEPTH, 1000000, job->chain.list,
+                                       sizeof job->chain.list, job->chain.pool, job->chain.pool_length, scratch, ROOM, out, ROOM,
+                                       answer);
+}
+
 /* A register of 300 forms of three digits. */
 static uint32_t register_call(const struct job *job, uint64_t answer[2])
 {
@@ -169,7 +176,7 @@ static size_t measure_registers(void)
 int main(void)
 {
     static uint32_t (*const calls[])(const struct job *, uint64_t *) = { normalize, canonical, normalize_strictly,
-                                                                         canonical_strictly };
+                                                                         canonical_strictly, nmtokens };
     enum { CALLS = sizeof calls / sizeof calls[0] };
     const struct {
         const char *last;
