@@ -60,15 +60,15 @@ fn stay_blocks(text: &[u8], from: usize) -> usize
     i
 }
 
-// Is the byte at i a space that goes?
-fn goes_at(text: &[u8], i: usize) -> bool
-    requires { ⌜ i + 1 ≤ length (now text) ⌝ }
-    ensures { λ r. ⌜ r ≡ goes (drop i (now (text .entry))) ⌝ }
+// Does a space that goes stand at `at`?
+fn goes_at(text: &[u8], at: usize) -> bool
+    requires { ⌜ at + 1 ≤ length (now text) ⌝ }
+    ensures { λ r. ⌜ r ≡ goes (drop at (now (text .entry))) ⌝ }
 {
-    if text[i] != b' ' {
+    if text[at] != b' ' {
         return false;
     }
-    let next = i + 1;
+    let next = at + 1;
     if next == text.len() {
         return true;
     }

@@ -7,3 +7,4 @@ pub mod Unused
 pub mod UnusedBytes
 mod UnusedExamples
 pub mod Register
+mod NmtokensMet

@@ -43,7 +43,7 @@ skip-spaces-requires c κs = inside-le (entry c .args .text .now) (entry c .args
 returns-2 : tie.Need-returns-2
 returns-2 c =
     let before = c .before .before in
-    token-none (entry before .args .text .now) (entry before .args .offset) (inside before) (c .before .skip-spaces .ensures) (c .if2 .taken)
+    token-none (entry before .args .text .now) (entry before .args .offset) (inside before) (c .before .skip-spaces .ensures) (omega (arith, c .if2 .taken))
 
 token-end-requires : tie.Need-token-end-requires
 token-end-requires c κs = omega (arith, starts c)

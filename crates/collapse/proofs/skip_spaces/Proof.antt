@@ -3,7 +3,7 @@ use borrow.Author.Needs.{needs}
 use Prim.Native.Nat.{_+_, _-_, _≤_}
 use native.Mathlib.Omega.{arith}
 use mathlib.Core.Path.{_≡_, refl, sym, _∙_}
-use lib.ListN.{length, drop}
+use lib.ListN.{length, drop, getD}
 use borrow.Author.Tests.{eq-eqb, ne-eqb}
 use Rattle.collapse.specs.Collapse.{spaces}
 use Rattle.collapse.proofs.Spaces.{space-on, space-stop, space-over}
@@ -26,7 +26,7 @@ returns : tie.Need-returns Inv-loop μ-loop
 returns c =
     let l = c .before .before .before .loop in
     let given = c .before .before .before .before .args in
-    sym (space-stop (given .text .now) (l .i) (c .before .before .loop-test .taken) (ne-eqb _ 32 (c .if1 .taken))) ∙ l .inv .1
+    sym (space-stop (given .text .now) (l .i) (c .before .before .loop-test .taken) (ne-eqb (getD (given .text .now) (l .i) 0) 32 (λ q. omega (arith, q, c .if1 .taken)))) ∙ l .inv .1
 
 add-i : tie.Need-add-i Inv-loop μ-loop
 add-i c = search needs
@@ -39,7 +39,7 @@ loop-again c =
     let l = c .before .before .before .loop in
     let given = c .before .before .before .before .args in
     let less = c .before .before .loop-test .taken in
-    (omega (arith, less), sym (space-on (given .text .now) (l .i) less (eq-eqb _ 32 (c .if1 .left))) ∙ l .inv .1)
+    (omega (arith, less), sym (space-on (given .text .now) (l .i) less (eq-eqb (getD (given .text .now) (l .i) 0) 32 (omega (arith, c .if1 .left)))) ∙ l .inv .1)
 
 returns-2 : tie.Need-returns-2 Inv-loop μ-loop
 returns-2 c =
