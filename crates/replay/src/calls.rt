@@ -8,24 +8,25 @@ use crate::answers::compare_output;
 use crate::cdata;
 use crate::fields::field;
 use crate::fields::field_count;
+use crate::nmtoken;
 use crate::registers;
 use crate::tables;
 use crate::values::decimals;
 use crate::values::decode_hex;
 
-// Which call field 0 of the line names: its place among these names, or 17 where it is none of them.
+// Which call field 0 of the line names: its place among these names, or 19 where it is none of them.
 fn call_number(line: &[u8]) -> usize {
     let names =
-        b"check_utf8 parse_number trim_xml_start trim_xml_end trim_xml_spaces escape normalize_eols cdata_next check_table unescape normalize_attribute_value canonical_form normalize_attribute_value_strict canonical_form_strict register_add register_withdraw register_count";
+        b"check_utf8 parse_number trim_xml_start trim_xml_end trim_xml_spaces escape normalize_eols cdata_next check_table unescape normalize_attribute_value canonical_form normalize_attribute_value_strict canonical_form_strict normalize_nmtokens next_nmtoken register_add register_withdraw register_count";
     let call = field(line, 0);
     let mut k = 0;
-    while k < 17 {
+    while k < 19 {
         if check::same(call, field(names, k)) {
             return k;
         }
         k += 1;
     }
-    17
+    19
 }
 
 pub fn replay_line(line: &[u8]) -> Outcome {
@@ -40,7 +41,8 @@ pub fn replay_line(line: &[u8]) -> Outcome {
         0..=4 => replay_text(line, call),
         5..=6 => replay_output(line, call),
         7 => cdata::replay_cdata(line),
-        14..=16 => registers::replay_register(line, call),
+        15 => nmtoken::replay_nmtoken(line),
+        16..=18 => registers::replay_register(line, call),
         _ => tables::replay_table_line(line, call),
     }
 }

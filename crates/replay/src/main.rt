@@ -7,6 +7,7 @@ mod calls;
 mod cdata;
 mod fields;
 mod lines;
+mod nmtoken;
 mod registers;
 mod tables;
 mod values;

@@ -11,7 +11,7 @@ use crate::values::Parsed;
 use crate::values::decimal;
 use crate::values::decode_hex;
 
-// The calls 14 to 16 (`call_number` of calls.rt): reads FORM and USED.
+// The calls 16 to 18 (`call_number` of calls.rt): reads FORM and USED.
 pub fn replay_register(line: &[u8], call: usize) -> Outcome {
     let mut form = [0u8; 2048];
     let decoded = decode_hex(field(line, 1), &mut form);
@@ -22,7 +22,7 @@ pub fn replay_register(line: &[u8], call: usize) -> Outcome {
     let Parsed::Number(used) = decimal(field(line, 3)) else {
         return Outcome::Malformed;
     };
-    if call == 16 {
+    if call == 18 {
         return replay_count(line, &form[..n], used);
     }
     replay_change(line, call, &form[..n], used)
@@ -76,7 +76,7 @@ fn call_change(
     answer: &mut [u64; 2],
 ) -> u32 {
     match call {
-        14 => govlezna::govlezna_register_add(form, buffer, used, answer),
+        16 => govlezna::govlezna_register_add(form, buffer, used, answer),
         _ => govlezna::govlezna_register_withdraw(form, buffer, used, answer),
     }
 }

@@ -13,9 +13,9 @@ use crate::values::decimal;
 use crate::values::decimals;
 use crate::values::decode_hex;
 
-// VERSION DEPTH LIMIT, of a lenient or a strict call
+// VERSION DEPTH LIMIT, and which of the calls 10 to 14 they are of
 struct Settings {
-    strict: bool,
+    call: usize,
     version: u8,
     depth: u64,
     limit: u64,
@@ -26,12 +26,12 @@ enum ParsedSettings {
     Malformed,
 }
 
-// The calls 8 to 13 (`call_number` of calls.rt).
+// The calls 8 to 14 (`call_number` of calls.rt).
 pub fn replay_table_line(line: &[u8], call: usize) -> Outcome {
     match call {
         8 => replay_table(line, call, b"", 1),
         9 => replay_text_and_table(line, call, 2),
-        10..=13 => replay_text_and_table(line, call, 5),
+        10..=14 => replay_text_and_table(line, call, 5),
         _ => Outcome::Malformed,
     }
 }
@@ -72,10 +72,8 @@ fn replay_call(line: &[u8], call: usize, text: &[u8], list: &[u8], pool: &[u8]) 
     match call {
         8 => replay_check_table(line, list, pool),
         9 => replay_unescape(line, text, list, pool),
-        10 => replay_normalize(line, false, text, list, pool),
-        11 => replay_canonical(line, false, text, list, pool),
-        12 => replay_normalize(line, true, text, list, pool),
-        _ => replay_canonical(line, true, text, list, pool),
+        10 | 12 => replay_normalize(line, call, text, list, pool),
+        _ => replay_form(line, call, text, list, pool),
     }
 }
 
@@ -108,7 +106,7 @@ fn replay_unescape(line: &[u8], text: &[u8], list: &[u8], pool: &[u8]) -> Outcom
 }
 
 // Fields 2 to 4 of a call that walks an attribute value.
-fn parse_settings(line: &[u8], strict: bool) -> ParsedSettings {
+fn parse_settings(line: &[u8], call: usize) -> ParsedSettings {
     let mut read = [0u64; 3];
     if !decimals(line, 2, 3, &mut read) {
         return ParsedSettings::Malformed;
@@ -118,7 +116,7 @@ fn parse_settings(line: &[u8], strict: bool) -> ParsedSettings {
         return ParsedSettings::Malformed;
     }
     ParsedSettings::Known(Settings {
-        strict,
+        call,
         version: version as u8,
         depth: read[1],
         limit: read[2],
@@ -126,11 +124,11 @@ fn parse_settings(line: &[u8], strict: bool) -> ParsedSettings {
 }
 
 // normalize_attribute_value TEXT VERSION DEPTH LIMIT LIST POOL ROOM = NUMBER FIRST SECOND OUTPUT, and so the strict call
-fn replay_normalize(line: &[u8], strict: bool, text: &[u8], list: &[u8], pool: &[u8]) -> Outcome {
+fn replay_normalize(line: &[u8], call: usize, text: &[u8], list: &[u8], pool: &[u8]) -> Outcome {
     if field_count(line) != 13 {
         return Outcome::Malformed;
     }
-    let ParsedSettings::Known(settings) = parse_settings(line, strict) else {
+    let ParsedSettings::Known(settings) = parse_settings(line, call) else {
         return Outcome::Malformed;
     };
     let Parsed::Number(room) = decimal(field(line, 7)) else {
@@ -154,7 +152,7 @@ fn call_normalize(
     out: &mut [u8],
     answer: &mut [u64; 2],
 ) -> u32 {
-    if settings.strict {
+    if settings.call == 12 {
         return govlezna::govlezna_normalize_attribute_value_strict(
             text,
             settings.version,
@@ -179,11 +177,12 @@ fn call_normalize(
 }
 
 // canonical_form TEXT VERSION DEPTH LIMIT LIST POOL SCRATCH ROOM = NUMBER FIRST SECOND VALUE OUTPUT, and so the strict call
-fn replay_canonical(line: &[u8], strict: bool, text: &[u8], list: &[u8], pool: &[u8]) -> Outcome {
+// and normalize_nmtokens
+fn replay_form(line: &[u8], call: usize, text: &[u8], list: &[u8], pool: &[u8]) -> Outcome {
     if field_count(line) != 15 {
         return Outcome::Malformed;
     }
-    let ParsedSettings::Known(settings) = parse_settings(line, strict) else {
+    let ParsedSettings::Known(settings) = parse_settings(line, call) else {
         return Outcome::Malformed;
     };
     let mut read = [0u64; 3];
@@ -198,7 +197,7 @@ fn replay_canonical(line: &[u8], strict: bool, text: &[u8], list: &[u8], pool: &
     if 2048 < room {
         return Outcome::Malformed;
     }
-    lend_canonical(
+    lend_form(
         line,
         settings,
         text,
@@ -210,7 +209,7 @@ fn replay_canonical(line: &[u8], strict: bool, text: &[u8], list: &[u8], pool: &
 }
 
 // Makes the call with a scratch and an output of so many bytes.
-fn lend_canonical(
+fn lend_form(
     line: &[u8],
     settings: Settings,
     text: &[u8],
@@ -224,7 +223,7 @@ fn lend_canonical(
     let mut scratch = [UNTOUCHED; 2048];
     let mut out = [UNTOUCHED; 2048];
     let mut answer = [UNWRITTEN; 2];
-    let number = call_canonical(
+    let number = call_form(
         settings,
         text,
         list,
@@ -236,7 +235,7 @@ fn lend_canonical(
     compare_form(line, number, answer, &scratch, &out)
 }
 
-fn call_canonical(
+fn call_form(
     settings: Settings,
     text: &[u8],
     list: &[u8],
@@ -245,7 +244,20 @@ fn call_canonical(
     out: &mut [u8],
     answer: &mut [u64; 2],
 ) -> u32 {
-    if settings.strict {
+    if settings.call == 14 {
+        return govlezna::govlezna_normalize_nmtokens(
+            text,
+            settings.version,
+            settings.depth,
+            settings.limit,
+            list,
+            pool,
+            scratch,
+            out,
+            answer,
+        );
+    }
+    if settings.call == 13 {
         return govlezna::govlezna_canonical_form_strict(
             text,
             settings.version,
