@@ -24,7 +24,7 @@ type Misreading = fn(&Arguments, Vec<String>) -> Vec<String>;
 fn names_of(call: &Call) -> Option<Names> {
     match call.name {
         "unescape" => Some(reading::looked_up_in_text),
-        "normalize_attribute_value" | "canonical_form" => {
+        "normalize_attribute_value" | "canonical_form" | "normalize_nmtokens" => {
             Some(|arguments| reading::looked_up(arguments, Rule::Lenient))
         }
         "normalize_attribute_value_strict" | "canonical_form_strict" => {

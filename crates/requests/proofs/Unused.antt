@@ -26,11 +26,12 @@ use Rattle.attribute.specs.Checks.{settingsCheck}
 use Rattle.attribute.specs.Walk.{normalize}
 use Rattle.attribute.specs.Strict.{readingBy}
 use Rattle.attribute.specs.Form.{formed}
+use Rattle.nmtokens.specs.Nmtokens.{collapsed}
 use Rattle.attribute.specs.LookedUp.{lookedUp}
 use Rattle.attribute.proofs.LookedUp.{unused-table}
-use Rattle.govlezna.specs.Calls.{unescapeCall, normalizeAttributeValueCall, canonicalFormCall, normalizeAttributeValueStrictCall, canonicalFormStrictCall}
+use Rattle.govlezna.specs.Calls.{unescapeCall, normalizeAttributeValueCall, canonicalFormCall, normalizeAttributeValueStrictCall, canonicalFormStrictCall, normalizeNmtokensCall}
 use Rattle.demands.proofs.CallDemands.{table-valid}
-use Rattle.requests.specs.Unused.{Reader, normalizing, forming, unescaping, callWith, namesWith, BoundAlike, command1, command2, predefinedInBoth, unknownInBoth, BindAlike, OneMarking, Definition, definitionsIn, definitions, firstOf, Unused, Others}
+use Rattle.requests.specs.Unused.{Reader, normalizing, forming, listing, unescaping, callWith, namesWith, BoundAlike, command1, command2, predefinedInBoth, unknownInBoth, BindAlike, OneMarking, Definition, definitionsIn, definitions, firstOf, Unused, Others}
 
 -- ---- bound alike is bound to the same
 
@@ -80,7 +81,7 @@ module _ (list pool list′ pool′ : List ℕ) (m : OneMarking list pool list�
   -- K13: "if two accepted tables of one marking bind each name that a reading looks up alike .., then text, openings, refusal and positions are
   -- equal, under the same version, depth, limit and room": number, words and every byte of every buffer
   pub k13-unused : (reader : Reader) → BindAlike list pool list′ pool′ (namesWith reader list pool) → callWith reader list pool ≡ callWith reader list′ pool′
-  unfolding normalizeAttributeValueCall canonicalFormCall normalizeAttributeValueStrictCall canonicalFormStrictCall unescapeCall readingBy
+  unfolding normalizeAttributeValueCall canonicalFormCall normalizeAttributeValueStrictCall canonicalFormStrictCall normalizeNmtokensCall unescapeCall readingBy
   k13-unused (normalizing false t version depth limit out) e =
       guarded-same (argumentCheck t (settingsCheck version depth limit)) (out ∷ [])
       (ap (λ (o : Outcome). finished o out) (value-same false t (ruleOf version) depth limit e .outcome))
@@ -93,12 +94,16 @@ module _ (list pool list′ pool′ : List ℕ) (m : OneMarking list pool list�
   k13-unused (forming true t version depth limit scratch out) e =
       guarded-same (argumentCheck t (settingsCheck version depth limit)) (scratch ∷ out ∷ [])
       (ap (λ (o : Outcome). formed (ruleOf version) o scratch out) (value-same true t (ruleOf version) depth limit e .outcome))
+  k13-unused (listing t version depth limit scratch out) e =
+      guarded-same (argumentCheck t (settingsCheck version depth limit)) (scratch ∷ out ∷ [])
+      (ap (λ (o : Outcome). collapsed o scratch out) (value-same false t (ruleOf version) depth limit e .outcome))
   k13-unused (unescaping t out) e = guarded-same (textCheck t) (out ∷ []) (ap (λ (o : Outcome). finished o out) (text-same t e .outcome))
 
   -- both readings look up the same names
   pub k13-names : (reader : Reader) → BindAlike list pool list′ pool′ (namesWith reader list pool) → namesWith reader list pool ≡ namesWith reader list′ pool′
   k13-names (normalizing strict t version depth limit out) e = value-same strict t (ruleOf version) depth limit e .asks
   k13-names (forming strict t version depth limit scratch out) e = value-same strict t (ruleOf version) depth limit e .asks
+  k13-names (listing t version depth limit scratch out) e = value-same false t (ruleOf version) depth limit e .asks
   k13-names (unescaping t out) e = text-same t e .asks
 
 -- K13 from the other side: the names that the reading with the second table looks up

@@ -14,7 +14,7 @@ use Rattle.tokens.specs.Lookups.{Each}
 use Rattle.unescape.specs.LookedUpInText.{lookedUpInText}
 use Rattle.attribute.specs.Strict.{readingBy}
 use Rattle.attribute.specs.LookedUp.{lookedUp}
-use Rattle.govlezna.specs.Calls.{checkTableCall, unescapeCall, normalizeAttributeValueCall, canonicalFormCall, normalizeAttributeValueStrictCall, canonicalFormStrictCall}
+use Rattle.govlezna.specs.Calls.{checkTableCall, unescapeCall, normalizeAttributeValueCall, canonicalFormCall, normalizeAttributeValueStrictCall, canonicalFormStrictCall, normalizeNmtokensCall}
 
 -- ---- readings
 
@@ -22,6 +22,7 @@ use Rattle.govlezna.specs.Calls.{checkTableCall, unescapeCall, normalizeAttribu
 pub data Reader : Type 0 where
   normalizing : (strict : Bool) (t : List ℕ) (version depth limit : ℕ) (out : List ℕ) → Reader
   forming : (strict : Bool) (t : List ℕ) (version depth limit : ℕ) (scratch out : List ℕ) → Reader
+  listing : (t : List ℕ) (version depth limit : ℕ) (scratch out : List ℕ) → Reader
   unescaping : (t out : List ℕ) → Reader
 
 -- what it leaves with a table: number, words and every buffer
@@ -30,12 +31,14 @@ callWith (normalizing false t version depth limit out) list pool = normalizeAttr
 callWith (normalizing true t version depth limit out) list pool = normalizeAttributeValueStrictCall t version depth limit list pool out
 callWith (forming false t version depth limit scratch out) list pool = canonicalFormCall t version depth limit list pool scratch out
 callWith (forming true t version depth limit scratch out) list pool = canonicalFormStrictCall t version depth limit list pool scratch out
+callWith (listing t version depth limit scratch out) list pool = normalizeNmtokensCall t version depth limit list pool scratch out
 callWith (unescaping t out) list pool = unescapeCall t list pool out
 
 -- K13, "each name that a reading looks up", in a table
 abbrev pub namesWith : Reader → List ℕ → List ℕ → List (List ℕ)
 namesWith (normalizing strict t version depth limit out) list pool = lookedUp (readingBy strict (ruleOf version) list pool limit) depth t
 namesWith (forming strict t version depth limit scratch out) list pool = lookedUp (readingBy strict (ruleOf version) list pool limit) depth t
+namesWith (listing t version depth limit scratch out) list pool = lookedUp (readingBy false (ruleOf version) list pool limit) depth t
 namesWith (unescaping t out) list pool = lookedUpInText (binding list pool) t
 
 -- ---- two tables
