@@ -12,7 +12,7 @@ use borrow.Author.Tests.{eq-eqb, eqb-true, le-ltb, ltb-false}
 use Rattle.text.specs.Bytes.{pick}
 use Rattle.text.specs.Version.{knownVersion}
 use Rattle.text.specs.Utf8.{WellFormed, utf8End}
-use Rattle.text.specs.Call.{Called, called, callOf, andThen, guarded, passed, laid, finish, lengthCheck, versionCheck, utf8Check, argumentCheck}
+use Rattle.text.specs.Call.{Called, called, callOf, andThen, guarded, passed, laid, finish, lengthCheck, versionCheck, utf8Check, textCheck, argumentCheck}
 use Rattle.text.specs.declared.Answer.{Answer}
 use Rattle.text.specs.declared.Answer.the-variants.{Done, Refused}
 use Rattle.text.proofs.Call.{checked-length}
@@ -32,7 +32,7 @@ use Rattle.govlezna.specs.Calls.{escapeCall, checkTableCall, unescapeCall, walk
 use Rattle.demands.specs.Demands.{Asked, ruleFor, Taken, Accepted, formOf, AskedAgain}
 use Rattle.demands.specs.CallDemands.{EmptyTable, UnescapesTo, normalizeOf, canonicalOf, Answered, Completed, valueOf, writtenOf, CallsEqualExactly, CallAgain, CallRereads}
 use Rattle.demands.proofs.Numbers.{By, Fails, TableNumbers, WalkNumbers, by-then, by-length, by-utf8, by-level, by-settings, by-table, fails-reading, finished-done}
-use Rattle.demands.proofs.RoundTrip.{ReadsBack, unescape-write, level-reads, unescape-undeclared}
+use Rattle.demands.proofs.RoundTrip.{UnescapesBack, unescape-write, level-reads, unescape-undeclared}
 use Rattle.demands.proofs.Demands.{demand-3-equal, demand-3-again}
 
 -- ---- success has the number 0, and no refusal has it
@@ -121,7 +121,7 @@ unfolding checkTableCall tableCheck sizeCheck
 empty-accepted pool l = (rw (le-ltb 1048576 (length pool) l) refl, rw (le-ltb 1048576 (length pool) l) refl)
 
 -- an empty table declares nothing
-empty-declares : (list pool : List ℕ) → EmptyTable list pool → declarations list ≡ []
+pub empty-declares : (list pool : List ℕ) → EmptyTable list pool → declarations list ≡ []
 unfolding checkTableCall
 empty-declares list pool e = go (declarations list) (rw (table-valid list pool e) at e)
   where
@@ -155,7 +155,7 @@ first-bytes value out e q = rw (e, q) (take-append-seam value (drop (length valu
 -- ---- demand 2
 
 -- A text written by any set that reads back and is written in ASCII: 1 where the form is too long, else the text.
-pub unescape-form : (set : Replacements) → ReadsBack set → Ascii set → (t : List ℕ) → WellFormed t → (out : List ℕ)
+pub unescape-form : (set : Replacements) → UnescapesBack set → Ascii set → (t : List ℕ) → WellFormed t → (out : List ℕ)
     → unescapeCall (write set t) (0 ∷ []) [] out ≡ guarded (lengthCheck (write set t)) (out ∷ []) (finish t 0 out)
 unfolding unescapeCall declarations
 unescape-form set back ascii t h out =
@@ -175,10 +175,23 @@ unescape-empty text list pool out e =
 
 -- demand 2 of any replacement set that reads back and is written in ASCII: a form of at most 16,777,216 bytes unescapes, with an empty
 -- table, to its text
-pub unescapes-to : (set : Replacements) → ReadsBack set → Ascii set → (t : List ℕ) → WellFormed t → length (write set t) ≤ 16777216 → UnescapesTo t (write set t)
+pub unescapes-to : (set : Replacements) → UnescapesBack set → Ascii set → (t : List ℕ) → WellFormed t → length (write set t) ≤ 16777216 → UnescapesTo t (write set t)
 unescapes-to set back ascii t h l list pool out empty room =
     unescape-empty (write set t) list pool out empty
     ∙ unescape-form set back ascii t h out ∙ rw (length-passes (write set t) l) (sym (finish-laid t 0 out refl room refl))
+
+-- what a writer that is asked for nothing but its text wrote where it answered 0
+pub record WriterAnswered (text form out words : List ℕ) (left : List (List ℕ)) : Type 0 where
+  pub utf8 : WellFormed text
+  pub writes : Laid form 0 out words left
+
+pub writer-answered : (text form out : List ℕ) {words : List ℕ} {left : List (List ℕ)} → guarded (textCheck text) (out ∷ []) (finish form 0 out) ≡ called 0 words left
+    → WriterAnswered text form out words left
+writer-answered text form out e =
+    let checked = by-then Not0 (lengthCheck text) (utf8Check text) (by-length Not0 (not0 1 (omega arith)) text) (by-utf8 Not0 (not0 5 (omega arith)) text) in
+    let p = guarded-zero (textCheck text) (out ∷ []) (finish form 0 out) checked e in
+    let u = then-done (lengthCheck text) (utf8Check text) (p .checks) .later in
+    record { utf8 = utf8-done text u; writes = finish-zero form 0 out (p .answers) }
 
 -- what an escape that answered 0 wrote
 pub record Escaped (text : List ℕ) (level : ℕ) (out words : List ℕ) (left : List (List ℕ)) : Type 0 where

@@ -14,6 +14,7 @@ use Rattle.text.specs.declared.Answer.the-variants.{Done, Refused}
 use Rattle.text.proofs.Bytes.{pick-both}
 use Rattle.charref.specs.CharRef.{anyCharacter, charNumber, numberAnswer}
 use Rattle.escape.specs.Escape.{levelCheck, levelOf, levelSet, write}
+use Rattle.c14n.specs.C14n.{c14nAttribute, c14nText}
 use Rattle.eols.specs.LineEnds.{eols}
 use Rattle.utils.specs.declared.Part.{Part}
 use Rattle.utils.specs.declared.Cursor.{Cursor}
@@ -27,8 +28,8 @@ use Rattle.unescape.specs.Unescape.{unescape}
 use Rattle.canonical.specs.Canonical.{canonical}
 use Rattle.attribute.specs.Checks.{settingsCheck}
 use Rattle.attribute.specs.Form.{besides, formed as formOutcome}
-use Rattle.govlezna.specs.Calls.{checkUtf8Call, parseNumberCall, escapeCall, normalizeEolsCall, trimCall, cursorLeft, cursorGuarded, cdataNextCall, checkTableCall, unescapeCall, walkCheck, walked, normalizeAttributeValueCall, canonicalFormCall}
-use Rattle.demands.specs.CallDemands.{listed, textNumbers, numberNumbers, writerNumbers, pieceNumbers, tableNumbers, unescapeNumbers, valueNumbers, formNumbers, Refuses, success, refusal, RefusesForm, formed, untouched, short, RefusesPiece, piece, stays}
+use Rattle.govlezna.specs.Calls.{checkUtf8Call, parseNumberCall, escapeCall, normalizeEolsCall, trimCall, cursorLeft, cursorGuarded, cdataNextCall, checkTableCall, unescapeCall, walkCheck, walked, normalizeAttributeValueCall, canonicalFormCall, c14nAttributeCall, c14nTextCall}
+use Rattle.demands.specs.CallDemands.{listed, textNumbers, numberNumbers, writerNumbers, c14nNumbers, pieceNumbers, tableNumbers, unescapeNumbers, valueNumbers, formNumbers, Refuses, success, refusal, RefusesForm, formed, untouched, short, RefusesPiece, piece, stays}
 use Rattle.demands.proofs.Numbers.{By, Fails, TableNumbers, TextNumbers, WalkNumbers, by-then, by-length, by-utf8, by-version, by-level, by-settings, by-number, by-table, forbids-none, fails-unescape, fails-reading, finished-done}
 
 module _ (numbers : List ℕ) where
@@ -85,6 +86,19 @@ escape-refuses text level out =
     let form = write (levelSet (levelOf level)) text in
     guarded-refuses writerNumbers (out ∷ []) (argumentCheck text (levelCheck level)) (finish form 0 out)
     (by-arguments writerNumbers refl refl text (levelCheck level) (by-level (In writerNumbers) refl level)) (finish-refuses writerNumbers refl form 0 out)
+
+-- Demand 1: the writers of Canonical XML (K1) answer 0, or refuse by 1, 5 or 19 and leave the output's bytes untouched.
+c14n-refuses : (form text out : List ℕ) → Refuses c14nNumbers (out ∷ []) (guarded (textCheck text) (out ∷ []) (finish form 0 out))
+c14n-refuses form text out =
+    guarded-refuses c14nNumbers (out ∷ []) (textCheck text) (finish form 0 out) (by-text c14nNumbers refl refl text) (finish-refuses c14nNumbers refl form 0 out)
+
+pub c14n-attribute-refuses : (text out : List ℕ) → Refuses c14nNumbers (out ∷ []) (c14nAttributeCall text out)
+unfolding c14nAttributeCall
+c14n-attribute-refuses text out = c14n-refuses (write c14nAttribute text) text out
+
+pub c14n-text-refuses : (text out : List ℕ) → Refuses c14nNumbers (out ∷ []) (c14nTextCall text out)
+unfolding c14nTextCall
+c14n-text-refuses text out = c14n-refuses (write c14nText text) text out
 
 -- Demand 1: the normalization of line ends answers 0, or refuses by 1, 4, 5 or 19 and leaves the output's bytes untouched.
 pub normalize-eols-refuses : (text : List ℕ) (version : ℕ) (out : List ℕ) → Refuses writerNumbers (out ∷ []) (normalizeEolsCall text version out)

@@ -31,6 +31,9 @@ numberNumbers = 1 ∷ 5 ∷ 12 ∷ 13 ∷ 14 ∷ 15 ∷ []
 abbrev pub writerNumbers : List ℕ
 writerNumbers = 1 ∷ 4 ∷ 5 ∷ 19 ∷ []
 
+abbrev pub c14nNumbers : List ℕ
+c14nNumbers = 1 ∷ 5 ∷ 19 ∷ []
+
 abbrev pub pieceNumbers : List ℕ
 pieceNumbers = 1 ∷ 5 ∷ 20 ∷ 255 ∷ []  -- 255 is "no more"
 

@@ -1,20 +1,21 @@
--- The references that the levels write, and the four levels as sets. Assumes nothing.
-use mathlib.Core.Path.{_≡_, refl}
-use mathlib.Core.Bool.{Bool, true, false, _&&_}
+-- The references that are written, and the sets that flags name, the four levels among them. Assumes nothing.
+use mathlib.Core.Path.{_≡_, refl, subst}
+use mathlib.Core.Bool.{Bool, true, false, _&&_, _||_}
 use mathlib.Core.Logic.{_≢_}
 use mathlib.Core.List.{List, [], _∷_}
 use Prim.Native.Nat.{ℕ, _+_, _*_, _≤_, _<_}
 use native.Mathlib.Omega.{arith}
-use lib.Dec.{leb, lit≤}
+use lib.Dec.{eqb, leb, lit≤}
 use lib.ListN.{length, take, drop, getD, length-append, length-drop}
 use lib.Seq.{getD-drop}
+use Rattle.text.specs.Bytes.{pick}
 use Rattle.text.specs.Utf8.{WellFormed}
-use Rattle.text.proofs.Bytes.{contrary}
+use Rattle.text.proofs.Bytes.{pick-by, contrary}
 use Rattle.text.proofs.Utf8.{allAscii}
 use borrow.Author.Tests.{ne-eqb}
 use Rattle.text.specs.Call.{laid}
-use Rattle.escape.specs.Escape.{Level, writeByte, write, full, partial, minimal, attribute, escaped, reference, levelSet}
-use Rattle.escape.specs.Scan.{escapedBy, addedBy, charsSet, levelChars}
+use Rattle.escape.specs.Escape.{Level, writeByte, write, full, partial, minimal, attribute, reference, hexReference, levelSet}
+use Rattle.escape.specs.Scan.{escapedBy, hexDigit, referenceBy, addedBy, charsSet, levelChars}
 use Rattle.escape.specs.declared.EscapeChars.{EscapeChars}
 use Rattle.escape.proofs.Write.{Sized, Ascii, byte-most, write-next, write-least, write-most, write-well-formed}
 use Rattle.escape.proofs.View.{Kind, Other, is-lt, is-gt, is-amp, is-apos, is-quot, is-cr, is-lf, is-tab, is-other, kind}
@@ -24,6 +25,44 @@ pub reference-other : (b : ℕ) → b ≢ 60 → b ≢ 62 → b ≢ 38 → b ≢
 unfolding reference
 reference-other b lt gt amp apos quot cr lf tab =
     rw (ne-eqb b 60 lt, ne-eqb b 62 gt, ne-eqb b 38 amp, ne-eqb b 39 apos, ne-eqb b 34 quot, ne-eqb b 13 cr, ne-eqb b 10 lf, ne-eqb b 9 tab)
+
+-- what holds of the three numbers and of the references of the levels holds of every reference
+pub reference-by : (P : List ℕ → Type 0) (hex : Bool) (b : ℕ) → P (38 ∷ 35 ∷ 120 ∷ 57 ∷ 59 ∷ []) → P (38 ∷ 35 ∷ 120 ∷ 65 ∷ 59 ∷ [])
+    → P (38 ∷ 35 ∷ 120 ∷ 68 ∷ 59 ∷ []) → P (reference b) → P (referenceBy hex b)
+unfolding referenceBy
+reference-by P false b tab lf cr other = other
+reference-by P true b tab lf cr other =
+    pick-by P (eqb b 9) (λ e. tab) (λ e. pick-by P (eqb b 10) (λ f. lf) (λ f. pick-by P (eqb b 13) (λ g. cr) (λ g. other)))
+
+-- the three that get a number in hexadecimal, and all others
+abbrev isBlank : ℕ → Bool
+isBlank b = eqb b 9 || eqb b 10 || eqb b 13
+
+pub reference-hex : (hex : Bool) (b : ℕ) → Kind b → hex && isBlank b ≡ true → referenceBy hex b ≡ 38 ∷ 35 ∷ 120 ∷ hexDigit b ∷ 59 ∷ []
+unfolding referenceBy hexDigit
+reference-hex false b k e = contrary e refl
+reference-hex true b is-lt e = contrary e refl
+reference-hex true b is-gt e = contrary e refl
+reference-hex true b is-amp e = contrary e refl
+reference-hex true b is-apos e = contrary e refl
+reference-hex true b is-quot e = contrary e refl
+reference-hex true b is-cr e = refl
+reference-hex true b is-lf e = refl
+reference-hex true b is-tab e = refl
+reference-hex true b (is-other o) e = contrary e (rw (o .no-cr, o .no-lf, o .no-tab))
+
+pub reference-named : (hex : Bool) (b : ℕ) → Kind b → hex && isBlank b ≡ false → referenceBy hex b ≡ reference b
+unfolding referenceBy
+reference-named false b k e = refl
+reference-named true b is-lt e = refl
+reference-named true b is-gt e = refl
+reference-named true b is-amp e = refl
+reference-named true b is-apos e = refl
+reference-named true b is-quot e = refl
+reference-named true b is-cr e = contrary refl e
+reference-named true b is-lf e = contrary refl e
+reference-named true b is-tab e = contrary refl e
+reference-named true b (is-other o) e = rw (o .no-cr, o .no-lf, o .no-tab)
 
 -- a writer of these bytes is a writer of the reference that they are
 pub reference-room : {some bytes : List ℕ} {room : ℕ} → some ≡ bytes → length some ≤ room → length bytes ≤ room
@@ -47,27 +86,38 @@ and-false : (t : Bool) → t && false ≡ false
 and-false true = refl
 and-false false = refl
 
-added-at : (blanks apos quot gt : Bool) (b : ℕ) → Kind b
-    → addedBy (record { blanks = blanks; apos = apos; quot = quot; gt = gt }) b + 1 ≡ length (writeByte (charsSet (record { blanks = blanks; apos = apos; quot = quot; gt = gt })) b)
+pick-same : (t : Bool) (l : List ℕ) → pick t l l ≡ l
+pick-same true l = refl
+pick-same false l = refl
+
+abbrev AddedAt : Bool → Bool → Bool → Bool → Bool → ℕ → Type 0
+AddedAt blanks apos quot gt hex b =
+    addedBy (record { blanks = blanks; apos = apos; quot = quot; gt = gt; hex = hex }) b + 1
+    ≡ length (writeByte (charsSet (record { blanks = blanks; apos = apos; quot = quot; gt = gt; hex = hex })) b)
+
+added-at : (blanks apos quot gt hex : Bool) (b : ℕ) → Kind b → AddedAt blanks apos quot gt hex b
 unfolding addedBy charsSet
-added-at blanks apos quot gt b is-lt = simp and-false
-added-at blanks apos quot true b is-gt = simp and-false
-added-at blanks apos quot false b is-gt = simp and-false
-added-at blanks apos quot gt b is-amp = simp and-false
-added-at blanks true quot gt b is-apos = simp and-false
-added-at blanks false quot gt b is-apos = simp and-false
-added-at blanks apos true gt b is-quot = simp and-false
-added-at blanks apos false gt b is-quot = simp and-false
-added-at blanks apos quot gt b is-cr = simp and-false
-added-at true apos quot gt b is-lf = refl
-added-at false apos quot gt b is-lf = simp and-false
-added-at true apos quot gt b is-tab = refl
-added-at false apos quot gt b is-tab = simp and-false
-added-at blanks apos quot gt b (is-other o) =
+added-at blanks apos quot gt hex b is-lt = simp (and-false, pick-same)
+added-at blanks apos quot true hex b is-gt = simp (and-false, pick-same)
+added-at blanks apos quot false hex b is-gt = simp and-false
+added-at blanks apos quot gt hex b is-amp = simp (and-false, pick-same)
+added-at blanks true quot gt hex b is-apos = simp (and-false, pick-same)
+added-at blanks false quot gt hex b is-apos = simp and-false
+added-at blanks apos true gt hex b is-quot = simp (and-false, pick-same)
+added-at blanks apos false gt hex b is-quot = simp and-false
+added-at blanks apos quot gt true b is-cr = simp and-false
+added-at blanks apos quot gt false b is-cr = simp and-false
+added-at true apos quot gt true b is-lf = refl
+added-at true apos quot gt false b is-lf = refl
+added-at false apos quot gt hex b is-lf = simp and-false
+added-at true apos quot gt true b is-tab = refl
+added-at true apos quot gt false b is-tab = refl
+added-at false apos quot gt hex b is-tab = simp and-false
+added-at blanks apos quot gt hex b (is-other o) =
     rw (o .no-lt, o .no-gt, o .no-amp, o .no-apos, o .no-quot, o .no-cr, o .no-lf, o .no-tab) (simp and-false)
 
 pub added-length : (chars : EscapeChars) (b : ℕ) → addedBy chars b + 1 ≡ length (writeByte (charsSet chars) b)
-added-length chars b = added-at (chars .blanks) (chars .apos) (chars .quot) (chars .gt) b (kind b)
+added-length chars b = added-at (chars .blanks) (chars .apos) (chars .quot) (chars .gt) (chars .hex) b (kind b)
 
 -- no byte past `>` is replaced
 pub past-gt : (chars : EscapeChars) (b : ℕ) → 62 < b → escapedBy chars b ≡ false
@@ -83,7 +133,7 @@ past-gt-added chars b h =
 
 -- ---- their replacements: 1 to 6 bytes, ASCII for ASCII
 
-pub reference-least : (b : ℕ) → Kind b → 1 ≤ length (reference b)
+reference-least : (b : ℕ) → Kind b → 1 ≤ length (reference b)
 unfolding reference
 reference-least b is-lt = lit≤ tt
 reference-least b is-gt = lit≤ tt
@@ -95,7 +145,7 @@ reference-least b is-lf = lit≤ tt
 reference-least b is-tab = lit≤ tt
 reference-least b (is-other o) = rw (o .no-lt, o .no-gt, o .no-amp, o .no-apos, o .no-quot, o .no-cr, o .no-lf, o .no-tab) (lit≤ tt)
 
-pub reference-most : (b : ℕ) → Kind b → length (reference b) ≤ 6
+reference-most : (b : ℕ) → Kind b → length (reference b) ≤ 6
 unfolding reference
 reference-most b is-lt = lit≤ tt
 reference-most b is-gt = lit≤ tt
@@ -109,11 +159,14 @@ reference-most b (is-other o) = rw (o .no-lt, o .no-gt, o .no-amp, o .no-apos, o
 
 pub chars-sized : (chars : EscapeChars) → Sized (charsSet chars)
 unfolding charsSet
-chars-sized chars = record { least = λ b e. reference-least b (kind b); most = λ b e. reference-most b (kind b) }
+chars-sized chars =
+    record {
+      least = λ b e. reference-by (λ l. 1 ≤ length l) (chars .hex) b (lit≤ tt) (lit≤ tt) (lit≤ tt) (reference-least b (kind b));
+      most = λ b e. reference-by (λ l. length l ≤ 6) (chars .hex) b (lit≤ tt) (lit≤ tt) (lit≤ tt) (reference-most b (kind b));
+    }
 
 pub level-sized : (level : Level) → Sized (levelSet level)
-unfolding levelSet
-level-sized level = record { least = λ b e. reference-least b (kind b); most = λ b e. reference-most b (kind b) }
+level-sized level = subst Sized (chars-level level) (chars-sized (levelChars level))
 
 pub added-most : (chars : EscapeChars) (b : ℕ) → addedBy chars b ≤ 5
 added-most chars b = omega (arith, added-length chars b, byte-most (charsSet chars) (chars-sized chars) b)
@@ -139,33 +192,42 @@ reference-ascii b is-tab e = refl
 reference-ascii b (is-other o) e =
     rw (o .no-lt, o .no-gt, o .no-amp, o .no-apos, o .no-quot, o .no-cr, o .no-lf, o .no-tab, e)
 
-escaped-other : (level : Level) (b : ℕ) → Other b → escaped level b ≡ false
-unfolding escaped
-escaped-other minimal b o = rw (o .no-lt, o .no-amp, o .no-cr)
-escaped-other partial b o = rw (o .no-gt, o .no-lt, o .no-amp, o .no-cr)
-escaped-other full b o = rw (o .no-apos, o .no-quot, o .no-gt, o .no-lt, o .no-amp, o .no-cr)
-escaped-other attribute b o =
-    rw (o .no-lf, o .no-tab, o .no-apos, o .no-quot, o .no-gt, o .no-lt, o .no-amp, o .no-cr)
+-- a byte that is none of the eight is never replaced; `&` and CR always are, TAB and LF with the blanks
+pub escaped-other : (chars : EscapeChars) (b : ℕ) → Other b → escapedBy chars b ≡ false
+unfolding escapedBy
+escaped-other chars b o =
+    rw (o .no-lf, o .no-tab, o .no-apos, o .no-quot, o .no-gt, o .no-lt, o .no-amp, o .no-cr) (simp and-false)
 
-escaped-ascii : (level : Level) (b : ℕ) → Kind b → escaped level b ≡ true → leb b 0x7F ≡ true
-escaped-ascii level b is-lt e = refl
-escaped-ascii level b is-gt e = refl
-escaped-ascii level b is-amp e = refl
-escaped-ascii level b is-apos e = refl
-escaped-ascii level b is-quot e = refl
-escaped-ascii level b is-cr e = refl
-escaped-ascii level b is-lf e = refl
-escaped-ascii level b is-tab e = refl
-escaped-ascii level b (is-other o) e = contrary e (escaped-other level b o)
+pub chars-amp : (chars : EscapeChars) → escapedBy chars 38 ≡ true
+unfolding escapedBy
+chars-amp chars = simp and-false
+
+pub chars-cr : (chars : EscapeChars) → escapedBy chars 13 ≡ true
+unfolding escapedBy
+chars-cr chars = simp and-false
+
+escaped-ascii : (chars : EscapeChars) (b : ℕ) → Kind b → escapedBy chars b ≡ true → leb b 0x7F ≡ true
+escaped-ascii chars b is-lt e = refl
+escaped-ascii chars b is-gt e = refl
+escaped-ascii chars b is-amp e = refl
+escaped-ascii chars b is-apos e = refl
+escaped-ascii chars b is-quot e = refl
+escaped-ascii chars b is-cr e = refl
+escaped-ascii chars b is-lf e = refl
+escaped-ascii chars b is-tab e = refl
+escaped-ascii chars b (is-other o) e = contrary e (escaped-other chars b o)
+
+pub chars-ascii : (chars : EscapeChars) → Ascii (charsSet chars)
+unfolding charsSet
+chars-ascii chars =
+    record {
+      picked = λ b e. escaped-ascii chars b (kind b) e;
+      written = λ b e. reference-by (λ l. allAscii l ≡ true) (chars .hex) b refl refl refl (reference-ascii b (kind b) (escaped-ascii chars b (kind b) e));
+      some = λ b e. chars-sized chars .least b e;
+    }
 
 pub level-ascii : (level : Level) → Ascii (levelSet level)
-unfolding levelSet
-level-ascii level =
-    record {
-      picked = λ b e. escaped-ascii level b (kind b) e;
-      written = λ b e. reference-ascii b (kind b) (escaped-ascii level b (kind b) e);
-      some = λ b e. reference-least b (kind b);
-    }
+level-ascii level = subst Ascii (chars-level level) (chars-ascii (levelChars level))
 
 -- ---- what every level keeps: the written length is at least the text's and at most 6 times it, and UTF-8 stays UTF-8
 

@@ -10,8 +10,8 @@ use lib.ListN.{length, drop, getD, drop-of-length-le}
 use lib.Seq.{drop-cons}
 use Rattle.output.specs.Runs.{Ends}
 use Rattle.output.proofs.Writers.{Copies}
-use Rattle.escape.specs.Escape.{Replacements, write, reference}
-use Rattle.escape.specs.Scan.{escapedBy, charsSet}
+use Rattle.escape.specs.Escape.{Replacements, write}
+use Rattle.escape.specs.Scan.{escapedBy, referenceBy, charsSet}
 use Rattle.escape.specs.declared.EscapeChars.{EscapeChars}
 use Rattle.escape.proofs.Write.{write-at}
 
@@ -42,6 +42,6 @@ chars-run chars = plain-run (charsSet chars)
 
 -- at the byte where a run ends: the reference to it
 pub chars-reference : (chars : EscapeChars) (t : List ℕ) (e : ℕ) → e < length t → Ends (escapedBy chars) t e
-    → write (charsSet chars) (drop e t) ≡ reference (getD t e 0) ++ write (charsSet chars) (drop (e + 1) t)
+    → write (charsSet chars) (drop e t) ≡ referenceBy (chars .hex) (getD t e 0) ++ write (charsSet chars) (drop (e + 1) t)
 unfolding charsSet
 chars-reference chars t e h p = replaced (charsSet chars) t e h (p h)

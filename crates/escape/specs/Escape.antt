@@ -1,4 +1,4 @@
--- Replacement sets, and the four escape levels as instances (document 01, Escape levels). Assumes nothing.
+-- Replacement sets, and the four escape levels as instances (document 01, Escape levels); the references of Canonical XML. Assumes nothing.
 use Prim.Native.Nat.{ℕ}
 use mathlib.Core.Bool.{Bool, _||_}
 use mathlib.Core.List.{List, [], _∷_, _++_}
@@ -62,3 +62,12 @@ knownLevel level = leb level 3
 -- Refusals by place, 4: unknown level byte
 unfoldable pub levelCheck : ℕ → Answer
 levelCheck level = pick (knownLevel level) passed (Refused 4 0 0)
+
+-- document 02, K1; Canonical XML 1.0, 2.3: &#x9; &#xA; &#xD;, and the others by name, as the levels write them
+unfoldable pub hexReference : ℕ → List ℕ
+unfolding reference
+hexReference b =
+    pick (eqb b 9) (38 ∷ 35 ∷ 120 ∷ 57 ∷ 59 ∷ [])
+    (pick (eqb b 10) (38 ∷ 35 ∷ 120 ∷ 65 ∷ 59 ∷ [])
+    (pick (eqb b 13) (38 ∷ 35 ∷ 120 ∷ 68 ∷ 59 ∷ [])
+    (reference b)))

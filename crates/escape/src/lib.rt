@@ -1,4 +1,5 @@
-// The escape levels: runs of copied bytes and replacements are written in turn, after a count where the output may be too short.
+// The writer of the four escape levels and of Canonical XML's two sets: runs of copied bytes and replacements are written in turn, after
+// a count where the output may be too short.
 ghost use mathlib.Core.Path.{_≡_};
 ghost use mathlib.Core.Bool.{false};
 ghost use mathlib.Core.List.{[], _∷_};
@@ -8,16 +9,17 @@ ghost use Rattle.text.specs.Bytes.{pick};
 ghost use Rattle.text.specs.Call.{laid, finish, callOf, longestText};
 ghost use Rattle.escape.specs.Escape.{write, levelOf, levelSet, levelCheck, reference};
 ghost use Rattle.output.specs.Runs.{Plain, Copied, Ends, Room};
-ghost use Rattle.escape.specs.Scan.{escapedBy, addedBy, charsSet, levelChars};
+ghost use Rattle.escape.specs.Scan.{escapedBy, hexDigit, referenceBy, tabAdded, addedBy, charsSet, levelChars};
 use text::Answer;
 use text::refusals;
 
-// The characters that are escaped besides `<`, `&` and CR: LF and TAB, `'`, `"`, `>`.
+// The characters that are escaped besides `<`, `&` and CR: LF and TAB, `'`, `"`, `>`; and whether TAB, LF and CR get hexadecimal numbers.
 pub struct EscapeChars {
     pub blanks: bool,
     pub apos: bool,
     pub quot: bool,
     pub gt: bool,
+    pub hex: bool,
 }
 
 // Refusal 4.
@@ -47,6 +49,7 @@ pub fn escape_chars(level: u8) -> EscapeChars
             apos: true,
             quot: true,
             gt: true,
+            hex: false,
         };
     }
     if level == 1 {
@@ -55,6 +58,7 @@ pub fn escape_chars(level: u8) -> EscapeChars
             apos: false,
             quot: false,
             gt: true,
+            hex: false,
         };
     }
     if level == 2 {
@@ -63,6 +67,7 @@ pub fn escape_chars(level: u8) -> EscapeChars
             apos: false,
             quot: false,
             gt: false,
+            hex: false,
         };
     }
     EscapeChars {
@@ -70,6 +75,7 @@ pub fn escape_chars(level: u8) -> EscapeChars
         apos: true,
         quot: true,
         gt: true,
+        hex: false,
     }
 }
 
@@ -137,20 +143,50 @@ pub fn escape_char(b: u8, out: &mut [u8]) -> usize
     }
 }
 
+// The digit of TAB, LF or CR.
+fn hex_digit(b: u8) -> u8
+    ensures { λ r. ⌜ r ≡ hexDigit b ⌝ }
+{
+    match b {
+        b'\t' => b'9',
+        b'\n' => b'A',
+        _ => b'D',
+    }
+}
+
+// Writes the reference to the byte at the start of `out`, by a hexadecimal number where it is TAB, LF or CR and `hex` says so.
+fn put_reference(b: u8, hex: bool, out: &mut [u8]) -> usize
+    requires { ⌜ length (referenceBy hex b) ≤ length (now out) ⌝ }
+    ensures { λ r. ⌜ (r ≡ length (referenceBy hex b)) × (now (out .exit) ≡ laid (referenceBy hex b) (now (out .entry))) ⌝ }
+{
+    if hex & ((b == b'\t') | (b == b'\n') | (b == b'\r')) {
+        let number = [b'&', b'#', b'x', hex_digit(b), b';'];
+        return put(&number, out);
+    }
+    escape_char(b, out)
+}
+
 fn when(test: bool, count: u8) -> u8
     ensures { λ r. ⌜ (r ≡ pick test count 0) × (r ≤ count) ⌝ }
 {
     if test { count } else { 0 }
 }
 
+// How many bytes more than TAB is written for it: `&#9;` and `&#x9;` differ in length. The loops below ask once.
+fn tab_added(chars: EscapeChars) -> u8
+    ensures { λ r. ⌜ (r ≡ tabAdded chars) × (r ≤ 4) ⌝ }
+{
+    when(chars.blanks, 3) + when(chars.blanks & chars.hex, 1)
+}
+
 // How many bytes more than the byte itself is written for it.
 fn added(chars: EscapeChars, b: u8) -> u8
     ensures { λ r. ⌜ r ≡ addedBy chars b ⌝ }
 {
-    let three = (b == b'<') | ((b == b'>') & chars.gt) | ((b == b'\t') & chars.blanks);
+    let three = (b == b'<') | ((b == b'>') & chars.gt);
     let four = (b == b'&') | (b == b'\r') | ((b == b'\n') & chars.blanks);
     let five = ((b == b'\'') & chars.apos) | ((b == b'"') & chars.quot);
-    when(three, 3) + when(four, 4) + when(five, 5)
+    when(three, 3) + when(four, 4) + when(five, 5) + when(b == b'\t', tab_added(chars))
 }
 
 // The same of `count` bytes from i on: so few that the sum is a byte, as the vectors' lanes are.
@@ -261,18 +297,17 @@ pub fn write_escaped(text: &[u8], chars: EscapeChars, out: &mut [u8]) -> usize
         if end == text.len() {
             return at;
         }
-        at += escape_char(text[end], &mut out[at..]);
+        at += put_reference(text[end], chars.hex, &mut out[at..]);
         i = end + 1;
     }
 }
 
-// One of the four levels. Where the output has six times the text's length there is room for the result: no count is needed.
+// By any of the sets. Where the output has six times the text's length there is room for the result: no count is needed.
 // Else it counts first, so that 19 leaves the output as it is.
-pub fn escape(text: &[u8], level: u8, out: &mut [u8]) -> Answer
+pub fn escape_by(text: &[u8], chars: EscapeChars, out: &mut [u8]) -> Answer
     requires { ⌜ length (now text) ≤ longestText ⌝ }
-    ensures { λ r. ⌜ callOf r (now (out .exit) ∷ []) ≡ finish (write (levelSet (levelOf level)) (now (text .entry))) 0 (now (out .entry)) ⌝ }
+    ensures { λ r. ⌜ callOf r (now (out .exit) ∷ []) ≡ finish (write (charsSet chars) (now (text .entry))) 0 (now (out .entry)) ⌝ }
 {
-    let chars = escape_chars(level);
     if out.len() < 6 * text.len() {
         let length = escaped_length(text, chars);
         if out.len() < length {
@@ -288,4 +323,12 @@ pub fn escape(text: &[u8], level: u8, out: &mut [u8]) -> Answer
         first: written as u64,
         second: 0,
     }
+}
+
+// One of the four levels.
+pub fn escape(text: &[u8], level: u8, out: &mut [u8]) -> Answer
+    requires { ⌜ length (now text) ≤ longestText ⌝ }
+    ensures { λ r. ⌜ callOf r (now (out .exit) ∷ []) ≡ finish (write (levelSet (levelOf level)) (now (text .entry))) 0 (now (out .entry)) ⌝ }
+{
+    escape_by(text, escape_chars(level), out)
 }

@@ -6,6 +6,7 @@ use lib.ListN.{length}
 use Rattle.text.specs.Call.{Called, called, callOf, andThen, guarded, textCheck, argumentCheck, versionCheck, finish}
 use Rattle.text.specs.Version.{ruleOf}
 use Rattle.escape.specs.Escape.{levelCheck, levelOf, levelSet, write}
+use Rattle.c14n.specs.C14n.{c14nAttribute, c14nText}
 use Rattle.eols.specs.LineEnds.{eols}
 use Rattle.text.specs.declared.Answer.{Answer}
 use Rattle.text.specs.declared.Answer.the-variants.{Done, Refused}
@@ -110,6 +111,14 @@ unfoldable pub canonicalFormStrictCall : List ℕ → ℕ → ℕ → ℕ → Li
 canonicalFormStrictCall text version depth limit list pool scratch out =
     guarded (walkCheck text version depth limit list pool) (scratch ∷ out ∷ [])
     (formed (ruleOf version) (walkedStrictly text version depth limit list pool) scratch out)
+
+-- document 02, K1: 1 and 5, then 19, else the attribute value as Canonical XML writes it
+unfoldable pub c14nAttributeCall : List ℕ → List ℕ → Called
+c14nAttributeCall text out = guarded (textCheck text) (out ∷ []) (finish (write c14nAttribute text) 0 out)
+
+-- document 02, K1: 1 and 5, then 19, else the text as Canonical XML writes it
+unfoldable pub c14nTextCall : List ℕ → List ℕ → Called
+c14nTextCall text out = guarded (textCheck text) (out ∷ []) (finish (write c14nText text) 0 out)
 
 -- document 02, K5: 1 to 9, then 10 to 17, 27, 18 and 19, else the value after the second stage, and the value in the scratch
 unfoldable pub normalizeNmtokensCall : List ℕ → ℕ → ℕ → ℕ → List ℕ → List ℕ → List ℕ → List ℕ → Called

@@ -7,7 +7,7 @@ use utils::Cursor;
 ghost use mathlib.Core.Path.{_≡_};
 ghost use mathlib.Core.List.{[], _∷_};
 ghost use Rattle.text.specs.Call.{called};
-ghost use Rattle.govlezna.specs.Calls.{checkUtf8Call, parseNumberCall, escapeCall, normalizeEolsCall, trimCall, cursorLeft, cdataNextCall, checkTableCall, unescapeCall, normalizeAttributeValueCall, canonicalFormCall, normalizeAttributeValueStrictCall, canonicalFormStrictCall, registerAddCall, registerWithdrawCall, registerCountCall, normalizeNmtokensCall, nextNmtokenCall};
+ghost use Rattle.govlezna.specs.Calls.{checkUtf8Call, parseNumberCall, escapeCall, normalizeEolsCall, trimCall, cursorLeft, cdataNextCall, checkTableCall, unescapeCall, normalizeAttributeValueCall, canonicalFormCall, normalizeAttributeValueStrictCall, canonicalFormStrictCall, registerAddCall, registerWithdrawCall, registerCountCall, normalizeNmtokensCall, nextNmtokenCall, c14nAttributeCall, c14nTextCall};
 ghost use Rattle.govlezna.specs.declared.CDataNext.{CDataNext};
 ghost use Rattle.utils.specs.Trim.{trimStart, trimEnd, trimSpaces};
 ghost use Rattle.register.specs.RegisterCalls.{lent};
@@ -54,6 +54,22 @@ pub extern "C" fn govlezna_escape(
         return put(level_checked, answer);
     };
     put(escape::escape(text, level, out), answer)
+}
+
+// An attribute value as Canonical XML writes it. Success: the length written.
+#[no_mangle]
+pub extern "C" fn govlezna_c14n_attribute(text: &[u8], out: &mut [u8], answer: &mut [u64; 2]) -> u32
+    ensures { λ r. ⌜ called r (now (answer .exit)) (now (out .exit) ∷ []) ≡ c14nAttributeCall (now (text .entry)) (now (out .entry)) ⌝ }
+{
+    put(c14n::c14n(text, true, out), answer)
+}
+
+// Text as Canonical XML writes it. Success: the length written.
+#[no_mangle]
+pub extern "C" fn govlezna_c14n_text(text: &[u8], out: &mut [u8], answer: &mut [u64; 2]) -> u32
+    ensures { λ r. ⌜ called r (now (answer .exit)) (now (out .exit) ∷ []) ≡ c14nTextCall (now (text .entry)) (now (out .entry)) ⌝ }
+{
+    put(c14n::c14n(text, false, out), answer)
 }
 
 // Every line end of the version becomes LF. Success: the length written.

@@ -7,8 +7,8 @@ use native.Mathlib.Omega.{arith}
 use lib.ListN.{length, drop, getD}
 use Rattle.output.proofs.Runs.{ends-shift}
 use Rattle.output.proofs.Writers.{Writing, writing-start, writing-old, writing-inside, writing-length, writing-done, run-room, writing-run, piece-fits, writing-piece}
-use Rattle.escape.specs.Escape.{write, reference}
-use Rattle.escape.specs.Scan.{escapedBy, charsSet}
+use Rattle.escape.specs.Escape.{write}
+use Rattle.escape.specs.Scan.{escapedBy, referenceBy, charsSet}
 use Rattle.escape.proofs.Scan.{chars-run, write-over, chars-reference}
 use borrow.Author.Needs.{needs}
 use Rattle.escape.proofs.write_escaped.Statement.{statement}
@@ -47,7 +47,7 @@ abbrev written : tie.Else1 Inv-loop μ-loop → List ℕ → List ℕ
 written c = write (charsSet (entry (copied c) .args .chars))
 
 abbrev piece : tie.Else1 Inv-loop μ-loop → List ℕ
-piece c = reference (getD (text c) (end (copied c)) 0)
+piece c = referenceBy (entry (copied c) .args .chars .hex) (getD (text c) (end (copied c)) 0)
 
 reference-next : (c : tie.Else1 Inv-loop μ-loop)
     → written c (drop (end (copied c)) (text c)) ≡ piece c ++ written c (drop (end (copied c) + 1) (text c))
@@ -101,24 +101,24 @@ returns c =
     writing-done (writing-run (chars-run (given .chars)) (turn p .loop .inv) (p .put-plain .ensures .0))
     (write-over (charsSet (given .chars)) (given .text .now) (end p) (omega (arith, c .if1 .taken)))
 
-shared-slice-read-escape-char : tie.Need-shared-slice-read-escape-char Inv-loop μ-loop
-shared-slice-read-escape-char c = stop-inside (c .before)
+shared-slice-read-put-reference : tie.Need-shared-slice-read-put-reference Inv-loop μ-loop
+shared-slice-read-put-reference c = stop-inside (c .before)
 
-sub-escape-char : tie.Need-sub-escape-char Inv-loop μ-loop
-sub-escape-char c =
+sub-put-reference : tie.Need-sub-put-reference Inv-loop μ-loop
+sub-put-reference c =
     let p = copied (c .before) in
     writing-inside (writing-run (chars-run (entry p .args .chars)) (turn p .loop .inv) (p .put-plain .ensures .0))
 
-part-escape-char-start : tie.Need-part-escape-char-start Inv-loop μ-loop
-part-escape-char-start c =
+part-put-reference-start : tie.Need-part-put-reference-start Inv-loop μ-loop
+part-put-reference-start c =
     let p = copied (c .before) in
     writing-inside (writing-run (chars-run (entry p .args .chars)) (turn p .loop .inv) (p .put-plain .ensures .0))
 
-part-escape-char-end : tie.Need-part-escape-char-end Inv-loop μ-loop
-part-escape-char-end c = search needs
+part-put-reference-end : tie.Need-part-put-reference-end Inv-loop μ-loop
+part-put-reference-end c = search needs
 
-escape-char-requires : tie.Need-escape-char-requires Inv-loop μ-loop
-escape-char-requires c κs =
+put-reference-requires : tie.Need-put-reference-requires Inv-loop μ-loop
+put-reference-requires c κs =
     let stop = c .before .before in
     let p = copied stop in
     piece-fits (writing-run (chars-run (entry p .args .chars)) (turn p .loop .inv) (p .put-plain .ensures .0)) (piece stop) 1 (reference-next stop)
@@ -128,7 +128,7 @@ add-at-2 c =
     let stop = c .before .before .before .before .before in
     let p = copied stop in
     let run = writing-run (chars-run (entry p .args .chars)) (turn p .loop .inv) (p .put-plain .ensures .0) in
-    let put = c .before .before .escape-char in
+    let put = c .before .before .put-reference in
     omega (arith, writing-old (writing-piece run (piece stop) 1 (reference-next stop) (omega (arith, stop-inside stop)) (put .ensures .0) (put .ensures .1)))
 
 add-i : tie.Need-add-i Inv-loop μ-loop
@@ -146,7 +146,7 @@ loop-again c =
     let stop = c .before .before .before .before .before in
     let p = copied stop in
     let run = writing-run (chars-run (entry p .args .chars)) (turn p .loop .inv) (p .put-plain .ensures .0) in
-    let put = c .before .before .escape-char in
+    let put = c .before .before .put-reference in
     writing-piece run (piece stop) 1 (reference-next stop) (omega (arith, stop-inside stop)) (put .ensures .0) (put .ensures .1)
 
 pub write-escaped-spec : {M : Type 1} → statement M
@@ -167,11 +167,11 @@ write-escaped-spec =
     add-at
     same-length
     returns
-    shared-slice-read-escape-char
-    sub-escape-char
-    part-escape-char-start
-    part-escape-char-end
-    escape-char-requires
+    shared-slice-read-put-reference
+    sub-put-reference
+    part-put-reference-start
+    part-put-reference-end
+    put-reference-requires
     add-at-2
     add-i
     loop-less

@@ -1,0 +1,2 @@
+pub mod C14n
+pub mod Flags
