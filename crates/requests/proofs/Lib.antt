@@ -8,3 +8,4 @@ pub mod UnusedBytes
 mod UnusedExamples
 pub mod Register
 mod NmtokensMet
+pub mod C14n

@@ -3,3 +3,4 @@ pub mod Marked
 pub mod Strict
 pub mod Unused
 pub mod Nmtokens
+pub mod C14n
