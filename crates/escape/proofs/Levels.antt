@@ -1,6 +1,6 @@
 -- The references that are written, and the sets that flags name, the four levels among them. Assumes nothing.
 use mathlib.Core.Path.{_≡_, refl, subst}
-use mathlib.Core.Bool.{Bool, true, false, _&&_, _||_}
+use mathlib.Core.Bool.{Bool, true, false, _&&_}
 use mathlib.Core.Logic.{_≢_}
 use mathlib.Core.List.{List, [], _∷_}
 use Prim.Native.Nat.{ℕ, _+_, _*_, _≤_, _<_}
@@ -14,17 +14,23 @@ use Rattle.text.proofs.Bytes.{pick-by, contrary}
 use Rattle.text.proofs.Utf8.{allAscii}
 use borrow.Author.Tests.{ne-eqb}
 use Rattle.text.specs.Call.{laid}
-use Rattle.escape.specs.Escape.{Level, writeByte, write, full, partial, minimal, attribute, reference, hexReference, levelSet}
-use Rattle.escape.specs.Scan.{escapedBy, hexDigit, referenceBy, addedBy, charsSet, levelChars}
+use Rattle.escape.specs.Escape.{Level, writeByte, write, full, partial, minimal, attribute, reference, levelSet}
+use Rattle.escape.specs.Scan.{escapedBy, referenceBy, addedBy, charsSet, levelChars}
 use Rattle.escape.specs.declared.EscapeChars.{EscapeChars}
 use Rattle.escape.proofs.Write.{Sized, Ascii, byte-most, write-next, write-least, write-most, write-well-formed}
 use Rattle.escape.proofs.View.{Kind, Other, is-lt, is-gt, is-amp, is-apos, is-quot, is-cr, is-lf, is-tab, is-other, kind}
 
--- a byte that no level replaces
-pub reference-other : (b : ℕ) → b ≢ 60 → b ≢ 62 → b ≢ 38 → b ≢ 39 → b ≢ 34 → b ≢ 13 → b ≢ 10 → b ≢ 9 → reference b ≡ b ∷ []
-unfolding reference
-reference-other b lt gt amp apos quot cr lf tab =
+-- where both are the same
+pub pick-same : (t : Bool) (l : List ℕ) → pick t l l ≡ l
+pick-same true l = refl
+pick-same false l = refl
+
+-- a byte that no set replaces
+pub reference-other : (hex : Bool) (b : ℕ) → b ≢ 60 → b ≢ 62 → b ≢ 38 → b ≢ 39 → b ≢ 34 → b ≢ 13 → b ≢ 10 → b ≢ 9 → referenceBy hex b ≡ b ∷ []
+unfolding referenceBy
+reference-other hex b lt gt amp apos quot cr lf tab =
     rw (ne-eqb b 60 lt, ne-eqb b 62 gt, ne-eqb b 38 amp, ne-eqb b 39 apos, ne-eqb b 34 quot, ne-eqb b 13 cr, ne-eqb b 10 lf, ne-eqb b 9 tab)
+    (pick-same hex (b ∷ []))
 
 -- what holds of the three numbers and of the references of the levels holds of every reference
 pub reference-by : (P : List ℕ → Type 0) (hex : Bool) (b : ℕ) → P (38 ∷ 35 ∷ 120 ∷ 57 ∷ 59 ∷ []) → P (38 ∷ 35 ∷ 120 ∷ 65 ∷ 59 ∷ [])
@@ -33,36 +39,6 @@ unfolding referenceBy
 reference-by P false b tab lf cr other = other
 reference-by P true b tab lf cr other =
     pick-by P (eqb b 9) (λ e. tab) (λ e. pick-by P (eqb b 10) (λ f. lf) (λ f. pick-by P (eqb b 13) (λ g. cr) (λ g. other)))
-
--- the three that get a number in hexadecimal, and all others
-abbrev isBlank : ℕ → Bool
-isBlank b = eqb b 9 || eqb b 10 || eqb b 13
-
-pub reference-hex : (hex : Bool) (b : ℕ) → Kind b → hex && isBlank b ≡ true → referenceBy hex b ≡ 38 ∷ 35 ∷ 120 ∷ hexDigit b ∷ 59 ∷ []
-unfolding referenceBy hexDigit
-reference-hex false b k e = contrary e refl
-reference-hex true b is-lt e = contrary e refl
-reference-hex true b is-gt e = contrary e refl
-reference-hex true b is-amp e = contrary e refl
-reference-hex true b is-apos e = contrary e refl
-reference-hex true b is-quot e = contrary e refl
-reference-hex true b is-cr e = refl
-reference-hex true b is-lf e = refl
-reference-hex true b is-tab e = refl
-reference-hex true b (is-other o) e = contrary e (rw (o .no-cr, o .no-lf, o .no-tab))
-
-pub reference-named : (hex : Bool) (b : ℕ) → Kind b → hex && isBlank b ≡ false → referenceBy hex b ≡ reference b
-unfolding referenceBy
-reference-named false b k e = refl
-reference-named true b is-lt e = refl
-reference-named true b is-gt e = refl
-reference-named true b is-amp e = refl
-reference-named true b is-apos e = refl
-reference-named true b is-quot e = refl
-reference-named true b is-cr e = contrary refl e
-reference-named true b is-lf e = contrary refl e
-reference-named true b is-tab e = contrary refl e
-reference-named true b (is-other o) e = rw (o .no-cr, o .no-lf, o .no-tab)
 
 -- a writer of these bytes is a writer of the reference that they are
 pub reference-room : {some bytes : List ℕ} {room : ℕ} → some ≡ bytes → length some ≤ room → length bytes ≤ room
@@ -85,10 +61,6 @@ chars-level attribute = refl
 and-false : (t : Bool) → t && false ≡ false
 and-false true = refl
 and-false false = refl
-
-pick-same : (t : Bool) (l : List ℕ) → pick t l l ≡ l
-pick-same true l = refl
-pick-same false l = refl
 
 abbrev AddedAt : Bool → Bool → Bool → Bool → Bool → ℕ → Type 0
 AddedAt blanks apos quot gt hex b =
@@ -123,13 +95,31 @@ added-length chars b = added-at (chars .blanks) (chars .apos) (chars .quot) (cha
 pub past-gt : (chars : EscapeChars) (b : ℕ) → 62 < b → escapedBy chars b ≡ false
 unfolding escapedBy
 past-gt chars b h =
-    rw (ne-eqb b 10 (λ e. omega arith), ne-eqb b 9 (λ e. omega arith), ne-eqb b 39 (λ e. omega arith), ne-eqb b 34 (λ e. omega arith), ne-eqb b 62 (λ e. omega arith), ne-eqb b 60 (λ e. omega arith), ne-eqb b 38 (λ e. omega arith), ne-eqb b 13 (λ e. omega arith))
+    rw (
+      ne-eqb b 10 (λ e. omega arith),
+      ne-eqb b 9 (λ e. omega arith),
+      ne-eqb b 39 (λ e. omega arith),
+      ne-eqb b 34 (λ e. omega arith),
+      ne-eqb b 62 (λ e. omega arith),
+      ne-eqb b 60 (λ e. omega arith),
+      ne-eqb b 38 (λ e. omega arith),
+      ne-eqb b 13 (λ e. omega arith),
+    )
     (simp and-false)
 
 pub past-gt-added : (chars : EscapeChars) (b : ℕ) → 62 < b → addedBy chars b ≡ 0
 unfolding addedBy
 past-gt-added chars b h =
-    rw (ne-eqb b 10 (λ e. omega arith), ne-eqb b 9 (λ e. omega arith), ne-eqb b 39 (λ e. omega arith), ne-eqb b 34 (λ e. omega arith), ne-eqb b 62 (λ e. omega arith), ne-eqb b 60 (λ e. omega arith), ne-eqb b 38 (λ e. omega arith), ne-eqb b 13 (λ e. omega arith))
+    rw (
+      ne-eqb b 10 (λ e. omega arith),
+      ne-eqb b 9 (λ e. omega arith),
+      ne-eqb b 39 (λ e. omega arith),
+      ne-eqb b 34 (λ e. omega arith),
+      ne-eqb b 62 (λ e. omega arith),
+      ne-eqb b 60 (λ e. omega arith),
+      ne-eqb b 38 (λ e. omega arith),
+      ne-eqb b 13 (λ e. omega arith),
+    )
 
 -- ---- their replacements: 1 to 6 bytes, ASCII for ASCII
 
@@ -192,7 +182,7 @@ reference-ascii b is-tab e = refl
 reference-ascii b (is-other o) e =
     rw (o .no-lt, o .no-gt, o .no-amp, o .no-apos, o .no-quot, o .no-cr, o .no-lf, o .no-tab, e)
 
--- a byte that is none of the eight is never replaced; `&` and CR always are, TAB and LF with the blanks
+-- a byte that is none of the eight is never replaced, and `&` always is
 pub escaped-other : (chars : EscapeChars) (b : ℕ) → Other b → escapedBy chars b ≡ false
 unfolding escapedBy
 escaped-other chars b o =
@@ -201,10 +191,6 @@ escaped-other chars b o =
 pub chars-amp : (chars : EscapeChars) → escapedBy chars 38 ≡ true
 unfolding escapedBy
 chars-amp chars = simp and-false
-
-pub chars-cr : (chars : EscapeChars) → escapedBy chars 13 ≡ true
-unfolding escapedBy
-chars-cr chars = simp and-false
 
 escaped-ascii : (chars : EscapeChars) (b : ℕ) → Kind b → escapedBy chars b ≡ true → leb b 0x7F ≡ true
 escaped-ascii chars b is-lt e = refl

@@ -18,10 +18,6 @@ escapedBy chars b =
     || eqb b 38
     || eqb b 13
 
--- TAB, LF or CR in hexadecimal
-unfoldable pub hexDigit : ℕ → ℕ
-hexDigit b = pick (eqb b 9) 57 (pick (eqb b 10) 65 68)
-
 -- what is written for a byte, with hexadecimal numbers or decimal ones
 unfoldable pub referenceBy : Bool → ℕ → List ℕ
 unfolding reference hexReference

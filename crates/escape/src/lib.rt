@@ -7,9 +7,9 @@ ghost use Prim.Native.Nat.{_+_, _≤_, _<_};
 ghost use lib.ListN.{length, take, drop};
 ghost use Rattle.text.specs.Bytes.{pick};
 ghost use Rattle.text.specs.Call.{laid, finish, callOf, longestText};
-ghost use Rattle.escape.specs.Escape.{write, levelOf, levelSet, levelCheck, reference};
+ghost use Rattle.escape.specs.Escape.{write, levelOf, levelSet, levelCheck};
 ghost use Rattle.output.specs.Runs.{Plain, Copied, Ends, Room};
-ghost use Rattle.escape.specs.Scan.{escapedBy, hexDigit, referenceBy, tabAdded, addedBy, charsSet, levelChars};
+ghost use Rattle.escape.specs.Scan.{escapedBy, referenceBy, tabAdded, addedBy, charsSet, levelChars};
 use text::Answer;
 use text::refusals;
 
@@ -122,10 +122,23 @@ fn put(reference: &[u8], out: &mut [u8]) -> usize
     reference.len()
 }
 
-// Writes the reference to the byte at the start of `out`, and keeps the rest.
-pub fn escape_char(b: u8, out: &mut [u8]) -> usize
-    requires { ⌜ length (reference b) ≤ length (now out) ⌝ }
-    ensures { λ r. ⌜ (r ≡ length (reference b)) × (now (out .exit) ≡ laid (reference b) (now (out .entry))) ⌝ }
+// One of two references.
+fn put_either(first: bool, one: &[u8], other: &[u8], out: &mut [u8]) -> usize
+    requires { ⌜ length (pick first (now one) (now other)) ≤ length (now out) ⌝ }
+    ensures { λ r. ⌜ (r ≡ length (pick first (now (one .entry)) (now (other .entry)))) × (now (out .exit) ≡ laid (pick first (now (one .entry)) (now (other .entry))) (now (out .entry))) ⌝ }
+{
+    if first {
+        put(one, out)
+    } else {
+        put(other, out)
+    }
+}
+
+// Writes the reference to the byte at the start of `out`, and keeps the rest. Only the three that have a number ask for its kind: one
+// test more before the others made a text dense with them take three times as long.
+fn escape_char(b: u8, hex: bool, out: &mut [u8]) -> usize
+    requires { ⌜ length (referenceBy hex b) ≤ length (now out) ⌝ }
+    ensures { λ r. ⌜ (r ≡ length (referenceBy hex b)) × (now (out .exit) ≡ laid (referenceBy hex b) (now (out .entry))) ⌝ }
 {
     match b {
         b'<' => put(b"&lt;", out),
@@ -133,37 +146,14 @@ pub fn escape_char(b: u8, out: &mut [u8]) -> usize
         b'&' => put(b"&amp;", out),
         b'\'' => put(b"&apos;", out),
         b'"' => put(b"&quot;", out),
-        b'\r' => put(b"&#13;", out),
-        b'\n' => put(b"&#10;", out),
-        b'\t' => put(b"&#9;", out),
+        b'\r' => put_either(hex, b"&#xD;", b"&#13;", out),
+        b'\n' => put_either(hex, b"&#xA;", b"&#10;", out),
+        b'\t' => put_either(hex, b"&#x9;", b"&#9;", out),
         _ => {
             out[0] = b;
             1
         }
     }
-}
-
-// The digit of TAB, LF or CR.
-fn hex_digit(b: u8) -> u8
-    ensures { λ r. ⌜ r ≡ hexDigit b ⌝ }
-{
-    match b {
-        b'\t' => b'9',
-        b'\n' => b'A',
-        _ => b'D',
-    }
-}
-
-// Writes the reference to the byte at the start of `out`, by a hexadecimal number where it is TAB, LF or CR and `hex` says so.
-fn put_reference(b: u8, hex: bool, out: &mut [u8]) -> usize
-    requires { ⌜ length (referenceBy hex b) ≤ length (now out) ⌝ }
-    ensures { λ r. ⌜ (r ≡ length (referenceBy hex b)) × (now (out .exit) ≡ laid (referenceBy hex b) (now (out .entry))) ⌝ }
-{
-    if hex & ((b == b'\t') | (b == b'\n') | (b == b'\r')) {
-        let number = [b'&', b'#', b'x', hex_digit(b), b';'];
-        return put(&number, out);
-    }
-    escape_char(b, out)
 }
 
 fn when(test: bool, count: u8) -> u8
@@ -297,7 +287,7 @@ pub fn write_escaped(text: &[u8], chars: EscapeChars, out: &mut [u8]) -> usize
         if end == text.len() {
             return at;
         }
-        at += put_reference(text[end], chars.hex, &mut out[at..]);
+        at += escape_char(text[end], chars.hex, &mut out[at..]);
         i = end + 1;
     }
 }

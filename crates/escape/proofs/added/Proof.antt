@@ -1,10 +1,10 @@
 -- `added` meets its contract: it is the definition. Assumes nothing.
 use native.Mathlib.Omega.{arith}
-use mathlib.Core.Path.{_≡_, ap, ap₂, _∙_}
+use mathlib.Core.Path.{ap, ap₂, _∙_}
 use Prim.Native.Nat.{ℕ, _+_}
 use lib.Dec.{eqb}
 use Rattle.text.specs.Bytes.{pick}
-use Rattle.escape.specs.Scan.{tabAdded, addedBy}
+use Rattle.escape.specs.Scan.{addedBy}
 use borrow.Author.Needs.{needs}
 use Rattle.escape.proofs.added.Statement.{statement}
 use Rattle.escape.proofs.added.Tie as tie
@@ -38,8 +38,8 @@ unfolding addedBy
 returns c =
     let asked = c .before in
     let five = asked .before in
-    let tab : c .when4 .result ≡ pick (eqb (five .before .before .before .before .before .before .before .args .b) 9) (tabAdded (five .before .before .before .before .before .before .before .args .chars)) 0 =
-    c .when4 .ensures .0 ∙ ap (λ (n : ℕ). pick (eqb (five .before .before .before .before .before .before .before .args .b) 9) n 0) (asked .tab-added .ensures .0) in
+    let b = five .before .before .before .before .before .before .before .args .b in
+    let tab = c .when4 .ensures .0 ∙ ap (λ (n : ℕ). pick (eqb b 9) n 0) (asked .tab-added .ensures .0) in
     ap₂ _+_ (ap₂ _+_ (ap₂ _+_ (five .before .before .when .ensures .0) (five .before .when2 .ensures .0)) (five .when3 .ensures .0)) tab
 
 pub added-spec : {M : Type 1} → statement M

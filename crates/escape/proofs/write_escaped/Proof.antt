@@ -101,24 +101,24 @@ returns c =
     writing-done (writing-run (chars-run (given .chars)) (turn p .loop .inv) (p .put-plain .ensures .0))
     (write-over (charsSet (given .chars)) (given .text .now) (end p) (omega (arith, c .if1 .taken)))
 
-shared-slice-read-put-reference : tie.Need-shared-slice-read-put-reference Inv-loop μ-loop
-shared-slice-read-put-reference c = stop-inside (c .before)
+shared-slice-read-escape-char : tie.Need-shared-slice-read-escape-char Inv-loop μ-loop
+shared-slice-read-escape-char c = stop-inside (c .before)
 
-sub-put-reference : tie.Need-sub-put-reference Inv-loop μ-loop
-sub-put-reference c =
+sub-escape-char : tie.Need-sub-escape-char Inv-loop μ-loop
+sub-escape-char c =
     let p = copied (c .before) in
     writing-inside (writing-run (chars-run (entry p .args .chars)) (turn p .loop .inv) (p .put-plain .ensures .0))
 
-part-put-reference-start : tie.Need-part-put-reference-start Inv-loop μ-loop
-part-put-reference-start c =
+part-escape-char-start : tie.Need-part-escape-char-start Inv-loop μ-loop
+part-escape-char-start c =
     let p = copied (c .before) in
     writing-inside (writing-run (chars-run (entry p .args .chars)) (turn p .loop .inv) (p .put-plain .ensures .0))
 
-part-put-reference-end : tie.Need-part-put-reference-end Inv-loop μ-loop
-part-put-reference-end c = search needs
+part-escape-char-end : tie.Need-part-escape-char-end Inv-loop μ-loop
+part-escape-char-end c = search needs
 
-put-reference-requires : tie.Need-put-reference-requires Inv-loop μ-loop
-put-reference-requires c κs =
+escape-char-requires : tie.Need-escape-char-requires Inv-loop μ-loop
+escape-char-requires c κs =
     let stop = c .before .before in
     let p = copied stop in
     piece-fits (writing-run (chars-run (entry p .args .chars)) (turn p .loop .inv) (p .put-plain .ensures .0)) (piece stop) 1 (reference-next stop)
@@ -128,7 +128,7 @@ add-at-2 c =
     let stop = c .before .before .before .before .before in
     let p = copied stop in
     let run = writing-run (chars-run (entry p .args .chars)) (turn p .loop .inv) (p .put-plain .ensures .0) in
-    let put = c .before .before .put-reference in
+    let put = c .before .before .escape-char in
     omega (arith, writing-old (writing-piece run (piece stop) 1 (reference-next stop) (omega (arith, stop-inside stop)) (put .ensures .0) (put .ensures .1)))
 
 add-i : tie.Need-add-i Inv-loop μ-loop
@@ -146,7 +146,7 @@ loop-again c =
     let stop = c .before .before .before .before .before in
     let p = copied stop in
     let run = writing-run (chars-run (entry p .args .chars)) (turn p .loop .inv) (p .put-plain .ensures .0) in
-    let put = c .before .before .put-reference in
+    let put = c .before .before .escape-char in
     writing-piece run (piece stop) 1 (reference-next stop) (omega (arith, stop-inside stop)) (put .ensures .0) (put .ensures .1)
 
 pub write-escaped-spec : {M : Type 1} → statement M
@@ -167,11 +167,11 @@ write-escaped-spec =
     add-at
     same-length
     returns
-    shared-slice-read-put-reference
-    sub-put-reference
-    part-put-reference-start
-    part-put-reference-end
-    put-reference-requires
+    shared-slice-read-escape-char
+    sub-escape-char
+    part-escape-char-start
+    part-escape-char-end
+    escape-char-requires
     add-at-2
     add-i
     loop-less
