@@ -29,14 +29,28 @@ fn folder(variable: &str, usual: &Path) -> PathBuf {
     }
 }
 
-/// escape.rs and utils.rs become modules where they stand; XmlVersion is cut out of lib.rs.
+/// Stands after escape.rs, whose `_escape` is private: what it writes with the bytes that Canonical XML 1.0, 2.3, replaces.
+const BY_SET: &str = r#"
+pub fn with_the_bytes_of_c14n_attribute(raw: &str) -> Cow<'_, str> {
+    _escape(raw, |ch| matches!(ch, b'&' | b'<' | b'"' | b'\t' | b'\n' | b'\r'))
+}
+
+pub fn with_the_bytes_of_c14n_text(raw: &str) -> Cow<'_, str> {
+    _escape(raw, |ch| matches!(ch, b'&' | b'<' | b'>' | b'\r'))
+}
+"#;
+
+/// escape.rs becomes a module with two functions after it, utils.rs one where it stands; XmlVersion is cut out of lib.rs.
 fn include_source(source: &Path) {
     for file in ["escape.rs", "utils.rs", "lib.rs"] {
         println!("cargo:rerun-if-changed={}", source.join(file).display());
     }
+    let out = PathBuf::from(env::var("OUT_DIR").unwrap());
+    let escape = fs::read_to_string(source.join("escape.rs")).expect("escape.rs");
+    fs::write(out.join("escape.rs"), escape + BY_SET).unwrap();
     let modules = format!(
         "#[path = {:?}]\npub mod escape;\n#[path = {:?}]\npub mod utils;\n",
-        source.join("escape.rs"),
+        out.join("escape.rs"),
         source.join("utils.rs"),
     );
     let lib = fs::read_to_string(source.join("lib.rs")).expect("lib.rs of the Rust under test");
@@ -46,7 +60,6 @@ fn include_source(source: &Path) {
         "XmlVersion stands in one place"
     );
     assert!(below.contains("pub enum XmlVersion {") && below.contains("impl XmlVersion {"));
-    let out = PathBuf::from(env::var("OUT_DIR").unwrap());
     fs::write(out.join("source.rs"), modules + CUT + below).unwrap();
 }
 

@@ -1,5 +1,6 @@
 //! The calls that are compared, each declared in a folder of its own.
 
+pub mod c14n;
 pub mod canonical_form;
 pub mod cdata_next;
 pub mod check_table;
@@ -36,6 +37,8 @@ pub static CALLS: &[Call] = &[
     register::ADD,
     register::WITHDRAW,
     register::COUNT,
+    c14n::ATTRIBUTE,
+    c14n::TEXT,
 ];
 
 /// The calls of these names, or all where none is named; nothing if one is unknown.

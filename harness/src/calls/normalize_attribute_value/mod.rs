@@ -7,6 +7,7 @@ use crate::answer::Answer;
 use crate::arguments::{Arguments, Family};
 use crate::call::Parameter::{Choice, Depth, Limit, Output, Table, Text};
 use crate::call::{Call, Faults};
+use crate::calls::c14n::inputs::attribute_forms;
 use crate::calls::canonical_form::inputs::{reread, strict_reread};
 use crate::faults::{
     external, marked, memory::MEMORY, strict as strict_faults, table::LOOKUP, walk::WALK,
@@ -70,7 +71,12 @@ pub const CALL: Call = Call {
     misreadings: &[("of marked lists", marked::WALK_READINGS)],
     documented: documented::ROWS,
     seams: woven::seams::<Attribute>,
-    families: &[attribute::FAMILIES, OWN, strict::LENIENT, &[reread]],
+    families: &[
+        attribute::FAMILIES,
+        OWN,
+        strict::LENIENT,
+        &[reread, |random, sink| attribute_forms(answer, random, sink)],
+    ],
     random: woven::random::<Attribute>,
     stored: "normalize_attribute_value TEXT VERSION DEPTH LIMIT LIST POOL ROOM = NUMBER FIRST SECOND OUTPUT, and so for _strict",
     faults: &[

@@ -7,6 +7,7 @@ use crate::answer::Answer;
 use crate::arguments::Arguments;
 use crate::call::Call;
 use crate::call::Parameter::{Choice, Output, Text};
+use crate::calls::c14n::inputs::text_forms_by_lines;
 use crate::documented::{row, Outcome::Made};
 use crate::inputs::woven::{self, Subject};
 use crate::inputs::{rooms, sizes};
@@ -49,7 +50,11 @@ pub const CALL: Call = Call {
         row("\r\u{85}", 2, Made("\n", 0)),
     ],
     seams: woven::seams::<Eols>,
-    families: &[&[sizes::limits, rooms::unknown_choices], Eols::WOVEN],
+    families: &[
+        &[sizes::limits, rooms::unknown_choices],
+        Eols::WOVEN,
+        &[|random, sink| text_forms_by_lines(answer, random, sink)],
+    ],
     random: woven::random::<Eols>,
     stored: "normalize_eols TEXT VERSION ROOM = NUMBER FIRST SECOND OUTPUT",
     faults: &[],

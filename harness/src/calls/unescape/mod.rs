@@ -6,6 +6,7 @@ mod rows;
 
 use crate::call::Call;
 use crate::call::Parameter::{Output, Table, Text};
+use crate::calls::c14n::inputs::text_forms_unescaped;
 use crate::documented::{marked, row, with, Documented, Outcome, Outcome::Answered, Outcome::Made};
 use crate::faults::{external as external_faults, marked as marked_faults, table::LOOKUP};
 use crate::inputs::{entities, external, marked as marked_inputs, sizes, tables, woven};
@@ -62,6 +63,7 @@ pub const CALL: Call = Call {
         entities::repeated,
         inputs::longest_results,
         inputs::escaped_texts,
+        |random, sink| text_forms_unescaped(answer::unescape, random, sink),
         entities::damaged_tables,
         entities::every_number,
         woven::long::<Unescape>,
