@@ -27,6 +27,9 @@ static uint32_t call(const struct request *q, uint8_t *scratch, size_t scratch_l
                                            q->pool, q->pool_length, scratch, scratch_length, out, length, answer);
     case EOLS:
         return govlezna_normalize_eols(q->text, q->text_length, a->version, out, length, answer);
+    case C14N:
+        return (a->node == ATTRIBUTE ? govlezna_c14n_attribute : govlezna_c14n_text)(q->text, q->text_length, out, length,
+                                                                                     answer);
     default:
         return govlezna_check_utf8(q->text, q->text_length, answer);
     }

@@ -10,8 +10,9 @@
 #define LIST_MOST ((size_t)49154)
 #define POOL_MOST ((size_t)1048576)
 
-enum command { ESCAPE, UNESCAPE, NORMALIZE, CANONICAL, NMTOKENS, EOLS, TRIM, CDATA, CHECK, USED, REGISTER };
+enum command { ESCAPE, UNESCAPE, NORMALIZE, CANONICAL, NMTOKENS, EOLS, TRIM, CDATA, CHECK, USED, C14N, REGISTER };
 enum side { BOTH, START, END };
+enum node { NEITHER, ATTRIBUTE, TEXT };
 enum action { ADD, WITHDRAW, COUNT, LIST };
 
 /* Bytes that are lent. */
@@ -36,6 +37,7 @@ struct arguments {
     uint8_t level, version;
     uint64_t depth, limit;
     enum side side;
+    enum node node;
     const char *register_path, *action_name; /* of register; NULL where they are missing */
     enum action action;
     size_t room;

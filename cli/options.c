@@ -6,7 +6,7 @@
 #include <string.h>
 
 static const char *const commands[] = { "escape", "unescape", "normalize", "canonical", "nmtokens", "eols",
-                                        "trim",   "cdata",    "check",     "used",      "register" };
+                                        "trim",   "cdata",    "check",     "used",      "c14n",     "register" };
 static const char *const actions[] = { "add", "withdraw", "count", "list" };
 
 #define COMMANDS (sizeof commands / sizeof commands[0])
@@ -14,7 +14,8 @@ static const char *const actions[] = { "add", "withdraw", "count", "list" };
 #define ROOM_IF_NOT_GIVEN ((size_t)1048576)
 
 enum option {
-    LEVEL, VERSION, DEPTH, LIMIT, STRICT, ENTITY, EXTERNAL, MARKED, TABLE, LINES, AT_START, AT_END, ROOM, FROM_FILE, JSON, OPTIONS
+    LEVEL, VERSION, DEPTH, LIMIT, STRICT, ENTITY, EXTERNAL, MARKED, TABLE, LINES, AT_START, AT_END, AS_ATTRIBUTE, AS_TEXT, ROOM,
+    FROM_FILE, JSON, OPTIONS
 };
 
 #define ON(command) (1u << (command))
@@ -41,6 +42,8 @@ static const struct {
     { "--lines", 0, ON(NMTOKENS) },
     { "--start", 0, ON(TRIM) },
     { "--end", 0, ON(TRIM) },
+    { "--attribute", 0, ON(C14N) },
+    { "--text", 0, ON(C14N) },
     { "--room", 1, ON(REGISTER) },
     { "--file", 1, ALL },
     { "--json", 0, ALL },
@@ -140,6 +143,8 @@ static void set_option(struct arguments *a, enum option option, char **values)
     case LINES: a->lines = 1; break;
     case AT_START: a->side = START; break;
     case AT_END: a->side = END; break;
+    case AS_ATTRIBUTE: a->node = ATTRIBUTE; break;
+    case AS_TEXT: a->node = TEXT; break;
     case ROOM: a->room = read_number(name, values[0], SIZE_MAX); break;
     case FROM_FILE: a->file = values[0]; break;
     case JSON: a->json = 1; break;
@@ -178,6 +183,10 @@ static void check_together(const struct arguments *a, unsigned seen)
         bad_usage("--lines", "--json is given too, which has the tokens");
     if (seen & ON(AT_START) && seen & ON(AT_END))
         bad_usage("--start", "--end is given too; for both ends give neither");
+    if (seen & ON(AS_ATTRIBUTE) && seen & ON(AS_TEXT))
+        bad_usage("--attribute", "--text is given too");
+    if (a->command == C14N && a->node == NEITHER)
+        bad_usage("c14n", "expected --attribute or --text");
     if (a->command == REGISTER && a->action_name == NULL)
         bad_usage("register", "expected FILE and one of add, withdraw, count and list");
     if (a->command == REGISTER && a->action == LIST && (a->text != NULL || a->file != NULL))

@@ -95,6 +95,34 @@ uint32_t govlezna_escape(const uint8_t *text, size_t text_length, uint8_t level,
                          uint64_t answer[2]);
 
 /*
+ * An attribute value as W3C Canonical XML 1.0, section 2.3, writes it: & < " as &amp; &lt; &quot;, and TAB, LF, CR as &#x9;
+ * &#xA; &#xD;. All else is copied, > and ' too, so the result has at least as many bytes as the text and at most six times
+ * as many. A result of at most 16,777,216 bytes, read by govlezna_normalize_attribute_value in version 0 or 1 at depth 1
+ * with an empty table, is the value written, openings 0.
+ *
+ * Success: answer[0] is the length written; the rest of `out` keeps its bytes.
+ * Refusals, in this order: TOO_LONG; NOT_UTF8; NO_ROOM (answer[0]: the length needed). None writes to `out`.
+ * Time: as govlezna_escape.
+ * Example: `<a>` TAB gives `&lt;a>&#x9;`.
+ */
+uint32_t govlezna_c14n_attribute(const uint8_t *text, size_t text_length, uint8_t *out, size_t out_length,
+                                 uint64_t answer[2]);
+
+/*
+ * Text as W3C Canonical XML 1.0, section 2.3, writes it: & < > as &amp; &lt; &gt;, and CR as &#xD;. All else is copied,
+ * quotes, TAB and LF too, so the result has at least as many bytes as the text and at most six times as many. A result
+ * of at most 16,777,216 bytes is left as it is by govlezna_normalize_eols in version 0 or 1, and govlezna_unescape with an
+ * empty table gives the text written.
+ *
+ * Success: answer[0] is the length written; the rest of `out` keeps its bytes.
+ * Refusals, in this order: TOO_LONG; NOT_UTF8; NO_ROOM (answer[0]: the length needed). None writes to `out`.
+ * Time: as govlezna_escape.
+ * Example: `<a>` TAB CR gives `&lt;a&gt;`, a TAB and `&#xD;`.
+ */
+uint32_t govlezna_c14n_text(const uint8_t *text, size_t text_length, uint8_t *out, size_t out_length,
+                            uint64_t answer[2]);
+
+/*
  * The character that a reference such as &#65; or &#x41; names. `text` is what stands between `#` and `;`: decimal
  * digits, or a lower-case x and hexadecimal digits of either letter case.
  *

@@ -91,6 +91,9 @@ results() {
     gives "&lt;>'" escape --level=2 "<>'"
     gives 'a&lt;b&#9;&#10;' escape --level 3 $'a<b\t\n'
     gives '' escape ''
+    gives $'a&lt;b>&amp;\'&quot;&#xD;&#xA;&#x9;' c14n --attribute $'a<b>&\'"\r\n\t'
+    gives $'a&lt;b&gt;&amp;\'"&#xD;\n\t' c14n --text $'a<b>&\'"\r\n\t'
+    gives '' c14n --text ''
     gives 'AA<½' unescape '&#x41;&#65;&lt;&#xBD;'
     gives 'X sail ' unescape '&amp; &e; ' --entity amp=X --entity e=sail --entity e=boom
     gives $'& sail a\t' normalize $'&amp;\t&e;&#9;' --entity amp=X --entity 'e=sail&#x20;a'
@@ -183,6 +186,7 @@ json() {
     [ "$status" -eq 1 ] && [ ! -s "$room/err" ] && [ "$(cat "$room/out")" = '{"command":"used","number":11,"words":"unknown entity","first":4,"second":6,"start":4,"end":6,"line":1,"names":[{"name":"e","bound":"text"},{"name":"\"\u000a","bound":"unknown"}]}' ]
     expect $? used --json unknown
     gives '{"command":"escape","number":0,"length":4,"result":"&lt;"}'$'\n' escape --json '<'
+    gives '{"command":"c14n","number":0,"length":5,"result":"&#xD;"}'$'\n' c14n --text --json $'\r'
     gives '{"command":"unescape","number":0,"length":4,"result":"\"\\\u000a\u007f"}'$'\n' unescape --json $'"\\\n\x7F'
     gives '{"command":"canonical","number":0,"length":4,"openings":1,"result":"sail"}'$'\n' canonical '&e;' --entity e=sail --json
     gives '{"command":"trim","number":0,"start":1,"length":1,"result":"a"}'$'\n' trim --json ' a '
@@ -215,6 +219,8 @@ refusals() {
     for command in escape unescape normalize canonical nmtokens eols trim cdata check used; do
         refuses 5 ': byte 1 of the text, line 1' "$command" $'a\xFF'
     done
+    refuses 5 ': byte 1 of the text, line 1' c14n $'a\xFF' --attribute
+    refuses 5 ': byte 1 of the text, line 1' c14n $'a\xFF' --text
     refuses 9 ': --entity number 2' unescape a --entity a=b --entity =c
     refuses 9 ': --entity number 1' check a --entity $'a=\xFF'
     refuses 9 ': --external number 1' check a --entity a=b --external ''
@@ -460,6 +466,10 @@ usage() {
     misused 'given twice' escape a --level 1 --level 2
     misused 'a second text' escape a b
     misused 'the text is given too' escape a --file b
+    misused 'expected --attribute or --text' c14n a
+    misused '--text is given too' c14n a --attribute --text
+    misused 'not an option of this command' escape a --text
+    misused 'takes no value after =' c14n --text=a
     misused 'expected NAME=TEXT' unescape a --entity b
     misused 'at most 255 bytes' unescape a --entity "$(printf 'n%.0s' {1..256})=b"
     misused 'at most 255 bytes' unescape a --external "$(printf 'n%.0s' {1..256})"

@@ -102,6 +102,22 @@ static void strict_calls(void)
     expect(__LINE__, strict_form("&lt;\1"), GOVLEZNA_FORBIDDEN_CHARACTER, 4, 0);
 }
 
+/* And each reads back as what was written. */
+static void canonical_xml(void)
+{
+    expect(__LINE__, govlezna_c14n_attribute(bytes("<a>\t"), 4, out, sizeof out, answer), 0, 11, 0);
+    expect_bytes(__LINE__, out, "&lt;a>&#x9;");
+    expect(__LINE__,
+           govlezna_normalize_attribute_value(out, 11, 0, 1, 0, empty, 1, NULL, 0, scratch, sizeof scratch, answer), 0, 4, 0);
+    expect_bytes(__LINE__, scratch, "<a>\t");
+    expect(__LINE__, govlezna_c14n_text(bytes("<a>\t\r"), 5, out, sizeof out, answer), 0, 15, 0);
+    expect_bytes(__LINE__, out, "&lt;a&gt;\t&#xD;");
+    expect(__LINE__, govlezna_normalize_eols(out, 15, 1, scratch, sizeof scratch, answer), 0, 15, 0);
+    expect(__LINE__, govlezna_unescape(scratch, 15, empty, 1, NULL, 0, out, sizeof out, answer), 0, 5, 0);
+    expect_bytes(__LINE__, out, "<a>\t\r");
+    expect(__LINE__, govlezna_c14n_text(bytes("<"), 1, NULL, 0, answer), GOVLEZNA_NO_ROOM, 4, 0);
+}
+
 static uint32_t list_tokens(const char *text)
 {
     return govlezna_normalize_nmtokens(bytes(text), strlen(text), 0, 1, 0, empty, 1, NULL, 0, scratch, sizeof scratch, out,
@@ -164,6 +180,7 @@ static void examples(void)
     expect(__LINE__, govlezna_check_table(external, sizeof external, pool, sizeof pool, answer), 0, 1, 0);
     expect(__LINE__, normalize(2, 10, external, sizeof external), GOVLEZNA_EXTERNAL_ENTITY, 0, 0);
     marked_lists();
+    canonical_xml();
     strict_calls();
     tokens();
     registers();
