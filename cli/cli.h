@@ -95,7 +95,7 @@ struct names {
 };
 
 /* help.c */
-extern const char help[];
+void put_help(FILE *to);
 
 /* options.c */
 const char *command_name(enum command command);

@@ -1,7 +1,8 @@
 /* How the program is used. ../govlezna shows these lines too, without the program: each is one string, ended by \n. */
 #include "cli.h"
 
-const char help[] =
+/* Two strings, since a compiler need not take one of more than 4,095 characters. */
+static const char commands_and_options[] =
     "govlezna COMMAND [OPTIONS] [TEXT]: text of XML job files\n"
     "\n"
     "The text is TEXT, or the bytes of --file PATH, or else of standard input: UTF-8, at most 16,777,216 bytes.\n"
@@ -39,7 +40,9 @@ const char help[] =
     "  --file PATH         read the text from a file; - is standard input\n"
     "  --json              answer by one line of JSON on standard output, refusals too\n"
     "  --                  what follows is TEXT, even if it starts with -\n"
-    "\n"
+    "\n";
+
+static const char results_and_examples[] =
     "The result goes to standard output byte for byte; a line end follows it on a terminal alone. A refusal goes to\n"
     "standard error: its number, what it means and its place. Exit status: 0; 1 for a refusal; 2 for bad usage, or a file\n"
     "that cannot be read or written.\n"
@@ -64,3 +67,9 @@ const char help[] =
     "  govlezna nmtokens --lines 'p1  p2&#10;p3'\n"
     "  govlezna unescape '&boom;' --json\n"
     "  govlezna canonical 'Panel &lt;3>' | govlezna register table.names add\n";
+
+void put_help(FILE *to)
+{
+    fputs(commands_and_options, to);
+    fputs(results_and_examples, to);
+}

@@ -218,12 +218,12 @@ void read_arguments(int argc, char **argv, struct arguments *a)
     unsigned seen = 0;
     int options_end = 0;
     if (argc < 2) {
-        fputs(help, stderr);
+        put_help(stderr);
         exit(2);
     }
     for (int at = 1; at < argc && strcmp(argv[at], "--") != 0; at++)
         if (strcmp(argv[at], "--help") == 0) {
-            fputs(help, stdout);
+            put_help(stdout);
             flush_output();
             exit(0);
         }
