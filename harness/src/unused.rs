@@ -290,6 +290,8 @@ pub fn misreadings(call: &Call) -> Vec<(&'static str, bool)> {
     };
     let own = match call.name {
         "unescape" => TEXT_MISREADINGS,
+        // A list is read as its value is, and its random texts name no `lt`.
+        "normalize_nmtokens" => return vec![],
         _ => WALK_MISREADINGS,
     };
     let by_library = own.iter().chain(MISREADINGS).map(|&(name, misreading)| {

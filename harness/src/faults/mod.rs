@@ -8,6 +8,7 @@ pub mod output;
 pub mod parts;
 pub mod reading;
 pub mod register;
+pub mod scratch;
 pub mod strict;
 pub mod table;
 pub mod text;
@@ -21,14 +22,11 @@ pub fn of(parameter: Parameter) -> Faults {
         Parameter::Text => text::TEXT,
         Parameter::Choice => output::CHOICE,
         Parameter::Table => table::TABLE,
+        Parameter::Scratch => scratch::SCRATCH,
         Parameter::Output => output::OUTPUT,
         Parameter::Register => register::WRITTEN,
         Parameter::RegisterRead => register::READ,
         // What goes wrong with these is the call's own.
-        Parameter::Depth
-        | Parameter::Limit
-        | Parameter::Scratch
-        | Parameter::Cursor
-        | Parameter::Offset => &[],
+        Parameter::Depth | Parameter::Limit | Parameter::Cursor | Parameter::Offset => &[],
     }
 }

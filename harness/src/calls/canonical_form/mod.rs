@@ -139,7 +139,7 @@ canonical_form TEXT VERSION DEPTH LIMIT LIST POOL SCRATCH ROOM = NUMBER FIRST SE
         marked_faults::TABLE,
         marked_faults::LOOKUP,
         marked_faults::WALK,
-        faults::SCRATCH,
+        faults::FORM,
         &[("the strict rule", strictly)],
     ],
     // SAFETY: everything that is lent is of the length stated.
@@ -178,7 +178,7 @@ pub const STRICT: Call = Call {
         MEMORY,
         external::WALK,
         marked_faults::WALK,
-        faults::SCRATCH,
+        faults::FORM,
     ],
     // SAFETY: everything that is lent is of the length stated.
     timed: || rows::strictly_timed(|lent| unsafe { run_strict(lent) }),

@@ -78,7 +78,7 @@ pub const CALL: Call = Call {
 normalize_nmtokens TEXT VERSION DEPTH LIMIT LIST POOL SCRATCH ROOM = NUMBER FIRST SECOND VALUE OUTPUT, as for canonical_form.",
     faults: &[
         faults::STAGE,
-        faults::SCRATCH,
+        faults::BOTH_STAGES,
         LOOKUP,
         WALK,
         MEMORY,
