@@ -1,30 +1,14 @@
 #!/usr/bin/env python3
-"""What expat makes of white space in the texts of entities in attribute values; tests/marked.txt is its output.
-
-A line is a document of XML 1.0: the value that expat hands over, with = before it, the value of the attribute as it is written, and
-the entities, each as NAME=TEXT with its replacement text, with TABs between. A replacement text is what is declared after line ends
-and with character references replaced (XML 1.0, 4.5), so CR and LF in it stand for themselves. What does not print is escaped as
-printf's %b reads it. tests/marked.sh replays the lines."""
+"""What expat makes of white space in the texts of entities in attribute values; tests/marked.txt is its output, in the lines of
+expat_documents.py. tests/marked.sh replays them."""
 import itertools
-import re
-from xml.parsers import expat
+from expat_documents import EXAMPLES, every, print_lines
 
 TAB, LF, CR, X = '&#9;', '&#10;', '&#13;', 'x'
 
-# What XML 1.0, 3.3.3, declares and shows.
-EXAMPLE = (('d', '&#xD;'), ('a', '&#xA;'), ('da', '&#xD;&#xA;'))
-
-
-def every(pieces, most):
-    for count in range(most + 1):
-        yield from map(''.join, itertools.product(pieces, repeat=count))
-
-
 # Values, and declarations in their order.
 DOCUMENTS = [
-    ('\n\nxyz', EXAMPLE),
-    ('&d;&d;A&a;&#x20;&a;B&da;', EXAMPLE),
-    ('&#xd;&#xd;A&#xa;&#xa;B&#xd;&#xa;', EXAMPLE),
+    *EXAMPLES,
     # Every short text.
     *(('a&e;b', (('e', text),)) for text in every((TAB, LF, CR, X), 3)),
     # White space of the value beside that of a text.
@@ -50,29 +34,4 @@ DOCUMENTS = [
     ('&e;', (('e', X), ('e', CR + LF))),
 ]
 
-
-def replacement(declared):
-    ended = declared.replace('\r\n', '\n').replace('\r', '\n')
-    number = lambda digits: int(digits[1:], 16) if digits.startswith('x') else int(digits)
-    return re.sub('&#(x?[0-9A-Fa-f]+);', lambda match: chr(number(match[1])), ended)
-
-
-def read(value, declarations):
-    entities = ''.join(f'<!ENTITY {name} "{text}">' for name, text in declarations)
-    found = {}
-    parser = expat.ParserCreate('UTF-8')
-    parser.StartElementHandler = lambda _, attributes: found.update(attributes)
-    parser.Parse(f'<!DOCTYPE r [{entities}]><r a="{value}"/>'.encode(), True)
-    return found['a']
-
-
-def escaped(text):
-    short = {'\\': r'\\', '\t': r'\t', '\n': r'\n', '\r': r'\r'}
-    long = lambda character: ''.join(rf'\x{byte:02x}' for byte in character.encode())
-    return ''.join(short.get(c) or (c if c.isprintable() else long(c)) for c in text)
-
-
-print("# expat's value, attribute value, entities with their replacement texts: tests/expat_marked.py says more.")
-for value, declarations in DOCUMENTS:
-    texts = [f'{name}={replacement(text)}' for name, text in declarations]
-    print(*map(escaped, ['=' + read(value, declarations), value, *texts]), sep='\t')
+print_lines('expat_marked.py', DOCUMENTS)

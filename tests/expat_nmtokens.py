@@ -1,28 +1,12 @@
 #!/usr/bin/env python3
-"""What expat makes of attributes that are declared NMTOKENS; tests/nmtokens.txt is its output.
-
-A line is a document of XML 1.0 whose attribute `a` is declared NMTOKENS: the value that expat hands over, with = before it, the value
-of the attribute as it is written, and the entities, each as NAME=TEXT with its replacement text, with TABs between. A replacement text
-is what is declared after line ends and with character references replaced (XML 1.0, 4.5). What does not print is escaped as printf's
-%b reads it. expat does not validate, so that tokens may hold any character. tests/nmtokens.sh replays the lines."""
+"""What expat makes of attributes that are declared NMTOKENS; tests/nmtokens.txt is its output, in the lines of expat_documents.py. expat does
+not validate, so that tokens may hold any character. tests/nmtokens.sh replays them."""
 import itertools
-import re
-from xml.parsers import expat
-
-# What XML 1.0, 3.3.3, declares and shows.
-EXAMPLE = (('d', '&#xD;'), ('a', '&#xA;'), ('da', '&#xD;&#xA;'))
-
-
-def every(pieces, most):
-    for count in range(most + 1):
-        yield from map(''.join, itertools.product(pieces, repeat=count))
-
+from expat_documents import EXAMPLES, every, print_lines
 
 # Values, and declarations in their order.
 DOCUMENTS = [
-    ('\n\nxyz', EXAMPLE),
-    ('&d;&d;A&a;&#x20;&a;B&da;', EXAMPLE),
-    ('&#xd;&#xd;A&#xa;&#xa;B&#xd;&#xa;', EXAMPLE),
+    *EXAMPLES,
     # Every short value of white space and letters; and of the same by references.
     *((value, ()) for value in every((' ', '\t', '\r\n', 'x'), 4)),
     *((value, ()) for value in every((' ', '&#32;', '&#9;', 'x'), 3)),
@@ -47,29 +31,4 @@ DOCUMENTS = [
     ('  '.join(f'panel{n}' for n in range(40)) + ' ' * 40, ()),
 ]
 
-
-def replacement(declared):
-    ended = declared.replace('\r\n', '\n').replace('\r', '\n')
-    number = lambda digits: int(digits[1:], 16) if digits.startswith('x') else int(digits)
-    return re.sub('&#(x?[0-9A-Fa-f]+);', lambda match: chr(number(match[1])), ended)
-
-
-def read(value, declarations):
-    entities = ''.join(f'<!ENTITY {name} "{text}">' for name, text in declarations)
-    found = {}
-    parser = expat.ParserCreate('UTF-8')
-    parser.StartElementHandler = lambda _, attributes: found.update(attributes)
-    parser.Parse(f'<!DOCTYPE r [<!ATTLIST r a NMTOKENS #IMPLIED>{entities}]><r a="{value}"/>'.encode(), True)
-    return found['a']
-
-
-def escaped(text):
-    short = {'\\': r'\\', '\t': r'\t', '\n': r'\n', '\r': r'\r'}
-    long = lambda character: ''.join(rf'\x{byte:02x}' for byte in character.encode())
-    return ''.join(short.get(c) or (c if c.isprintable() else long(c)) for c in text)
-
-
-print("# expat's value, attribute value, entities with their replacement texts: tests/expat_nmtokens.py says more.")
-for value, declarations in DOCUMENTS:
-    texts = [f'{name}={replacement(text)}' for name, text in declarations]
-    print(*map(escaped, ['=' + read(value, declarations), value, *texts]), sep='\t')
+print_lines('expat_nmtokens.py', DOCUMENTS, '<!ATTLIST r a NMTOKENS #IMPLIED>')

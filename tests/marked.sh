@@ -27,7 +27,7 @@ while IFS= read -r line; do
     replay "${fields[@]}"
 done < <(grep -v '^#' "$tests/marked.txt")
 if python3 -c 'import xml.parsers.expat' 2>/dev/null; then
-    python3 "$tests/expat_marked.py" | diff "$tests/marked.txt" - || wrong=$((wrong + 1))
+    python3 -B "$tests/expat_marked.py" | diff "$tests/marked.txt" - || wrong=$((wrong + 1))
 fi
 echo "$cases documents, $wrong wrong; $differing read otherwise without the mark"
 [ "$wrong" -eq 0 ] && [ "$cases" -gt 200 ] && [ "$differing" -gt 20 ]
