@@ -1,4 +1,5 @@
--- K8, of the calls: an answer other than 25 and 26 is the lenient call's (`k8-alike`, `k8-alike-form`); every character of a value that a strict
+-- K8, of the calls: an answer other than 25 and 26 is the lenient call's (`k8-alike`, `k8-alike-form`), and these leave every buffer as it was
+-- (`k8-refuses`, `k8-form-refuses`); every character of a value that a strict
 -- call gave is Char (`k8-chars`) and the value is the standard's with Char (`k8-standard`); two such values are equal exactly when their forms
 -- are (`k8-equal`); a form read again strictly goes as in demand 3 (`k8-again`), and under 2 gets 26 at its first raw RestrictedChar
 -- (`k8-again-26`). Assumes nothing.
@@ -36,7 +37,7 @@ use Rattle.demands.specs.StrictDemands.{strictlyNormalized, StrictlyAccepted, A
 use Rattle.demands.proofs.CallDemands.{taken-passes, normalize-answered, demand-3-calls-equal}
 use Rattle.demands.proofs.StrictStandard.{strict-is-standard}
 use Rattle.demands.proofs.StrictDemands.{strict-chars, strict-again, strict-again-refused}
-use Rattle.requests.specs.Strict.{strictNormalizeOf, strictCanonicalOf, AlikeBut, charStandardOf, StrictlyAnswered, StrictCallsEqualExactly, StrictCallRereads, StrictCallRefuses}
+use Rattle.requests.specs.Strict.{strictNormalizeOf, strictCanonicalOf, AlikeBut, RefusesStrictly, by-the-rule, as-lenient, charStandardOf, StrictlyAnswered, StrictCallsEqualExactly, StrictCallRereads, StrictCallRefuses}
 
 -- ---- alike but for 25 and 26
 
@@ -77,6 +78,40 @@ k8-alike-form a scratch out =
     let p = normalize (readingBy false (ruleFor a) (a .list) (a .pool) (a .limit)) (a .depth) (a .text) in
     guarded-alike (walkCheck (a .text) (a .version) (a .depth) (a .limit) (a .list) (a .pool)) (scratch ∷ out ∷ []) (formed (ruleFor a) (strictlyNormalized a) scratch out)
     (formed (ruleFor a) p scratch out) (formed-alike (ruleFor a) (strictlyNormalized a) p (keeps a) scratch out)
+
+-- ---- demand 1
+
+guarded-refuses : (checks : Answer) (buffers : List (List ℕ)) {c d : Called} → RefusesStrictly buffers d c
+    → RefusesStrictly buffers (guarded checks buffers d) (guarded checks buffers c)
+guarded-refuses (Done first second) buffers h = h
+guarded-refuses (Refused number first second) buffers h = as-lenient
+
+-- what is left of an outcome, where a refusal leaves the buffers
+left-refuses : (left : Outcome → Called) (buffers : List (List ℕ))
+    → ((before : List ℕ) (m why first second : ℕ) → left (refused before m why first second) ≡ called why (first ∷ second ∷ []) buffers)
+    → (o p : Outcome) → Keeps strictOnly o p → RefusesStrictly buffers (left p) (left o)
+left-refuses left buffers leaves (done value m) p h = subst (λ (x : Outcome). RefusesStrictly buffers (left x) (left (done value m))) (sym h) as-lenient
+left-refuses left buffers leaves (refused before m why first second) p h = go (strictOnly why) refl
+  where
+    go : (t : Bool) → strictOnly why ≡ t → RefusesStrictly buffers (left p) (left (refused before m why first second))
+    go true e = subst (RefusesStrictly buffers (left p)) (sym (leaves before m why first second)) (by-the-rule why (first ∷ second ∷ []) e)
+    go false e = subst (λ (x : Outcome). RefusesStrictly buffers (left x) (left (refused before m why first second))) (sym (kept-alike why h e)) as-lenient
+
+-- Demand 1, of the strict normalization: by 25 and 26 too the output's bytes are untouched
+pub k8-refuses : (a : Asked) (out : List ℕ) → RefusesStrictly (out ∷ []) (normalizeOf a out) (strictNormalizeOf a out)
+unfolding normalizeAttributeValueCall normalizeAttributeValueStrictCall readingBy finished
+k8-refuses a out =
+    let p = normalize (readingBy false (ruleFor a) (a .list) (a .pool) (a .limit)) (a .depth) (a .text) in
+    guarded-refuses (walkCheck (a .text) (a .version) (a .depth) (a .limit) (a .list) (a .pool)) (out ∷ [])
+    (left-refuses (λ (o : Outcome). finished o out) (out ∷ []) (λ before m why first second. refl) (strictlyNormalized a) p (keeps a))
+
+-- and of the strict canonical form: those of the scratch too
+pub k8-form-refuses : (a : Asked) (scratch out : List ℕ) → RefusesStrictly (scratch ∷ out ∷ []) (canonicalOf a scratch out) (strictCanonicalOf a scratch out)
+unfolding canonicalFormCall canonicalFormStrictCall readingBy formed
+k8-form-refuses a scratch out =
+    let p = normalize (readingBy false (ruleFor a) (a .list) (a .pool) (a .limit)) (a .depth) (a .text) in
+    guarded-refuses (walkCheck (a .text) (a .version) (a .depth) (a .limit) (a .list) (a .pool)) (scratch ∷ out ∷ [])
+    (left-refuses (λ (o : Outcome). formed (ruleFor a) o scratch out) (scratch ∷ out ∷ []) (λ before m why first second. refl) (strictlyNormalized a) p (keeps a))
 
 -- ---- a strict call that answered 0
 

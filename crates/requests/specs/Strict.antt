@@ -2,7 +2,7 @@
 use mathlib.Core.Path.{_≡_}
 use mathlib.Core.Logic.{_↔_}
 use Prim.Native.Nat.{ℕ, _≤_}
-use mathlib.Core.Bool.{false, _||_}
+use mathlib.Core.Bool.{true, false, _||_}
 use mathlib.Core.Option.{Option}
 use mathlib.Core.List.{List, [], _∷_}
 use lib.Dec.{eqb}
@@ -26,6 +26,12 @@ strictCanonicalOf a scratch out = canonicalFormStrictCall (a .text) (a .version)
 -- K8: "alike but for 25 and 26": any other answer is the lenient call's, number, words and buffers
 abbrev pub AlikeBut : Called → Called → Type 0
 AlikeBut (called number words buffers) lenient = eqb number 25 || eqb number 26 ≡ false → lenient ≡ called number words buffers
+
+-- demand 1 of a strict call: 25 or 26 leaves the lent buffers as they were at entry; else the answer is the lenient call's, of which demand 1
+-- speaks
+pub data RefusesStrictly (entry : List (List ℕ)) (lenient : Called) : Called → Type 0 where
+  by-the-rule : (number : ℕ) (words : List ℕ) → eqb number 25 || eqb number 26 ≡ true → RefusesStrictly entry lenient (called number words entry)
+  as-lenient : RefusesStrictly entry lenient lenient
 
 -- XML 1.0 and 1.1, 3.3.3 after 2.11, where a character reference may name only Char (2.2, 4.1): what a call is asked to read
 abbrev pub charStandardOf : Asked → Option (List ℕ)
