@@ -1,3 +1,4 @@
+pub mod Append
 pub mod Between
 pub mod Canonical
 mod Examples
