@@ -14,10 +14,8 @@ use Rattle.text.proofs.Bytes.{pick-by}
 use Rattle.output.proofs.Written.{Written, written-as, written-more, piece-room}
 use Rattle.eols.specs.Stops.{ruleFor}
 use Rattle.text.proofs.Patterns.{begins-fits}
-use Rattle.escape.specs.Escape.{Replacements, attribute, levelOf, levelSet, write, writeByte}
-use Rattle.escape.specs.Scan.{charsSet, levelChars}
-use Rattle.escape.specs.declared.EscapeChars.{EscapeChars}
-use Rattle.escape.proofs.Levels.{chars-level, escape-most}
+use Rattle.escape.specs.Escape.{attribute, levelSet, write, writeByte}
+use Rattle.escape.proofs.Levels.{escape-most}
 use Rattle.canonical.specs.Canonical.{canonicalByte, covered, canonicalFrom, canonical}
 use Rattle.runs.specs.Specials.{special, Common}
 use Rattle.canonical.specs.Runs.{specialReference}
@@ -122,34 +120,26 @@ pub canonical-over : (r : Rule) (t : List ℕ) (i : ℕ) → length t ≤ i → 
 unfolding canonicalFrom
 canonical-over r t i h = rw (drop-of-length-le t h)
 
--- the flags of level 3
-set-three : {chars : EscapeChars} → chars ≡ levelChars (levelOf 3) → charsSet chars ≡ levelSet attribute
-unfolding levelOf
-set-three e = ap charsSet e ∙ chars-level attribute
+module _ (r : Rule) (t : List ℕ) (i e : ℕ) (p : Common r t i e) {run : List ℕ} (same : run ≡ write (levelSet attribute) (take (e - i) (drop i t))) where
+  by-run : canonicalFrom r 0 (drop i t) ≡ run ++ canonicalFrom r 0 (drop e t)
+  by-run = common-write r t i e p ∙ ap (λ (l : List ℕ). l ++ canonicalFrom r 0 (drop e t)) (sym same)
 
-module _ (r : Rule) (t : List ℕ) (i e : ℕ) (p : Common r t i e) {chars : EscapeChars} (three : chars ≡ levelChars (levelOf 3)) where
-  by-chars : canonicalFrom r 0 (drop i t) ≡ write (charsSet chars) (take (e - i) (drop i t)) ++ canonicalFrom r 0 (drop e t)
-  by-chars = common-write r t i e p ∙ ap (λ (s : Replacements). write s (take (e - i) (drop i t)) ++ canonicalFrom r 0 (drop e t)) (sym (set-three three))
+  pub run-length : length (canonicalFrom r 0 (drop i t)) ≡ length run + length (canonicalFrom r 0 (drop e t))
+  run-length = ap length by-run ∙ length-append run (canonicalFrom r 0 (drop e t))
 
-  pub run-length : length (canonicalFrom r 0 (drop i t)) ≡ length (write (charsSet chars) (take (e - i) (drop i t))) + length (canonicalFrom r 0 (drop e t))
-  run-length = ap length by-chars ∙ length-append (write (charsSet chars) (take (e - i) (drop i t))) (canonicalFrom r 0 (drop e t))
-
-  pub run-most : length (write (charsSet chars) (take (e - i) (drop i t))) ≤ 6 * (e - i)
-  run-most =
-      let q = ap (λ (s : Replacements). length (write s (take (e - i) (drop i t)))) (set-three three) in
-      omega (arith, q, escape-most attribute (take (e - i) (drop i t)), length-take (e - i) (drop i t))
+  pub run-most : length run ≤ 6 * (e - i)
+  run-most = omega (arith, ap length same, escape-most attribute (take (e - i) (drop i t)), length-take (e - i) (drop i t))
 
   module _ {whole old out : List ℕ} {at : ℕ} (w : Written whole (canonicalFrom r 0 (drop i t)) old out at) where
-    run-next : Written whole (write (charsSet chars) (take (e - i) (drop i t)) ++ canonicalFrom r 0 (drop e t)) old out at
-    run-next = written-as by-chars w
+    run-next : Written whole (run ++ canonicalFrom r 0 (drop e t)) old out at
+    run-next = written-as by-run w
 
-    pub run-room : length whole ≤ length old → length (write (charsSet chars) (take (e - i) (drop i t))) ≤ length (midOf at (length out - at) out)
-    run-room h = piece-room (write (charsSet chars) (take (e - i) (drop i t))) (canonicalFrom r 0 (drop e t)) run-next h
+    pub run-room : length whole ≤ length old → length run ≤ length (midOf at (length out - at) out)
+    run-room h = piece-room run (canonicalFrom r 0 (drop e t)) run-next h
 
-    pub run-written : {n : ℕ} {part : List ℕ} → n ≡ length (write (charsSet chars) (take (e - i) (drop i t)))
-        → part ≡ laid (write (charsSet chars) (take (e - i) (drop i t))) (midOf at (length out - at) out)
+    pub run-written : {n : ℕ} {part : List ℕ} → n ≡ length run → part ≡ laid run (midOf at (length out - at) out)
         → Written whole (canonicalFrom r 0 (drop e t)) old (putMid at (length out - at) out part) (at + n)
-    run-written m q = rw m (written-more (write (charsSet chars) (take (e - i) (drop i t))) run-next q)
+    run-written m q = rw m (written-more run run-next q)
 
 module _ (newer : Bool) (t : List ℕ) (i : ℕ) (h : i < length t) (some : 0 < special (ruleFor newer) (drop i t)) {w : ℕ} (e : w ≡ special xml11 (drop i t)) where
   own-width : w ≡ special (ruleFor newer) (drop i t)

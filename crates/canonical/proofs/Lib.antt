@@ -2,3 +2,4 @@ pub mod Append
 pub mod Between
 pub mod Canonical
 mod Examples
+pub mod Spaced

@@ -5,10 +5,15 @@ ghost use Prim.Native.Nat.{_+_, _≤_, _<_};
 ghost use lib.ListN.{length, drop};
 ghost use Rattle.text.specs.Version.{xml11};
 ghost use Rattle.text.specs.Call.{laid};
+ghost use Rattle.text.specs.Bytes.{pick};
 ghost use Rattle.eols.specs.Stops.{ruleFor};
+ghost use Rattle.halts.specs.Halts.{blanksSpaced};
+ghost use Rattle.escape.specs.Escape.{full, attribute};
+ghost use Rattle.escape.specs.Scan.{levelChars, shown};
 ghost use Rattle.canonical.specs.Canonical.{canonical};
 ghost use Rattle.runs.specs.Specials.{special, Common};
 ghost use Rattle.canonical.specs.Runs.{specialReference};
+use escape::EscapeChars;
 use text::pattern;
 
 // The width of the U+0085 or U+2028 at i, 0 where none is.
@@ -67,43 +72,87 @@ fn put_special(width: usize, out: &mut [u8])
     output::put_run(b"&#8232;", out);
 }
 
-// The length of the canonical form.
-pub fn canonical_length(value: &[u8], newer: bool) -> usize
-    requires { ⌜ length (now value) ≤ 0x1000000000000 ⌝ }
-    ensures { λ r. ⌜ r ≡ length (canonical (ruleFor newer) (now (value .entry))) ⌝ }
+// What is escaped in a run: where its TAB and LF are spaces, these are none.
+fn run_chars(spaces: bool) -> EscapeChars
+    ensures { λ r. ⌜ r ≡ levelChars (pick spaces full attribute) ⌝ }
 {
-    let chars = escape::escape_chars(3);
+    if spaces {
+        return escape::escape_chars(0);
+    }
+    escape::escape_chars(3)
+}
+
+// The length of the canonical form of a text, its TAB and LF as spaces where these are wanted.
+fn form_length(text: &[u8], newer: bool, spaces: bool) -> usize
+    requires { ⌜ length (now text) ≤ 0x1000000000000 ⌝ }
+    ensures { λ r. ⌜ r ≡ length (canonical (ruleFor newer) (shown spaces (now (text .entry)))) ⌝ }
+{
+    let chars = run_chars(spaces);
     let mut n: usize = 0;
     let mut i: usize = 0;
     loop {
-        let end = next_special(value, i, newer);
-        n += escape::escaped_length(&value[i..end], chars);
-        if end == value.len() {
+        let end = next_special(text, i, newer);
+        n += escape::escaped_length(&text[i..end], chars);
+        if end == text.len() {
             return n;
         }
-        let width = special_width(value, end);
+        let width = special_width(text, end);
         n += special_length(width);
         i = end + width;
     }
 }
 
-// Writes the canonical form at the start of `out`, and keeps the rest. The length written.
-pub fn write_canonical(value: &[u8], newer: bool, out: &mut [u8]) -> usize
-    requires { ⌜ length (canonical (ruleFor newer) (now value)) ≤ length (now out) ⌝ }
-    ensures { λ r. ⌜ (r ≡ length (canonical (ruleFor newer) (now (value .entry)))) × (now (out .exit) ≡ laid (canonical (ruleFor newer) (now (value .entry))) (now (out .entry))) ⌝ }
+// Writes it at the start of `out`, and keeps the rest. The length written.
+fn write_form(text: &[u8], newer: bool, spaces: bool, out: &mut [u8]) -> usize
+    requires { ⌜ length (canonical (ruleFor newer) (shown spaces (now text))) ≤ length (now out) ⌝ }
+    ensures { λ r. ⌜ r ≡ length (canonical (ruleFor newer) (shown spaces (now (text .entry)))) ⌝ }
+    ensures { λ r. ⌜ now (out .exit) ≡ laid (canonical (ruleFor newer) (shown spaces (now (text .entry)))) (now (out .entry)) ⌝ }
 {
-    let chars = escape::escape_chars(3);
+    let chars = run_chars(spaces);
     let mut at: usize = 0;
     let mut i: usize = 0;
     loop {
-        let end = next_special(value, i, newer);
-        at += escape::write_escaped(&value[i..end], chars, &mut out[at..]);
-        if end == value.len() {
+        let end = next_special(text, i, newer);
+        at += escape::write_escaped(&text[i..end], chars, spaces, &mut out[at..]);
+        if end == text.len() {
             return at;
         }
-        let width = special_width(value, end);
+        let width = special_width(text, end);
         put_special(width, &mut out[at..]);
         at += special_length(width);
         i = end + width;
     }
+}
+
+// The length of the canonical form of a value.
+pub fn canonical_length(value: &[u8], newer: bool) -> usize
+    requires { ⌜ length (now value) ≤ 0x1000000000000 ⌝ }
+    ensures { λ r. ⌜ r ≡ length (canonical (ruleFor newer) (now (value .entry))) ⌝ }
+{
+    form_length(value, newer, false)
+}
+
+// Writes it at the start of `out`, and keeps the rest. The length written.
+pub fn write_canonical(value: &[u8], newer: bool, out: &mut [u8]) -> usize
+    requires { ⌜ length (canonical (ruleFor newer) (now value)) ≤ length (now out) ⌝ }
+    ensures { λ r. ⌜ (r ≡ length (canonical (ruleFor newer) (now (value .entry)))) × (now (out .exit) ≡ laid (canonical (ruleFor newer) (now (value .entry))) (now (out .entry))) ⌝ }
+{
+    write_form(value, newer, false, out)
+}
+
+// The length of the canonical form of a run, in which TAB and LF stand for spaces.
+pub fn spaced_length(run: &[u8], newer: bool) -> usize
+    requires { ⌜ length (now run) ≤ 0x1000000000000 ⌝ }
+    ensures { λ r. ⌜ r ≡ length (canonical (ruleFor newer) (blanksSpaced (now (run .entry)))) ⌝ }
+{
+    form_length(run, newer, true)
+}
+
+// Writes it at the start of `out`, and keeps the rest. The length written.
+pub fn write_spaced(run: &[u8], newer: bool, out: &mut [u8]) -> usize
+    requires { ⌜ length (canonical (ruleFor newer) (blanksSpaced (now run))) ≤ length (now out) ⌝ }
+    ensures { λ r. ⌜ r ≡ length (canonical (ruleFor newer) (blanksSpaced (now (run .entry)))) ⌝ }
+    ensures { λ r. ⌜ now (out .exit) ≡ laid (canonical (ruleFor newer) (blanksSpaced (now (run .entry)))) (now (out .entry)) ⌝ }
+{
+    write_form(run, newer, true, out)
 }

@@ -1,9 +1,11 @@
 -- The terms in which the code is proved to write as the definitions say. No promise of a call rests on these. Assumes nothing.
+use mathlib.Core.Path.{_≡_}
 use Prim.Native.Nat.{ℕ, _+_}
 use mathlib.Core.Bool.{Bool, true, false, _&&_, _||_}
 use mathlib.Core.List.{List}
 use lib.Dec.{eqb}
 use Rattle.text.specs.Bytes.{pick}
+use Rattle.halts.specs.Halts.{blanksSpaced}
 use Rattle.escape.specs.Escape.{Replacements, Level, full, partial, minimal, attribute, reference, hexReference}
 use Rattle.escape.specs.declared.EscapeChars.{EscapeChars}
 
@@ -46,3 +48,16 @@ levelChars full = record { blanks = false; apos = true; quot = true; gt = true; 
 levelChars partial = record { blanks = false; apos = false; quot = false; gt = true; hex = false }
 levelChars minimal = record { blanks = false; apos = false; quot = false; gt = false; hex = false }
 levelChars attribute = record { blanks = true; apos = true; quot = true; gt = true; hex = false }
+
+-- ---- runs whose TAB and LF are copied as spaces, where these are wanted
+
+abbrev pub shownByte : Bool → ℕ → ℕ
+shownByte spaces b = pick (spaces && (eqb b 9 || eqb b 10)) 32 b
+
+abbrev pub shown : Bool → List ℕ → List ℕ
+shown false text = text
+shown true text = blanksSpaced text
+
+-- the flags leave both to be copied there
+abbrev pub Shows : EscapeChars → Bool → Type 0
+Shows chars spaces = spaces ≡ true → chars .blanks ≡ false

@@ -9,7 +9,7 @@ ghost use Rattle.text.specs.Bytes.{pick};
 ghost use Rattle.text.specs.Call.{laid, finish, callOf, longestText};
 ghost use Rattle.escape.specs.Escape.{write, levelOf, levelSet, levelCheck};
 ghost use Rattle.output.specs.Runs.{Plain, Copied, Ends, Room};
-ghost use Rattle.escape.specs.Scan.{escapedBy, referenceBy, tabAdded, addedBy, charsSet, levelChars};
+ghost use Rattle.escape.specs.Scan.{escapedBy, referenceBy, tabAdded, addedBy, charsSet, levelChars, shownByte, shown, Shows};
 use text::Answer;
 use text::refusals;
 
@@ -228,27 +228,53 @@ pub fn escaped_length(text: &[u8], chars: EscapeChars) -> usize
     n + added_rest(text, i, rest, chars) + text.len()
 }
 
+// A byte that is copied: TAB and LF as spaces where these are wanted.
+fn shown_byte(b: u8, spaces: bool) -> u8
+    ensures { λ r. ⌜ r ≡ shownByte spaces b ⌝ }
+{
+    if spaces & ((b == b'\t') | (b == b'\n')) {
+        b' '
+    } else {
+        b
+    }
+}
+
+// Sixteen of them.
+fn put_shown(src: &[u8], spaces: bool, out: &mut [u8])
+    requires { ⌜ length (now src) ≡ 16 ⌝ }
+    requires { ⌜ 16 ≤ length (now out) ⌝ }
+    ensures { λ _. ⌜ now (out .exit) ≡ laid (shown spaces (now (src .entry))) (now (out .entry)) ⌝ }
+{
+    if spaces {
+        halts::put_spaced_block(src, out);
+        return;
+    }
+    output::put_block(src, out);
+}
+
 // Copies the blocks at the text's start of which no byte is escaped, each as soon as it is tested.
-fn put_blocks(text: &[u8], chars: EscapeChars, out: &mut [u8]) -> usize
-    requires { ⌜ Room (escapedBy chars) (now text) (now out) ⌝ }
-    ensures { λ r. ⌜ Copied (escapedBy chars) (now (text .entry)) (now (out .entry)) (now (out .exit)) r ⌝ }
+fn put_blocks(text: &[u8], chars: EscapeChars, spaces: bool, out: &mut [u8]) -> usize
+    requires { ⌜ Shows chars spaces ⌝ }
+    requires { ⌜ Room (escapedBy chars) (shown spaces (now text)) (now out) ⌝ }
+    ensures { λ r. ⌜ Copied (escapedBy chars) (shown spaces (now (text .entry))) (now (out .entry)) (now (out .exit)) r ⌝ }
 {
     let mut i: usize = 0;
     while 16 <= text.len() - i {
         if any_escaped(text, i, chars) {
             return i;
         }
-        output::put_block(&text[i..i + 16], &mut out[i..]);
+        put_shown(&text[i..i + 16], spaces, &mut out[i..]);
         i += 16;
     }
     i
 }
 
 // Copies the bytes up to the next that is escaped, or to the end.
-fn put_bytes(text: &[u8], chars: EscapeChars, out: &mut [u8]) -> usize
-    requires { ⌜ Room (escapedBy chars) (now text) (now out) ⌝ }
-    ensures { λ r. ⌜ Copied (escapedBy chars) (now (text .entry)) (now (out .entry)) (now (out .exit)) r ⌝ }
-    ensures { λ r. ⌜ Ends (escapedBy chars) (now (text .entry)) r ⌝ }
+fn put_bytes(text: &[u8], chars: EscapeChars, spaces: bool, out: &mut [u8]) -> usize
+    requires { ⌜ Shows chars spaces ⌝ }
+    requires { ⌜ Room (escapedBy chars) (shown spaces (now text)) (now out) ⌝ }
+    ensures { λ r. ⌜ Copied (escapedBy chars) (shown spaces (now (text .entry))) (now (out .entry)) (now (out .exit)) r ⌝ }
+    ensures { λ r. ⌜ Ends (escapedBy chars) (shown spaces (now (text .entry))) r ⌝ }
 {
     let mut i: usize = 0;
     while i < text.len() {
@@ -256,32 +282,35 @@ fn put_bytes(text: &[u8], chars: EscapeChars, out: &mut [u8]) -> usize
         if is_escaped(chars, b) {
             return i;
         }
-        out[i] = b;
+        out[i] = shown_byte(b, spaces);
         i += 1;
     }
     i
 }
 
 // The same by blocks first, and says how many.
-fn put_plain(text: &[u8], chars: EscapeChars, out: &mut [u8]) -> usize
-    requires { ⌜ Room (escapedBy chars) (now text) (now out) ⌝ }
-    ensures { λ r. ⌜ Copied (escapedBy chars) (now (text .entry)) (now (out .entry)) (now (out .exit)) r ⌝ }
-    ensures { λ r. ⌜ Ends (escapedBy chars) (now (text .entry)) r ⌝ }
+fn put_plain(text: &[u8], chars: EscapeChars, spaces: bool, out: &mut [u8]) -> usize
+    requires { ⌜ Shows chars spaces ⌝ }
+    requires { ⌜ Room (escapedBy chars) (shown spaces (now text)) (now out) ⌝ }
+    ensures { λ r. ⌜ Copied (escapedBy chars) (shown spaces (now (text .entry))) (now (out .entry)) (now (out .exit)) r ⌝ }
+    ensures { λ r. ⌜ Ends (escapedBy chars) (shown spaces (now (text .entry))) r ⌝ }
 {
-    let near = put_blocks(text, chars, out);
-    near + put_bytes(&text[near..], chars, &mut out[near..])
+    let near = put_blocks(text, chars, spaces, out);
+    near + put_bytes(&text[near..], chars, spaces, &mut out[near..])
 }
 
-// Writes the escaped text at the start of `out`, keeps the rest, and says how many bytes it wrote.
-pub fn write_escaped(text: &[u8], chars: EscapeChars, out: &mut [u8]) -> usize
-    requires { ⌜ length (write (charsSet chars) (now text)) ≤ length (now out) ⌝ }
-    ensures { λ r. ⌜ r ≡ length (write (charsSet chars) (now (text .entry))) ⌝ }
-    ensures { λ r. ⌜ now (out .exit) ≡ laid (write (charsSet chars) (now (text .entry))) (now (out .entry)) ⌝ }
+// Writes the escaped text at the start of `out`, keeps the rest, and says how many bytes it wrote. Where spaces are wanted, TAB and LF
+// are copied as spaces.
+pub fn write_escaped(text: &[u8], chars: EscapeChars, spaces: bool, out: &mut [u8]) -> usize
+    requires { ⌜ Shows chars spaces ⌝ }
+    requires { ⌜ length (write (charsSet chars) (shown spaces (now text))) ≤ length (now out) ⌝ }
+    ensures { λ r. ⌜ r ≡ length (write (charsSet chars) (shown spaces (now (text .entry)))) ⌝ }
+    ensures { λ r. ⌜ now (out .exit) ≡ laid (write (charsSet chars) (shown spaces (now (text .entry)))) (now (out .entry)) ⌝ }
 {
     let mut at: usize = 0;
     let mut i: usize = 0;
     loop {
-        let count = put_plain(&text[i..], chars, &mut out[at..]);
+        let count = put_plain(&text[i..], chars, spaces, &mut out[at..]);
         let end = i + count;
         at += count;
         if end == text.len() {
@@ -308,7 +337,7 @@ pub fn escape_by(text: &[u8], chars: EscapeChars, out: &mut [u8]) -> Answer
             };
         }
     }
-    let written = write_escaped(text, chars, out);
+    let written = write_escaped(text, chars, false, out);
     Answer::Done {
         first: written as u64,
         second: 0,

@@ -53,7 +53,7 @@ pub spaced-length : (t : List ℕ) → length (blanksSpaced t) ≡ length t
 spaced-length [] = refl
 spaced-length (b ∷ bs) = ap suc (spaced-length bs)
 
-spaced-at : (t : List ℕ) (k : ℕ) → getD (blanksSpaced t) k 0 ≡ spaced (getD t k 0)
+pub spaced-at : (t : List ℕ) (k : ℕ) → getD (blanksSpaced t) k 0 ≡ spaced (getD t k 0)
 spaced-at [] k = refl
 spaced-at (b ∷ bs) zero = refl
 spaced-at (b ∷ bs) (suc k) = spaced-at bs k

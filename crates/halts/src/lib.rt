@@ -420,6 +420,15 @@ fn put_spaced_4(src: &[u8], from: usize, out: &mut [u8])
     }
 }
 
+// A run of 16 bytes.
+pub fn put_spaced_block(src: &[u8], out: &mut [u8])
+    requires { ⌜ length (now src) ≡ 16 ⌝ }
+    requires { ⌜ 16 ≤ length (now out) ⌝ }
+    ensures { λ _. ⌜ now (out .exit) ≡ laid (blanksSpaced (now (src .entry))) (now (out .entry)) ⌝ }
+{
+    put_spaced_16(src, 0, out);
+}
+
 // A run of up to 3 bytes: the count is fixed, so that the loop is unrolled.
 fn put_spaced_few(src: &[u8], out: &mut [u8])
     requires { ⌜ (length (now src) ≤ 3) × (length (now src) ≤ length (now out)) ⌝ }

@@ -1,4 +1,6 @@
 -- `escape_by` meets its contract: there is room by the count or by six bytes for each byte. Assumes nothing.
+use mathlib.Core.Path.{sym}
+use mathlib.Core.Bool.{true≢false}
 use mathlib.Core.Logic.{⊎-elim}
 use Prim.Native.Nat.{_≤_}
 use native.Mathlib.Omega.{arith}
@@ -34,7 +36,7 @@ fits c =
     ⊎-elim (λ w. omega (arith, w .1 .ensures, w .2)) (λ w. omega (arith, w .left, most)) (c .if1 .came)
 
 write-escaped-requires : tie.Need-write-escaped-requires
-write-escaped-requires c κs = fits (c .before)
+write-escaped-requires c κs = (λ q. absurd (true≢false (sym q)), fits (c .before))
 
 same-length : tie.Need-same-length
 same-length c = search needs
