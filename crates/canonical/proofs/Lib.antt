@@ -1,5 +1,6 @@
 pub mod Append
 pub mod Between
 pub mod Canonical
+pub mod Characters
 mod Examples
 pub mod Spaced

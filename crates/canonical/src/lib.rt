@@ -8,6 +8,7 @@ ghost use Rattle.text.specs.Call.{laid};
 ghost use Rattle.text.specs.Bytes.{pick};
 ghost use Rattle.eols.specs.Stops.{ruleFor};
 ghost use Rattle.halts.specs.Halts.{blanksSpaced};
+ghost use Rattle.charref.specs.CharRef.{encode};
 ghost use Rattle.escape.specs.Escape.{full, attribute};
 ghost use Rattle.escape.specs.Scan.{levelChars, shown};
 ghost use Rattle.canonical.specs.Canonical.{canonical};
@@ -155,4 +156,41 @@ pub fn write_spaced(run: &[u8], newer: bool, out: &mut [u8]) -> usize
     ensures { λ r. ⌜ now (out .exit) ≡ laid (canonical (ruleFor newer) (blanksSpaced (now (run .entry)))) (now (out .entry)) ⌝ }
 {
     write_form(run, newer, true, out)
+}
+
+// The length of the canonical form of a character.
+pub fn char_length(c: u32, newer: bool) -> usize
+    ensures { λ r. ⌜ r ≡ length (canonical (ruleFor newer) (encode c)) ⌝ }
+{
+    if c < 0x80 {
+        return escape::added_one(escape::escape_chars(3), c as u8) as usize + 1;
+    }
+    if newer & (c == 0x85) {
+        return special_length(2);
+    }
+    if newer & (c == 0x2028) {
+        return special_length(3);
+    }
+    charref::utf8_length(c)
+}
+
+// Writes it at the start of `out`, and keeps the rest. The length written.
+pub fn write_char(c: u32, newer: bool, out: &mut [u8]) -> usize
+    requires { ⌜ c ≤ 1114111 ⌝ }
+    requires { ⌜ length (canonical (ruleFor newer) (encode c)) ≤ length (now out) ⌝ }
+    ensures { λ r. ⌜ r ≡ length (canonical (ruleFor newer) (encode c)) ⌝ }
+    ensures { λ r. ⌜ now (out .exit) ≡ laid (canonical (ruleFor newer) (encode c)) (now (out .entry)) ⌝ }
+{
+    if c < 0x80 {
+        return escape::escape_char(c as u8, out);
+    }
+    if newer & (c == 0x85) {
+        put_special(2, out);
+        return special_length(2);
+    }
+    if newer & (c == 0x2028) {
+        put_special(3, out);
+        return special_length(3);
+    }
+    charref::encode_utf8(c, out)
 }

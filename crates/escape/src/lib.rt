@@ -192,7 +192,7 @@ fn added_part(text: &[u8], i: usize, count: usize, chars: EscapeChars) -> u8
 }
 
 // The same for a byte by itself.
-fn added_one(chars: EscapeChars, b: u8) -> u8
+pub fn added_one(chars: EscapeChars, b: u8) -> u8
     ensures { λ r. ⌜ r ≡ addedBy chars b ⌝ }
 {
     if b'>' < b {
