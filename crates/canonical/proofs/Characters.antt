@@ -53,29 +53,31 @@ high-byte b h =
       ne-eqb b 13 (λ q. omega arith),
     )
 
-no-lead : (r : Rule) (b : ℕ) (bs : List ℕ) → b ≢ 0xC2 → b ≢ 0xE2 → special r (b ∷ bs) ≡ 0
+pub no-lead : (r : Rule) (b : ℕ) (bs : List ℕ) → b ≢ 0xC2 → b ≢ 0xE2 → special r (b ∷ bs) ≡ 0
 no-lead xml10 b bs p q = refl
 no-lead xml11 b bs p q = rw (ne-eqb b 0xC2 p, ne-eqb b 0xE2 q)
 
-copied : (r : Rule) (b : ℕ) (bs : List ℕ) → 0x80 ≤ b → special r (b ∷ bs) ≡ 0 → canonicalFrom r 0 bs ≡ bs → canonicalFrom r 0 (b ∷ bs) ≡ b ∷ bs
+pub copied : (r : Rule) (b : ℕ) (bs : List ℕ) → 0x80 ≤ b → special r (b ∷ bs) ≡ 0 → canonicalFrom r 0 bs ≡ bs → canonicalFrom r 0 (b ∷ bs) ≡ b ∷ bs
 copied r b bs h s e = common-byte r b bs s ∙ ap₂ _++_ (high-byte b h) e
 
 tail-copied : (r : Rule) (n : ℕ) (bs : List ℕ) → canonicalFrom r 0 bs ≡ bs → canonicalFrom r 0 ((0x80 + n % 64) ∷ bs) ≡ (0x80 + n % 64) ∷ bs
 tail-copied r n bs e = copied r (0x80 + n % 64) bs (omega arith) (no-lead r (0x80 + n % 64) bs (λ q. omega arith) (λ q. omega arith)) e
 
-none : (r : Rule) → canonicalFrom r 0 [] ≡ []
+pub none : (r : Rule) → canonicalFrom r 0 [] ≡ []
 unfolding canonicalFrom
 none r = refl
 
 -- ---- characters
 
-pub char-ascii : (r : Rule) (c : ℕ) → c < 0x80 → canonical r (encode c) ≡ writeByte (levelSet attribute) c
+pub byte-form : (r : Rule) (c : ℕ) → c < 0x80 → canonical r (c ∷ []) ≡ writeByte (levelSet attribute) c
 unfolding canonical
-char-ascii r c h =
-    ap (canonical r) (encode-1 c h)
-    ∙ common-byte r c [] (no-lead r c [] (λ q. omega arith) (λ q. omega arith))
+byte-form r c h =
+    common-byte r c [] (no-lead r c [] (λ q. omega arith) (λ q. omega arith))
     ∙ ap (λ (l : List ℕ). writeByte (levelSet attribute) c ++ l) (none r)
     ∙ append-nil (writeByte (levelSet attribute) c)
+
+pub char-ascii : (r : Rule) (c : ℕ) → c < 0x80 → canonical r (encode c) ≡ writeByte (levelSet attribute) c
+char-ascii r c h = ap (canonical r) (encode-1 c h) ∙ byte-form r c h
 
 pub char-reference : (r : Rule) (c : ℕ) → c < 0x80 → canonical r (encode c) ≡ reference c
 char-reference r c h = char-ascii r c h ∙ byte-reference c (kind c)
@@ -108,7 +110,7 @@ apart false c p q = tt
 apart true c p q = (λ e. true≢false (sym (eq-eqb c 0x85 e) ∙ p), λ e. true≢false (sym (eq-eqb c 0x2028 e) ∙ q))
 
 -- a test of bytes that are not all there
-not-all : (a b : Bool) → ((a ≡ true) → (b ≡ true) → ⊥) → a && b ≡ false
+pub not-all : (a b : Bool) → ((a ≡ true) → (b ≡ true) → ⊥) → a && b ≡ false
 not-all true true h = absurd (h refl refl)
 not-all true false h = refl
 not-all false b h = refl

@@ -3,4 +3,6 @@ pub mod Between
 pub mod Canonical
 pub mod Characters
 mod Examples
+pub mod LastCharacter
+pub mod Singles
 pub mod Spaced

@@ -1,3 +1,4 @@
 pub mod Canonical
+pub mod LastCharacter
 pub mod Runs
 pub mod Starts

@@ -1,11 +1,13 @@
 // The canonical form of a normalized value: level 3, and under XML 1.1 also U+0085 and U+2028 as references. Runs between
 // those two go to the writer of level 3.
 ghost use mathlib.Core.Path.{_≡_};
-ghost use Prim.Native.Nat.{_+_, _≤_, _<_};
+ghost use mathlib.Core.List.{List, [], _∷_, _++_};
+ghost use Prim.Native.Nat.{ℕ, _+_, _≤_, _<_};
 ghost use lib.ListN.{length, drop};
-ghost use Rattle.text.specs.Version.{xml11};
+ghost use Rattle.text.specs.Version.{Rule, xml11};
+ghost use Rattle.text.specs.Utf8.{WellFormed};
 ghost use Rattle.text.specs.Call.{laid};
-ghost use Rattle.text.specs.Bytes.{pick};
+ghost use Rattle.text.specs.Bytes.{pick, begins};
 ghost use Rattle.eols.specs.Stops.{ruleFor};
 ghost use Rattle.halts.specs.Halts.{blanksSpaced};
 ghost use Rattle.charref.specs.CharRef.{encode};
@@ -14,8 +16,17 @@ ghost use Rattle.escape.specs.Scan.{levelChars, shown};
 ghost use Rattle.canonical.specs.Canonical.{canonical};
 ghost use Rattle.runs.specs.Specials.{special, Common};
 ghost use Rattle.canonical.specs.Runs.{specialReference};
+ghost use Rattle.canonical.specs.LastCharacter.{filledUp, inHand, handBytes, FormOf, Single, LastRaw, endsWith, lastNumbered, lastNamed};
 use escape::EscapeChars;
 use text::pattern;
+
+// A character's bytes, filled up with zero bytes.
+pub struct Hand {
+    pub first: u8,
+    pub second: u8,
+    pub third: u8,
+    pub fourth: u8,
+}
 
 // The width of the U+0085 or U+2028 at i, 0 where none is.
 fn special_width(value: &[u8], i: usize) -> usize
@@ -193,4 +204,122 @@ pub fn write_char(c: u32, newer: bool, out: &mut [u8]) -> usize
         return special_length(3);
     }
     charref::encode_utf8(c, out)
+}
+
+// ---- the last character of a value, read off the end of its form
+
+// Does the form go on with these bytes at a place?
+fn bytes_at(form: &[u8], at: usize, bytes: &[u8]) -> bool
+    requires { ⌜ at + length (now bytes) ≤ length (now form) ⌝ }
+    ensures { λ r. ⌜ r ≡ begins (now (bytes .entry)) (drop at (now (form .entry))) ⌝ }
+{
+    let mut i: usize = 0;
+    while i < bytes.len() {
+        if form[at + i] != bytes[i] {
+            return false;
+        }
+        i += 1;
+    }
+    true
+}
+
+fn ends_with(form: &[u8], bytes: &[u8]) -> bool
+    ensures { λ r. ⌜ r ≡ endsWith (now (bytes .entry)) (now (form .entry)) ⌝ }
+{
+    if form.len() < bytes.len() {
+        return false;
+    }
+    bytes_at(form, form.len() - bytes.len(), bytes)
+}
+
+fn held(first: u8, second: u8, third: u8) -> Hand
+    ensures { λ r. ⌜ handBytes r ≡ first ∷ second ∷ third ∷ 0 ∷ [] ⌝ }
+{
+    Hand {
+        first,
+        second,
+        third,
+        fourth: 0,
+    }
+}
+
+// The character of the reference with which the form ends; `;` where it ends with none.
+fn named_hand(form: &[u8]) -> Hand
+    ensures { λ r. ⌜ handBytes r ≡ filledUp 4 (lastNamed (now (form .entry))) ⌝ }
+{
+    if ends_with(form, b"&lt;") {
+        return held(b'<', 0, 0);
+    }
+    if ends_with(form, b"&gt;") {
+        return held(b'>', 0, 0);
+    }
+    if ends_with(form, b"&amp;") {
+        return held(b'&', 0, 0);
+    }
+    if ends_with(form, b"&apos;") {
+        return held(b'\'', 0, 0);
+    }
+    if ends_with(form, b"&quot;") {
+        return held(b'"', 0, 0);
+    }
+    numbered_hand(form)
+}
+
+// The same for those of a number.
+fn numbered_hand(form: &[u8]) -> Hand
+    ensures { λ r. ⌜ handBytes r ≡ filledUp 4 (lastNumbered (now (form .entry))) ⌝ }
+{
+    if ends_with(form, b"&#13;") {
+        return held(b'\r', 0, 0);
+    }
+    if ends_with(form, b"&#10;") {
+        return held(b'\n', 0, 0);
+    }
+    if ends_with(form, b"&#9;") {
+        return held(b'\t', 0, 0);
+    }
+    if ends_with(form, b"&#133;") {
+        return held(0xc2, 0x85, 0);
+    }
+    if ends_with(form, b"&#8232;") {
+        return held(0xe2, 0x80, 0xa8);
+    }
+    held(b';', 0, 0)
+}
+
+// A character that stands at the form's end as it is.
+fn raw_hand(form: &[u8]) -> Hand
+    requires { ⌜ LastRaw (now form) ⌝ }
+    ensures { λ r. ⌜ ((front char : List ℕ) → Single char → now (form .entry) ≡ front ++ char → handBytes r ≡ filledUp 4 char) ⌝ }
+{
+    let n = form.len();
+    let d = form[n - 1];
+    if d < 0x80 {
+        return held(d, 0, 0);
+    }
+    let c = form[n - 2];
+    if 0xc0 <= c {
+        return held(c, d, 0);
+    }
+    let b = form[n - 3];
+    if 0xc0 <= b {
+        return held(b, c, d);
+    }
+    Hand {
+        first: form[n - 4],
+        second: b,
+        third: c,
+        fourth: d,
+    }
+}
+
+// The last character of the value that the form is of.
+pub fn last_of(form: &[u8]) -> Hand
+    requires { ⌜ FormOf (now form) ⌝ }
+    ensures { λ r. ⌜ ((rule : Rule) (value : List ℕ) → WellFormed value → 1 ≤ length value → now (form .entry) ≡ canonical rule value → handBytes r ≡ inHand value) ⌝ }
+{
+    if form[form.len() - 1] == b';' {
+        return named_hand(form);
+    }
+    raw_hand(form)
 }
