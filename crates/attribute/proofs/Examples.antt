@@ -9,7 +9,7 @@ use Rattle.text.specs.Call.{called}
 use Rattle.entity.specs.Binding.{binding}
 use Rattle.tokens.specs.Outcome.{Outcome, done, refused}
 use Rattle.attribute.specs.Walk.{normalize, reading, readingOf}
-use Rattle.attribute.specs.Form.{formed}
+use Rattle.attribute.specs.Form.{formed, formedInHand}
 
 -- e = `&lt;x`; amp = `X`
 abbrev list : List ℕ
@@ -102,3 +102,21 @@ forms : (r : Rule) → Forms r
 unfolding Forms formed
 forms xml10 = (refl, refl, refl, refl)
 forms xml11 = (refl, refl, refl, refl)
+
+-- document 02, K7: the value `a<`, whose form ends in `;`; a short output; 3 bytes of scratch, with an empty value and with a refusal of the walk;
+-- an empty value; `&` and then `;`
+Hands : Rule → Type 0
+Hands r =
+    (formedInHand r (done (97 ∷ 60 ∷ []) 7) (1 ∷ 2 ∷ 3 ∷ 4 ∷ 5 ∷ []) (1 ∷ 2 ∷ 3 ∷ 4 ∷ 5 ∷ 6 ∷ [])
+    ≡ called 0 (5 ∷ 7 ∷ []) ((60 ∷ 0 ∷ 0 ∷ 0 ∷ 5 ∷ []) ∷ (97 ∷ 38 ∷ 108 ∷ 116 ∷ 59 ∷ 6 ∷ []) ∷ []))
+    × (formedInHand r (done (97 ∷ 60 ∷ []) 7) (1 ∷ 2 ∷ 3 ∷ 4 ∷ []) (1 ∷ []) ≡ called 19 (5 ∷ 0 ∷ []) ((1 ∷ 2 ∷ 3 ∷ 4 ∷ []) ∷ (1 ∷ []) ∷ []))
+    × (formedInHand r (done [] 0) (1 ∷ 2 ∷ 3 ∷ []) (1 ∷ []) ≡ called 18 (4 ∷ 0 ∷ []) ((1 ∷ 2 ∷ 3 ∷ []) ∷ (1 ∷ []) ∷ []))
+    × (formedInHand r (refused [] 7 11 1 4) (1 ∷ 2 ∷ 3 ∷ []) (1 ∷ []) ≡ called 11 (1 ∷ 4 ∷ []) ((1 ∷ 2 ∷ 3 ∷ []) ∷ (1 ∷ []) ∷ []))
+    × (formedInHand r (done [] 2) (1 ∷ 2 ∷ 3 ∷ 4 ∷ []) (1 ∷ []) ≡ called 0 (0 ∷ 2 ∷ []) ((1 ∷ 2 ∷ 3 ∷ 4 ∷ []) ∷ (1 ∷ []) ∷ []))
+    × (formedInHand r (done (38 ∷ 59 ∷ []) 0) (1 ∷ 2 ∷ 3 ∷ 4 ∷ []) (1 ∷ 2 ∷ 3 ∷ 4 ∷ 5 ∷ 6 ∷ [])
+    ≡ called 0 (6 ∷ 0 ∷ []) ((59 ∷ 0 ∷ 0 ∷ 0 ∷ []) ∷ (38 ∷ 97 ∷ 109 ∷ 112 ∷ 59 ∷ 59 ∷ []) ∷ []))
+
+hands : (r : Rule) → Hands r
+unfolding Hands formedInHand
+hands xml10 = (refl, refl, refl, refl, refl, refl)
+hands xml11 = (refl, refl, refl, refl, refl, refl)

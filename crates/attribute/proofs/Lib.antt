@@ -1,5 +1,6 @@
 pub mod Walked
 pub mod Heads
+pub mod InHand
 pub mod Values
 pub mod Stops
 pub mod Blanks

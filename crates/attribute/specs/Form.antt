@@ -1,4 +1,4 @@
--- The canonical form of an outcome (document 01, Canonical form and Refusals by place). Assumes nothing.
+-- The canonical form of an outcome (document 01, Canonical form and Refusals by place; document 02, K7). Assumes nothing.
 use mathlib.Core.List.{List, [], _∷_}
 use Prim.Native.Nat.{ℕ}
 use lib.Dec.{ltb}
@@ -7,6 +7,7 @@ use Rattle.text.specs.Bytes.{pick}
 use Rattle.text.specs.Version.{Rule}
 use Rattle.text.specs.Call.{Called, called, laid, finish}
 use Rattle.canonical.specs.Canonical.{canonical}
+use Rattle.canonical.specs.LastCharacter.{inHand}
 use Rattle.tokens.specs.Outcome.{Outcome, done, refused}
 
 -- a call's answer with one buffer more in front of its own
@@ -20,3 +21,16 @@ formed r (done value openings) scratch out =
     pick (ltb (length scratch) (length value)) (called 18 (length value ∷ 0 ∷ []) (scratch ∷ out ∷ []))
     (besides (laid value scratch) (finish (canonical r value) openings out))
 formed r (refused before openings number first second) scratch out = called number (first ∷ second ∷ []) (scratch ∷ out ∷ [])
+
+-- K7: after success the first 4 bytes of the scratch are the last character of the value, its rest is kept; an empty value leaves all of it
+abbrev pub handed : List ℕ → List ℕ → List ℕ
+handed [] scratch = scratch
+handed (b ∷ bs) scratch = laid (inHand (b ∷ bs)) scratch
+
+-- K7: 18 where the scratch is shorter than 4 bytes; then 19, which leaves it
+unfoldable pub formedInHand : Rule → Outcome → List ℕ → List ℕ → Called
+unfolding finish canonical inHand
+formedInHand r (done value openings) scratch out =
+    pick (ltb (length scratch) 4) (called 18 (4 ∷ 0 ∷ []) (scratch ∷ out ∷ []))
+    (besides (pick (ltb (length out) (length (canonical r value))) scratch (handed value scratch)) (finish (canonical r value) openings out))
+formedInHand r (refused before openings number first second) scratch out = called number (first ∷ second ∷ []) (scratch ∷ out ∷ [])
