@@ -1,6 +1,5 @@
 -- `bytes_at`: the first i bytes are there (`bytes-next`), so that the rest decides. Assumes nothing.
 use mathlib.Core.Path.{_≡_, refl, sym, ap, _∙_}
-use mathlib.Core.Bool.{Bool, true, false, _&&_}
 use native.Mathlib.Omega.{arith}
 use Prim.Native.Nat.{ℕ, _+_, _-_, _≤_, _<_}
 use lib.ListN.{length, drop}
@@ -28,10 +27,17 @@ shared-slice-read-if1 c = omega (arith, c .before .before .before .pre, c .befor
 shared-slice-read-if1-2 : tie.Need-shared-slice-read-if1-2 Inv-loop μ-loop
 shared-slice-read-if1-2 c = c .before .before .loop-test .taken
 
+-- the turn, seen from after the test of a byte that is there
+abbrev turn : tie.Else1 Inv-loop μ-loop → tie.At-loop Inv-loop μ-loop
+turn c = c .before .before .before .before
+
 returns : tie.Need-returns Inv-loop μ-loop
 returns c =
     let given = c .before .before .before .before .before .args in
-    sym (c .before .before .before .before .loop .inv .1 ∙ bytes-differ (given .bytes .now) (given .form .now) (c .before .before .before .before .loop .i) (given .at + c .before .before .before .before .loop .i) (c .before .before .before .loop-test .taken) (omega (arith, c .before .before .before .before .before .pre, c .before .before .before .loop-test .taken)) (c .if1 .taken))
+    let kept = c .before .before .before .before .loop in
+    let more = c .before .before .before .loop-test .taken in
+    let inside : given .at + kept .i < length (given .form .now) = omega (arith, c .before .before .before .before .before .pre, more) in
+    sym (kept .inv .1 ∙ bytes-differ (given .bytes .now) (given .form .now) (kept .i) (given .at + kept .i) more inside (c .if1 .taken))
 
 add-i : tie.Need-add-i Inv-loop μ-loop
 add-i c = omega (arith, c .before .before .before .loop-test .taken)
@@ -41,11 +47,17 @@ loop-less c = omega (arith, c .before .before .before .loop-test .taken)
 
 loop-again : tie.Need-loop-again Inv-loop μ-loop
 loop-again c =
-    let given = c .before .before .before .before .before .args in
-    (omega (arith, c .before .before .before .loop-test .taken), c .before .before .before .before .loop .inv .1 ∙ bytes-next (given .bytes .now) (given .form .now) (c .before .before .before .before .loop .i) (given .at) (c .before .before .before .loop-test .taken) (omega (arith, c .before .before .before .before .before .pre, c .before .before .before .loop-test .taken)) (c .if1 .left))
+    let kept = turn c .loop in
+    let given = turn c .before .args in
+    let more = c .before .before .before .loop-test .taken in
+    let inside : given .at + kept .i < length (given .form .now) = omega (arith, turn c .before .pre, more) in
+    (omega (arith, more), kept .inv .1 ∙ bytes-next (given .bytes .now) (given .form .now) (kept .i) (given .at) more inside (c .if1 .left))
 
 returns-2 : tie.Need-returns-2 Inv-loop μ-loop
-returns-2 c = let given = c .before .before .args in sym (c .before .loop .inv .1 ∙ bytes-over (given .bytes .now) (drop (given .at + c .before .loop .i) (given .form .now)) (c .before .loop .i) (omega (arith, c .loop-test .left)))
+returns-2 c =
+    let given = c .before .before .args in
+    let kept = c .before .loop in
+    sym (kept .inv .1 ∙ bytes-over (given .bytes .now) (drop (given .at + kept .i) (given .form .now)) (kept .i) (omega (arith, c .loop-test .left)))
 
 pub bytes-at-spec : {M : Type 1} → statement M
 bytes-at-spec =

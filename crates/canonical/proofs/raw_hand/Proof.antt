@@ -34,32 +34,51 @@ shared-slice-read-c c = omega (arith, more-than-1 (c .before .if1 .left) (there 
 held-requires-2 : tie.Need-held-requires-2
 held-requires-2 c κs = search needs
 
+-- places: the entry, seen from where each byte was no lead
+abbrev entry : tie.Else1 → tie.Start
+entry c = c .before .before .before
+
+abbrev high : tie.Else2 → tie.Else1
+high c = c .before .before
+
+abbrev tail : tie.Else3 → tie.Else2
+tail c = c .before .before
+
 returns-2 : tie.Need-returns-2
 unfolding filledUp
-returns-2 c front char single is = c .held2 .ensures ∙ sym (ap (filledUp 4) (back-two (c .before .before .before .if1 .left) (seen _ front single is) (c .before .if2 .taken)))
+returns-2 c front char single is =
+    c .held2 .ensures ∙ sym (ap (filledUp 4) (back-two (c .before .before .before .if1 .left) (seen _ front single is) (c .before .if2 .taken)))
 
 sub-b : tie.Need-sub-b
-sub-b c = more-than-2 (c .before .before .if1 .left) (c .if2 .left) (there (c .before .before .before .before .before))
+sub-b c = more-than-2 (high c .if1 .left) (c .if2 .left) (there (entry (high c)))
 
 shared-slice-read-b : tie.Need-shared-slice-read-b
-shared-slice-read-b c = omega (arith, more-than-2 (c .before .before .before .if1 .left) (c .before .if2 .left) (there (c .before .before .before .before .before .before)))
+shared-slice-read-b c =
+    let e = c .before in
+    omega (arith, more-than-2 (high e .if1 .left) (e .if2 .left) (there (entry (high e))))
 
 held-requires-3 : tie.Need-held-requires-3
 held-requires-3 c κs = search needs
 
 returns-3 : tie.Need-returns-3
 unfolding filledUp
-returns-3 c front char single is = c .held3 .ensures ∙ sym (ap (filledUp 4) (back-three (c .before .before .before .before .before .if1 .left) (c .before .before .before .if2 .left) (seen _ front single is) (c .before .if3 .taken)))
+returns-3 c front char single is =
+    let e = c .before .before .before in
+    c .held3 .ensures ∙ sym (ap (filledUp 4) (back-three (high e .if1 .left) (e .if2 .left) (seen _ front single is) (c .before .if3 .taken)))
 
 sub-t6 : tie.Need-sub-t6
-sub-t6 c = more-than-3 (c .before .before .before .before .if1 .left) (c .before .before .if2 .left) (c .if3 .left) (there (c .before .before .before .before .before .before .before))
+sub-t6 c = more-than-3 (high (tail c) .if1 .left) (tail c .if2 .left) (c .if3 .left) (there (entry (high (tail c))))
 
 shared-slice-read-t8 : tie.Need-shared-slice-read-t8
-shared-slice-read-t8 c = omega (arith, more-than-3 (c .before .before .before .before .before .if1 .left) (c .before .before .before .if2 .left) (c .before .if3 .left) (there (c .before .before .before .before .before .before .before .before)))
+shared-slice-read-t8 c =
+    let e = c .before in
+    omega (arith, more-than-3 (high (tail e) .if1 .left) (tail e .if2 .left) (e .if3 .left) (there (entry (high (tail e)))))
 
 returns-4 : tie.Need-returns-4
 unfolding filledUp
-returns-4 c front char single is = sym (ap (filledUp 4) (back-four (c .before .before .before .before .before .if1 .left) (c .before .before .before .if2 .left) (c .before .if3 .left) (seen _ front single is)))
+returns-4 c front char single is =
+    let e = c .before in
+    sym (ap (filledUp 4) (back-four (high (tail e) .if1 .left) (tail e .if2 .left) (e .if3 .left) (seen _ front single is)))
 
 pub raw-hand-spec : {M : Type 1} → statement M
 raw-hand-spec =
