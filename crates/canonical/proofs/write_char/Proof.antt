@@ -6,11 +6,22 @@ use native.Mathlib.Omega.{arith}
 use lib.ListN.{length}
 use Rattle.text.specs.Call.{laid}
 use Rattle.eols.specs.Stops.{ruleFor}
+use Rattle.charref.specs.CharRef.{encode}
+use Rattle.canonical.specs.Canonical.{canonical}
 use Rattle.canonical.proofs.Characters.{char-reference, char-special, apart, char-plain}
 use Rattle.escape.proofs.Levels.{reference-room, reference-put}
 use borrow.Author.Needs.{needs}
 use Rattle.canonical.proofs.write_char.Statement.{statement}
 use Rattle.canonical.proofs.write_char.Tie as tie
+
+-- a character that is none of the others is written as it is; the entry, seen from there
+abbrev entry : tie.Else3 → tie.Start
+entry c = c .before .before .before .before
+
+plain : (c : tie.Else3) → canonical (ruleFor (entry c .args .newer)) (encode (entry c .args .c)) ≡ encode (entry c .args .c)
+plain c =
+    let given = entry c .args in
+    char-plain (ruleFor (given .newer)) (given .c) (omega (arith, c .before .before .if1 .left)) (apart (given .newer) (given .c) (c .before .if2 .left) (c .if3 .left))
 
 cast-escape-char : tie.Need-cast-escape-char
 cast-escape-char c = search needs
@@ -58,20 +69,21 @@ same-length-3 c = search needs
 returns-3 : tie.Need-returns-3
 returns-3 c =
     let given = c .before .before .before .before .before .before .before .before .before .args in
-    reference-put (given .out .now) (char-special (given .newer) (given .c) 3 (c .before .before .before .before .before .if3 .taken)) (c .special-length2 .ensures .0, c .before .before .before .put-special2 .ensures)
+    let own = char-special (given .newer) (given .c) 3 (c .before .before .before .before .before .if3 .taken) in
+    reference-put (given .out .now) own (c .special-length2 .ensures .0, c .before .before .before .put-special2 .ensures)
 
 encode-utf8-requires : tie.Need-encode-utf8-requires
 encode-utf8-requires c κs =
-    let given = c .before .before .before .before .before .args in
-    (c .before .before .before .before .before .pre .0, reference-room (char-plain (ruleFor (given .newer)) (given .c) (omega (arith, c .before .before .before .if1 .left)) (apart (given .newer) (given .c) (c .before .before .if2 .left) (c .before .if3 .left))) (c .before .before .before .before .before .pre .1))
+    let asked = entry (c .before) .pre in
+    (asked .0, reference-room (plain (c .before)) (asked .1))
 
 same-length-4 : tie.Need-same-length-4
 same-length-4 c = search needs
 
 returns-4 : tie.Need-returns-4
 returns-4 c =
-    let given = c .before .before .before .before .before .before .before .before .args in
-    reference-put (given .out .now) (char-plain (ruleFor (given .newer)) (given .c) (omega (arith, c .before .before .before .before .before .before .if1 .left)) (apart (given .newer) (given .c) (c .before .before .before .before .before .if2 .left) (c .before .before .before .before .if3 .left))) (c .before .before .encode-utf8 .ensures)
+    let e = c .before .before .before .before in
+    reference-put (entry e .args .out .now) (plain e) (c .before .before .encode-utf8 .ensures)
 
 pub write-char-spec : {M : Type 1} → statement M
 write-char-spec =
