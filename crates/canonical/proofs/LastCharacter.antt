@@ -8,10 +8,11 @@ use Prim.Native.Nat.{ℕ, zero, suc, _+_, _-_, _≤_, _<_}
 use native.Mathlib.Omega.{arith}
 use lib.Dec.{eqb}
 use lib.ListN.{length, take, drop, getD, length-append, length-drop, drop-of-length-le, take-append-drop}
-use lib.Seq.{drop-append-seam}
+use lib.Seq.{drop-append-seam, sets, sets-eq}
 use borrow.Author.Tests.{eqb-true, eq-eqb, ne-eqb}
 use Rattle.text.specs.Bytes.{pick, within, begins, sameBytes}
 use Rattle.text.specs.Version.{Rule, xml10, xml11}
+use Rattle.text.specs.Call.{laid}
 use Rattle.text.specs.Utf8.{WellFormed}
 use Rattle.text.proofs.Bytes.{inside, above, below, begins-split, pick-by}
 use Rattle.text.proofs.Patterns.{at-head, begins-fits}
@@ -19,7 +20,8 @@ use Rattle.escape.specs.Escape.{attribute, levelSet, writeByte}
 use Rattle.escape.proofs.View.{Kind, Other, is-lt, is-gt, is-amp, is-apos, is-quot, is-cr, is-lf, is-tab, is-other, kind}
 use Rattle.canonical.specs.Canonical.{canonical, canonicalFrom}
 use Rattle.canonical.specs.Starts.{Starts}
-use Rattle.canonical.specs.LastCharacter.{lastFrom, lastCharacter, filledUp, inHand, FormOf, Single, LastRaw, endsWith, lastNumbered, lastNamed}
+use Rattle.canonical.specs.declared.Hand.{Hand}
+use Rattle.canonical.specs.LastCharacter.{handBytes, lastFrom, lastCharacter, filledUp, inHand, FormOf, Single, LastRaw, endsWith, lastNumbered, lastNamed}
 use Rattle.canonical.specs.LastCharacter.Single.{one, two, three, four}
 use Rattle.canonical.proofs.Append.{canonical-append, starts-append}
 use Rattle.canonical.proofs.Canonical.{Piece, by-level, as-nel, as-ls, as-c2, as-e2, Pieces, none, more, canonical-pieces, canonical-length}
@@ -541,3 +543,9 @@ module _ {l w : List ℕ} (high : 0x80 ≤ getD l (length l - 1) 0) where
       back-four (back-2 n d c e) = absurd (omega arith)
       back-four (back-3 n d c b e) = absurd (omega arith)
       back-four (back-4 n d c b e) = e
+
+-- ---- the character in hand, stored byte by byte
+
+pub hand-laid : (hand : Hand) (value scratch : List ℕ) → 4 ≤ length scratch → handBytes hand ≡ inHand value → sets scratch 0 (handBytes hand) ≡ laid (inHand value) scratch
+hand-laid hand value scratch h e =
+    sets-eq (handBytes hand) scratch 0 (omega (arith, h)) ∙ ap (λ (l : List ℕ). laid l scratch) e

@@ -323,3 +323,16 @@ pub fn last_of(form: &[u8]) -> Hand
     }
     raw_hand(form)
 }
+
+// Writes it to the first 4 bytes of the scratch, and keeps the rest.
+pub fn put_hand(form: &[u8], scratch: &mut [u8])
+    requires { ⌜ FormOf (now form) ⌝ }
+    requires { ⌜ 4 ≤ length (now scratch) ⌝ }
+    ensures { λ _. ⌜ ((rule : Rule) (value : List ℕ) → WellFormed value → 1 ≤ length value → now (form .entry) ≡ canonical rule value → now (scratch .exit) ≡ laid (inHand value) (now (scratch .entry))) ⌝ }
+{
+    let hand = last_of(form);
+    scratch[0] = hand.first;
+    scratch[1] = hand.second;
+    scratch[2] = hand.third;
+    scratch[3] = hand.fourth;
+}
