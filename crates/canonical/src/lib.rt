@@ -193,7 +193,7 @@ pub fn write_char(c: u32, newer: bool, out: &mut [u8]) -> usize
     ensures { λ r. ⌜ now (out .exit) ≡ laid (canonical (ruleFor newer) (encode c)) (now (out .entry)) ⌝ }
 {
     if c < 0x80 {
-        return escape::escape_char(c as u8, out);
+        return escape::escape_char(c as u8, false, out);
     }
     if newer & (c == 0x85) {
         put_special(2, out);

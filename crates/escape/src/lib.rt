@@ -136,7 +136,7 @@ fn put_either(first: bool, one: &[u8], other: &[u8], out: &mut [u8]) -> usize
 
 // Writes the reference to the byte at the start of `out`, and keeps the rest. Only the three that have a number ask for its kind: a
 // test before the arms took ten instructions more for each byte.
-fn escape_char(b: u8, hex: bool, out: &mut [u8]) -> usize
+pub fn escape_char(b: u8, hex: bool, out: &mut [u8]) -> usize
     requires { ⌜ length (referenceBy hex b) ≤ length (now out) ⌝ }
     ensures { λ r. ⌜ (r ≡ length (referenceBy hex b)) × (now (out .exit) ≡ laid (referenceBy hex b) (now (out .entry))) ⌝ }
 {

@@ -10,6 +10,7 @@ use Rattle.charref.specs.CharRef.{encode}
 use Rattle.canonical.specs.Canonical.{canonical}
 use Rattle.canonical.proofs.Characters.{char-reference, char-special, apart, char-plain}
 use Rattle.escape.proofs.Levels.{reference-room, reference-put}
+use Rattle.escape.specs.Scan.{referenceBy}
 use borrow.Author.Needs.{needs}
 use Rattle.canonical.proofs.write_char.Statement.{statement}
 use Rattle.canonical.proofs.write_char.Tie as tie
@@ -27,6 +28,7 @@ cast-escape-char : tie.Need-cast-escape-char
 cast-escape-char c = search needs
 
 escape-char-requires : tie.Need-escape-char-requires
+unfolding referenceBy
 escape-char-requires c κs =
     let given = c .before .before .before .args in
     reference-room (char-reference (ruleFor (given .newer)) (given .c) (c .before .if1 .taken)) (c .before .before .before .pre .1)
@@ -35,6 +37,7 @@ same-length : tie.Need-same-length
 same-length c = search needs
 
 returns : tie.Need-returns
+unfolding referenceBy
 returns c =
     let given = c .before .before .before .before .before .before .args in
     reference-put (given .out .now) (char-reference (ruleFor (given .newer)) (given .c) (c .before .before .before .before .if1 .taken)) (c .before .before .escape-char .ensures)
