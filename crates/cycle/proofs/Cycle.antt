@@ -5,7 +5,7 @@ use mathlib.Core.Path.{_≡_, refl, sym, ap, subst, _∙_}
 use mathlib.Core.List.{List}
 use Prim.Native.Nat.{ℕ, _+_, _-_, _*_, _≤_, _<_, min}
 use native.Mathlib.Omega.{arith}
-use lib.ListN.{length, getD, take, drop, length-append, length-drop}
+use lib.ListN.{length, take, drop, length-append, length-drop}
 use lib.Seq.{length-take-le}
 use borrow.Rule.Slice.PartMut.{midOf, putMid}
 use Rattle.text.specs.declared.Answer.{Answer}
@@ -26,8 +26,8 @@ use Rattle.memory.specs.declared.Reached.{Reached}
 use Rattle.memory.specs.declared.Reached.the-variants.{End, Opening, Paused}
 use Rattle.memory.specs.declared.Reached.the-variants.{Stopped as Refusal}
 use Rattle.memory.proofs.Keeping.{kept-length}
-use Rattle.memory.proofs.Levels.{Brief, placeOf, opened-plain, came-room, opens-lent, lent-on}
-use Rattle.memory.proofs.Readings.{by-brief, by-inner, by-limit, inner-level}
+use Rattle.memory.proofs.Levels.{Sound, placeOf, opened-plain, came-room, opens-lent, lent-on}
+use Rattle.memory.proofs.Readings.{by-inner, by-limit, inner-level}
 use Rattle.memory.proofs.Turns.{step-walked, turn-came, turn-next, turn-refused, turn-end, turn-stopped}
 use Rattle.cycle.specs.Cycle.{Bottom, innerStart, LentInner}
 
@@ -35,7 +35,7 @@ use Rattle.cycle.specs.Cycle.{Bottom, innerStart, LentInner}
 
 -- what the walk of the text is set to that the step opens
 abbrev pub below : Reading → Place → Reading
-below r p = record { how = r .inner; inner = r .inner; guard = r .inguard; inguard = r .inguard; depth = r .depth - 1; limit = r .limit; base = r .base + p .len }
+below r p = record { how = r .inner; inner = r .inner; guard = r .inguard; inguard = r .inguard; depth = r .depth - 1; limit = r .limit; form = r .form; base = r .base + p .len }
 
 module _ (r : Reading) (p : Place) (list pool : List ℕ) (command : ℕ) where
   abbrev settings : Settings
@@ -50,26 +50,26 @@ module _ (r : Reading) (p : Place) (list pool : List ℕ) (command : ℕ) where
       ap (λ (k : ℕ). take k (drop (littleEndian list (command + 6) 4) pool)) n ∙ ap (λ (k : ℕ). take (start + size - start) (drop k pool)) (sym a)
 
   module _ {t : List ℕ} (is : commandText list pool command ≡ t) where
-    level-is : innerLevel settings list pool (r .depth) command ≡ levelOf (below r p) list pool t
+    level-is : innerLevel settings (r .form) list pool (r .depth) command ≡ levelOf (below r p) list pool t
     level-is = inner-level r list pool command (r .base + p .len) ∙ ap (levelOf (below r p) list pool) is
 
     pub step-lent : {out words : List ℕ} → LentInner r p command list pool out words → Lent (levelOf (below r p) list pool t) (r .base + p .len) out words (innerStart p)
     step-lent {out} {words} n = subst (λ (l : Level). Lent l (r .base + p .len) out words (innerStart p)) level-is n
 
     -- the walker's answer as the step's
-    pub step-of : p .openings < r .limit → {old seen new kept : List ℕ} {a b : Answer} → a ≡ b
+    pub step-of : p .openings < r .limit → Sound settings list pool → Defines list pool command → {old seen new kept : List ℕ} {a b : Answer} → a ≡ b
         → StepsKeep (levelOf (below r p) list pool t) (r .base + p .len) (innerStart p) old seen new kept a
-        → StepKeeps settings list pool (r .depth) command (r .base) p old seen new kept (stepFrom (p .at) b)
-    step-of room {old} {seen} {new} {kept} {a} {b} q k =
+        → StepKeeps settings (r .form) list pool (r .depth) command (r .base) p old seen new kept (stepFrom (p .at) b)
+    step-of room sound d {old} {seen} {new} {kept} {a} {b} q k =
         let few : p .openings < settings .limit = subst (λ (n : ℕ). p .openings < n) (sym (by-limit (r .inner) (r .inguard) list pool (r .limit))) room in
-        step-walked settings list pool (r .depth) command (r .base) p few
+        step-walked settings (r .form) list pool (r .depth) command (r .base) p few sound d
         (subst (λ (l : Level). StepsKeep l (r .base + p .len) (innerStart p) old seen new kept b) (sym level-is)
         (subst (StepsKeep (levelOf (below r p) list pool t) (r .base + p .len) (innerStart p) old seen new kept) q k))
 
     -- at depth 1
     pub step-bottom : r .depth ≡ 1 → {old seen new : List ℕ} {a : Step}
-        → ((s : Settings) → Bottom (walk s (readBy (r .inner) (r .inguard)) 0 t (p .openings + 1)) (p .at) old new a)
-        → StepKeeps settings list pool (r .depth) command (r .base) p old seen new seen a
+        → ((s : Settings) → Bottom (r .form) (walk s (readBy (r .inner) (r .inguard)) 0 t (p .openings + 1)) (p .at) old new a)
+        → StepKeeps settings (r .form) list pool (r .depth) command (r .base) p old seen new seen a
     step-bottom one {old} {seen} {new} {a} any =
         let heads = readBy (r .inner) (r .inguard) in
         let b = any settings in
@@ -81,7 +81,7 @@ module _ (r : Reading) (p : Place) (list pool : List ℕ) (command : ℕ) where
         record {
           buffer = b .buffer;
           words = refl;
-          opened = λ v n m. opened-plain settings list pool (r .depth) command (p .at) (p .openings) v old new seen _ e (b .answers) (b .fitted) m;
+          opened = λ v n m. opened-plain settings (r .form) list pool (r .depth) command (p .at) (p .openings) v old new seen _ e (b .answers) (b .fitted) m;
         }
 
 -- ---- the walker
@@ -101,7 +101,7 @@ pub record AtOpening (r : Reading) (list pool text : List ℕ) (at next command 
   pub on : at < next
   pub inside : next ≤ length text
   pub few : made < r .limit
-  pub room : r .base + before ≤ 67108864 + 262140 * made
+  pub room : r .base + before ≤ 402653184 + 1572840 * made
   pub defines : Defines list pool command
   pub known : slot < 16
   pub lent : (out : List ℕ) → LentInner r (placeOf next before made) command list pool out words
@@ -109,7 +109,7 @@ pub record AtOpening (r : Reading) (list pool text : List ℕ) (at next command 
 -- the step's contract where the walker calls it with the rest of its buffer
 abbrev pub StepIn : Reading → List ℕ → List ℕ → ℕ → ℕ → ℕ → ℕ → ℕ → List ℕ → List ℕ → List ℕ → List ℕ → Step → Type 0
 StepIn r list pool command next before made w out words part after q =
-    StepKeeps (settingsOf r list pool) list pool (r .depth) command (r .base) (placeOf next before made) (midOf w (length out - w) out) words part after q
+    StepKeeps (settingsOf r list pool) (r .form) list pool (r .depth) command (r .base) (placeOf next before made) (midOf w (length out - w) out) words part after q
 
 -- the rest of a buffer that was lent on is put back
 put-length : (out part : List ℕ) {w : ℕ} → w ≤ length out → length part ≡ length (midOf w (length out - w) out)
@@ -163,7 +163,8 @@ module _ (r : Reading) (list pool text : List ℕ) (p : Place) {old seen out wor
 
     -- ---- an opening
 
-    module _ (n : Lent level (r .base) old seen p) {i next command slot before now : ℕ} (is : x ≡ Opening i next command slot before now) where
+    module _ (n : Lent level (r .base) old seen p) {i next command slot before now : ℕ} (is : x ≡ Opening i next command slot before now)
+        (sound : Sound (settingsOf r list pool) list pool) where
       opens : Opens level (n .v) (n .whole) (n .begun) new kept i next command slot before now
       opens = reached is (n .v) (n .whole) (n .begun) (n .size) (n .came)
 
@@ -177,14 +178,11 @@ module _ (r : Reading) (list pool text : List ℕ) (p : Place) {old seen out wor
             room = came-room level (n .v) (n .whole) (n .begun) (r .base) (n .room) (opens .came);
             defines = opens .defines;
             known = opens .known;
-            lent = λ lent. opens-lent level (n .v) (n .whole) (n .begun) (r .base) (n .room) opens (n .size) lent;
+            lent = λ lent. opens-lent level (n .v) (n .whole) (n .begun) (r .base) (n .room) opens (n .size) sound lent;
           }
 
-      module _ (bytes : (k : ℕ) → getD list k 0 < 0x100) {w : ℕ} {part after : List ℕ} (least : w ≡ min before (length new)) {q : Step}
+      module _ {w : ℕ} {part after : List ℕ} (least : w ≡ min before (length new)) {q : Step}
           (k : StepIn r list pool command next before now w new kept part after q) where
-        brief : Brief (settingsOf r list pool)
-        brief = by-brief (r .inner) (r .inguard) list pool (r .limit) bytes
-
         answered : {y : Step} → q ≡ y → StepIn r list pool command next before now w new kept part after y
         answered to = subst (StepIn r list pool command next before now w new kept part after) to k
 
@@ -193,9 +191,9 @@ module _ (r : Reading) (list pool text : List ℕ) (p : Place) {old seen out wor
 
         -- the step made the text, and that was kept
         pub open-counts : {a more later : ℕ} → q ≡ Next a more later
-            → (a ≡ next) × (now < later) × (later ≤ r .limit) × (more + 65535 * now ≤ 65535 * later)
+            → (a ≡ next) × (now < later) × (later ≤ r .limit) × (more + 393210 * now ≤ 393210 * later)
         open-counts {a} {more} {later} to =
-            let m = turn-next level (r .base) brief (n .size) opens {w = w} {part = part} {after = after} least (answered to) in
+            let m = turn-next level (r .base) sound (n .size) opens {w = w} {part = part} {after = after} least (answered to) in
             (m .0, m .1, subst (λ (x : ℕ). later ≤ x) limit-is (m .2), m .3)
 
         pub goes-open : {a more later opened : ℕ} {last : List ℕ} → q ≡ Next a more later
@@ -207,7 +205,7 @@ module _ (r : Reading) (list pool text : List ℕ) (p : Place) {old seen out wor
               buffer = buffer-kept;
               kept = kept-length e ∙ k .words ∙ f .words ∙ g .kept;
               came = λ v whole begun s c.
-                  turn-came level (r .base) brief s (reached is v whole begun s c) {w = w} {part = part} {after = after} least (answered to) e;
+                  turn-came level (r .base) sound s (reached is v whole begun s c) {w = w} {part = part} {after = after} least (answered to) e;
             }
 
         -- or refused it
@@ -219,5 +217,5 @@ module _ (r : Reading) (list pool text : List ℕ) (p : Place) {old seen out wor
               words = k .words ∙ f .words ∙ g .kept;
               finishes = λ v whole begun s c.
                   turn-stopped level {v = v} {whole = whole} {begun = begun}
-                  (turn-refused level (r .base) brief s (reached is v whole begun s c) {w = w} {part = part} {after = after} least (answered to));
+                  (turn-refused level (r .base) sound s (reached is v whole begun s c) {w = w} {part = part} {after = after} least (answered to));
             }

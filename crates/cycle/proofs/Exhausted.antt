@@ -1,5 +1,5 @@
 -- A text at depth 0: refused by 16 where there is any stop (`bottom-refused`, `ended-exhausted`), else its own value
--- (`bottom-written`, `bottom-long`, `ended-plain`). Assumes nothing.
+-- (`bottom-written`, `ended-plain`). Assumes nothing.
 use mathlib.Core.Path.{_≡_, refl, sym, ap, subst, _∙_}
 use mathlib.Core.Bool.{Bool, true, false, _||_, true≢false}
 use mathlib.Core.List.{List, [], _∷_}
@@ -25,8 +25,13 @@ use Rattle.attribute.proofs.Guards.{unguarded, bars, walk-clear, clear-of}
 use Rattle.attribute.specs.Walk.{Settings, exhausted, walk}
 use Rattle.attribute.proofs.Stops.{IsStop, heads-copy, heads-stop}
 use Rattle.output.proofs.Laid.{laid-length}
+use Rattle.eols.specs.Stops.{ruleFor}
+use Rattle.canonical.specs.Canonical.{canonical}
+use Rattle.memory.specs.Slots.{shaped, shapedIn}
 use Rattle.memory.specs.Levels.{Fitted}
-use Rattle.memory.proofs.Fitted.{fitted-long}
+use Rattle.memory.proofs.Shaped.{shaped-plain, shaped-form}
+use Rattle.memory.proofs.Fitted.{fitted-start, fitted-long}
+use Rattle.flat.specs.Between.{Writes}
 use Rattle.cycle.specs.Cycle.{Bottom, BottomFault}
 
 -- refused by 16 after some bytes
@@ -41,14 +46,14 @@ first-stop (copy b) ts n p = absurd p
 first-stop (stop s) ts n p = record { before = []; is = refl }
 first-stop (barred o) ts n p = absurd p
 
-pub bottom-same : {o p : Outcome} → o ≡ p → {next : ℕ} {old new : List ℕ} {r : Step} → Bottom p next old new r → Bottom o next old new r
-bottom-same e {next} {old} {new} {r} b = subst (λ (x : Outcome). Bottom x next old new r) (sym e) b
+pub bottom-same : {form : ℕ} {o p : Outcome} → o ≡ p → {next : ℕ} {old new : List ℕ} {r : Step} → Bottom form p next old new r → Bottom form o next old new r
+bottom-same {form} e {next} {old} {new} {r} b = subst (λ (x : Outcome). Bottom form x next old new r) (sym e) b
 
 -- the step, refused by 26
-pub bottom-refused-26 : {o : Outcome} {before : List ℕ} {n at : ℕ} (next : ℕ) (old : List ℕ) → o ≡ refused before n 26 at 0 → Bottom o next old old (Stopped 26 at 0)
-bottom-refused-26 {o} {before} {n} {at} next old e =
+pub bottom-refused-26 : {o : Outcome} {before : List ℕ} {n at : ℕ} (form next : ℕ) (old : List ℕ) → o ≡ refused before n 26 at 0 → Bottom form o next old old (Stopped 26 at 0)
+bottom-refused-26 {o} {before} {n} {at} form next old e =
     record {
-      answers = sym (ap (stepOf next) e);
+      answers = sym (ap (λ (x : Outcome). stepOf next (shapedIn form x)) e);
       buffer = refl;
       fitted = λ value made q.
           let z : refused before n 26 at 0 ≡ done value made = sym e ∙ q in
@@ -169,7 +174,7 @@ module _ (how : ℕ) where
             other = λ q. absurd (d q);
           }
 
-  module _ (s : Settings) (t : List ℕ) (n : ℕ) where
+  module _ (form : ℕ) (s : Settings) (t : List ℕ) (n : ℕ) where
     abbrev exhausts : Outcome
     exhausts = walk s heads 0 t n
 
@@ -182,11 +187,11 @@ module _ (how : ℕ) where
     exhausted-none e = walked-none 0 t n e
 
     -- the step
-    pub bottom-refused : (next : ℕ) (old : List ℕ) → anyStop stops t ≡ true → Bottom exhausts next old old (Stopped 16 0 0)
+    pub bottom-refused : (next : ℕ) (old : List ℕ) → anyStop stops t ≡ true → Bottom form exhausts next old old (Stopped 16 0 0)
     bottom-refused next old e =
         let x = exhausted-any e in
         record {
-          answers = sym (ap (stepOf next) (x .is));
+          answers = sym (ap (λ (y : Outcome). stepOf next (shapedIn form y)) (x .is));
           buffer = refl;
           fitted = λ value made q.
               let z : refused (x .before) n 16 0 0 ≡ done value made = sym (x .is) ∙ q in
@@ -194,32 +199,45 @@ module _ (how : ℕ) where
               absurd (omega (arith, k));
         }
 
-    bottom-next : (next : ℕ) {old new : List ℕ} → anyStop stops t ≡ false → Fitted t old new → Bottom exhausts next old new (Next next (length t) n)
-    bottom-next next {old} {new} e f =
+    pub bottom-written : (next : ℕ) {old new : List ℕ} {size : ℕ} → anyStop stops t ≡ false → (size ≡ length (shaped form t)) × Fitted (shaped form t) old new
+        → Bottom form exhausts next old new (Next next size n)
+    bottom-written next {old} {new} {size} e w =
         let x = exhausted-none e in
+        let f = w .1 in
         record {
-          answers = sym (ap (stepOf next) x);
+          answers = ap (λ (k : ℕ). Next next k n) (w .0) ∙ sym (ap (λ (y : Outcome). stepOf next (shapedIn form y)) x);
           buffer = f .size;
           fitted = λ value made q.
               let z : done t n ≡ done value made = sym x ∙ q in
               let k : t ≡ value = cc in
-              subst (λ (l : List ℕ). Fitted l old new) k f;
+              subst (λ (l : List ℕ). Fitted (shaped form l) old new) k f;
         }
 
-    pub bottom-written : (next : ℕ) {old new : List ℕ} → anyStop stops t ≡ false → length t ≤ length old → new ≡ laid t old
-        → Bottom exhausts next old new (Next next (length t) n)
-    bottom-written next {old} e h k = bottom-next next e (record { size = ap length k ∙ laid-length t old h; holds = λ g. k })
-
-    pub bottom-long : (next : ℕ) {old : List ℕ} → anyStop stops t ≡ false → length old < length t
-        → Bottom exhausts next old old (Next next (length t) n)
-    bottom-long next e h = bottom-next next e (fitted-long h refl)
-
     -- the text of a call
-    pub ended-exhausted : (short : ℕ) (out : List ℕ) → anyStop stops t ≡ true → Ended short exhausts out out (Refused 16 0 0)
+    pub ended-exhausted : (short : ℕ) (out : List ℕ) → anyStop stops t ≡ true → Ended short (shapedIn form exhausts) out out (Refused 16 0 0)
     ended-exhausted short out e =
         let x = exhausted-any e in
-        subst (λ (o : Outcome). Ended short o out out (Refused 16 0 0)) (sym (x .is)) (unfold answerIn leftIn in (refl, refl))
+        subst (λ (o : Outcome). Ended short (shapedIn form o) out out (Refused 16 0 0)) (sym (x .is)) (unfold answerIn leftIn in (refl, refl))
 
-    pub ended-plain : (short : ℕ) (out : List ℕ) {last : List ℕ} {r : Answer} → anyStop stops t ≡ false → Ended short (done t n) out last r
-        → Ended short exhausts out last r
-    ended-plain short out {last} {r} e k = subst (λ (o : Outcome). Ended short o out last r) (sym (exhausted-none e)) k
+    pub ended-plain : (short : ℕ) (out : List ℕ) {last : List ℕ} {r : Answer} → anyStop stops t ≡ false → Ended short (done (shaped form t) n) out last r
+        → Ended short (shapedIn form exhausts) out last r
+    ended-plain short out {last} {r} e k = subst (λ (o : Outcome). Ended short (shapedIn form o) out last r) (sym (exhausted-none e)) k
+
+-- ---- a text as it is, or its canonical form, at the start of a buffer
+
+pub text-laid : {form : ℕ} → form ≡ 0 → (t : List ℕ) {old new : List ℕ} → length t ≤ length old → new ≡ laid t old
+    → (length t ≡ length (shaped form t)) × Fitted (shaped form t) old new
+text-laid e t {old} {new} h k =
+    let q = sym (shaped-plain e t) in
+    (ap length q, subst (λ (x : List ℕ). Fitted x old new) q (record { size = ap length k ∙ laid-length t old h; holds = λ g. k }))
+
+pub text-long : {form : ℕ} → form ≡ 0 → (t : List ℕ) {old : List ℕ} → length old < length t → (length t ≡ length (shaped form t)) × Fitted (shaped form t) old old
+text-long e t {old} h =
+    let q = sym (shaped-plain e t) in
+    (ap length q, subst (λ (x : List ℕ). Fitted x old old) q (fitted-long h refl))
+
+pub text-form : {form : ℕ} → form ≢ 0 → (t : List ℕ) {old new : List ℕ} {size : ℕ} → Writes (canonical (ruleFor (eqb form 2)) t) 0 old new size
+    → (size ≡ length (shaped form t)) × Fitted (shaped form t) old new
+text-form n t {old} {new} {size} w =
+    let q = sym (shaped-form n t) in
+    (w .0 ∙ ap length q, subst (λ (x : List ℕ). Fitted x old new) q (w .1 .fits [] old refl (fitted-start old)))

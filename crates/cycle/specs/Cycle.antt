@@ -10,16 +10,17 @@ use Rattle.tokens.specs.Walking.{stepOf}
 use Rattle.tokens.specs.declared.Step.{Step}
 use Rattle.attribute.specs.Walk.{Settings, walk}
 use Rattle.attribute.specs.Steps.{headsBy, readBy}
+use Rattle.memory.specs.Slots.{shaped, shapedIn}
 use Rattle.memory.specs.Levels.{settingsOf, innerLevel, Fitted, Lent}
 use Rattle.memory.specs.declared.Reading.{Reading}
 use Rattle.memory.specs.declared.Place.{Place}
 
 -- ---- a text at depth 0
 
-pub record Bottom (o : Outcome) (next : ℕ) (old new : List ℕ) (r : Step) : Type 0 where
-  pub answers : r ≡ stepOf next o
+pub record Bottom (form : ℕ) (o : Outcome) (next : ℕ) (old new : List ℕ) (r : Step) : Type 0 where
+  pub answers : r ≡ stepOf next (shapedIn form o)
   pub buffer : length new ≡ length old
-  pub fitted : (value : List ℕ) (made : ℕ) → o ≡ done value made → Fitted value old new
+  pub fitted : (value : List ℕ) (made : ℕ) → o ≡ done value made → Fitted (shaped form value) old new
 
 -- a character at `r` may not stand there, and no stop comes before it; or, at the end, such a character has no say
 pub record BottomFault (how guard : ℕ) (text : List ℕ) (r : ℕ) : Type 0 where
@@ -41,7 +42,7 @@ innerStart p = record { at = 0; len = 0; openings = p .openings + 1 }
 
 abbrev pub LentInner : Reading → Place → ℕ → List ℕ → List ℕ → List ℕ → List ℕ → Type 0
 LentInner r p command list pool out words =
-    Lent (innerLevel (settingsOf r list pool) list pool (r .depth) command) (r .base + p .len) out words (innerStart p)
+    Lent (innerLevel (settingsOf r list pool) (r .form) list pool (r .depth) command) (r .base + p .len) out words (innerStart p)
 
 -- the walker
 pub record Walkable (r : Reading) (text : List ℕ) : Type 0 where

@@ -1,12 +1,14 @@
 // The cycle of the walk over attribute values: a walker over a text, and the single step that opens a text of the table and has it
 // walked. All else that stops a walk is answered between two openings (crate flat), by functions that call neither.
 ghost use mathlib.Core.Path.{_≡_};
+ghost use Prim.Native.Nat.{_≤_};
 ghost use lib.ListN.{length};
 ghost use Rattle.entity.specs.Table.{ValidTable};
 ghost use Rattle.entity.specs.Commands.{Defines};
 ghost use Rattle.attribute.specs.Walk.{Settings, walk};
 ghost use Rattle.attribute.specs.Steps.{readBy};
-ghost use Rattle.memory.specs.Levels.{settingsOf, levelOf, Lent, StepKeeps, StepsKeep};
+ghost use Rattle.memory.specs.Slots.{shaped};
+ghost use Rattle.memory.specs.Levels.{settingsOf, levelOf, Fitted, Lent, StepKeeps, StepsKeep};
 ghost use Rattle.cycle.specs.Cycle.{Bottom, BottomFault, Openable, LentInner, Walkable};
 use memory::Place;
 use memory::Reached;
@@ -33,9 +35,33 @@ pub fn bottom_fault(text: &[u8], how: u8, guard: u8) -> usize
     fault
 }
 
+// A text as it is, or its canonical form, at the start of the output.
+fn write_text(text: &[u8], form: u8, out: &mut [u8]) -> usize
+    requires { ⌜ length (now text) ≤ 16777216 ⌝ }
+    ensures { λ r. ⌜ (r ≡ length (shaped form (now (text .entry)))) × Fitted (shaped form (now (text .entry))) (now (out .entry)) (now (out .exit)) ⌝ }
+{
+    if form != 0 {
+        return flat::write_value(text, 0, form == 2, out);
+    }
+    let n = text.len();
+    if n <= out.len() {
+        output::put_run(text, out);
+    }
+    n
+}
+
 // A text at depth 0: refused where there is a fault or a stop, else its own value.
-fn bottom_step(text: &[u8], how: u8, guard: u8, next: usize, openings: u64, out: &mut [u8]) -> Step
-    ensures { λ r. ⌜ ((s : Settings) → Bottom (walk s (readBy how guard) 0 (now (text .entry)) openings) next (now (out .entry)) (now (out .exit)) r) ⌝ }
+fn bottom_step(
+    text: &[u8],
+    how: u8,
+    guard: u8,
+    form: u8,
+    next: usize,
+    openings: u64,
+    out: &mut [u8],
+) -> Step
+    requires { ⌜ length (now text) ≤ 16777216 ⌝ }
+    ensures { λ r. ⌜ ((s : Settings) → Bottom form (walk s (readBy how guard) 0 (now (text .entry)) openings) next (now (out .entry)) (now (out .exit)) r) ⌝ }
 {
     let fault = bottom_fault(text, how, guard);
     if fault != text.len() {
@@ -52,13 +78,10 @@ fn bottom_step(text: &[u8], how: u8, guard: u8, next: usize, openings: u64, out:
             second: 0,
         };
     }
-    let n = text.len();
-    if n <= out.len() {
-        output::put_run(text, out);
-    }
+    let len = write_text(text, form, out);
     Step::Next {
         at: next,
-        len: n,
+        len,
         openings,
     }
 }
@@ -77,7 +100,7 @@ fn normalize_attr_step(
     requires { ⌜ Openable reading place (now seen) ⌝ }
     requires { ⌜ Defines (now list) (now pool) command ⌝ }
     requires { ⌜ LentInner reading place command (now list) (now pool) (now out) (now seen) ⌝ }
-    ensures { λ r. ⌜ StepKeeps (settingsOf reading (now (list .entry)) (now (pool .entry))) (now (list .entry)) (now (pool .entry)) (reading .depth) command (reading .base) place (now (out .entry)) (now (seen .entry)) (now (out .exit)) (now (seen .exit)) r ⌝ }
+    ensures { λ r. ⌜ StepKeeps (settingsOf reading (now (list .entry)) (now (pool .entry))) (reading .form) (now (list .entry)) (now (pool .entry)) (reading .depth) command (reading .base) place (now (out .entry)) (now (seen .entry)) (now (out .exit)) (now (seen .exit)) r ⌝ }
 {
     let start = entity::text_start(list, command);
     let end = start + entity::text_length(list, command);
@@ -89,6 +112,7 @@ fn normalize_attr_step(
             &pool[start..end],
             reading.inner,
             reading.inguard,
+            reading.form,
             next,
             openings,
             out,
@@ -106,6 +130,7 @@ fn normalize_attr_step(
         inguard: reading.inguard,
         depth: depth - 1,
         limit: reading.limit,
+        form: reading.form,
         base: reading.base + place.len,
     };
     match normalize_attr_steps(&pool[start..end], begun, below, list, pool, seen, out) {

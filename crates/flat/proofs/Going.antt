@@ -1,6 +1,6 @@
 -- The loop between two openings: what it keeps (`Going`, from `going-start`, by `going-next`), and its four ends (`going-end`, `going-opens`,
 -- `going-paused`, `going-stopped`), and `going-barred`. Assumes nothing.
-use mathlib.Core.Path.{_≡_, refl, sym, _∙_}
+use mathlib.Core.Path.{_≡_, refl, sym, subst, _∙_}
 use mathlib.Core.Logic.{_≢_}
 use mathlib.Core.List.{List}
 use Prim.Native.Nat.{ℕ, _+_, _-_, _*_, _≤_, _<_}
@@ -11,14 +11,15 @@ use lib.ListN.{length, take, drop}
 use Rattle.legal.specs.FirstFault.{Clean, FirstFault}
 use Rattle.halts.specs.Halts.{Smooth, HaltAt, blanksSpaced}
 use Rattle.attribute.specs.Steps.{faultBy}
-use Rattle.memory.specs.Levels.{Level, levelOf, Adds, Came, Lent, FlatKeeps}
+use Rattle.memory.specs.Slots.{shaped}
+use Rattle.memory.specs.Levels.{Level, levelOf, Came, Lent, FlatKeeps}
 use Rattle.memory.specs.declared.Reading.{Reading}
 use Rattle.memory.specs.declared.Place.{Place}
 use Rattle.memory.specs.declared.Reached.the-variants.{End, Opening, Paused, Stopped}
 use Rattle.memory.proofs.Levels.{placeOf, came-end}
 use Rattle.memory.proofs.Stretches.{smooth-part}
 use Rattle.memory.proofs.Readings.{came-run, run-barred, lent-room, lent-within}
-use Rattle.flat.specs.Between.{HaltKeeps}
+use Rattle.flat.specs.Between.{Writes, HaltKeeps}
 use Rattle.flat.specs.declared.Halted.the-variants.{Next}
 use Rattle.flat.specs.declared.Halted.the-variants.{Opening as Opens, Paused as Pauses, Stopped as Stops}
 
@@ -46,7 +47,7 @@ module _ (r : Reading) (t list pool : List ℕ) (p : Place) (old₀ seen₀ : Li
     going-lent =
         record { v = lent .v; whole = lent .whole; begun = lent .begun; size = lent .size; came = g .came (lent .v) (lent .whole) (lent .begun) (lent .size) (lent .came); room = lent .room }
 
-    pub going-room : r .base + len ≤ 67108864 + 262140 * made
+    pub going-room : r .base + len ≤ 402653184 + 1572840 * made
     going-room = lent-room r list pool t going-lent
 
     pub going-within : made ≤ r .limit
@@ -66,45 +67,51 @@ module _ (r : Reading) (t list pool : List ℕ) (p : Place) (old₀ seen₀ : Li
         }
 
     -- after the run up to the halt, in which every character may stand
-    module _ (clean : Clean (faultBy (r .guard)) t at end) {new : List ℕ} (adds : Adds (blanksSpaced (take (end - at) (drop at t))) len old new) where
+    module _ (clean : Clean (faultBy (r .guard)) t at end) {new : List ℕ} {size : ℕ}
+        (run : Writes (shaped (r .form) (blanksSpaced (take (end - at) (drop at t)))) len old new size) where
       abbrev here : Place
-      here = placeOf end (len + (end - at)) made
+      here = placeOf end (len + size) made
 
       run-came : (v whole : List ℕ) (begun : ℕ) → length v ≡ r .base → Came l v whole begun old₀ seen₀ (p .at) (p .len) (p .openings)
-          → Came l v whole begun new seen end (len + (end - at)) made
-      run-came v whole begun e c = came-run r list pool t deep v whole begun (g .came v whole begun e c) (g .halt .smooth) clean adds
+          → Came l v whole begun new seen end (len + size) made
+      run-came v whole begun e c =
+          subst (λ (n : ℕ). Came l v whole begun new seen end (len + n) made) (sym (run .0))
+          (came-run r list pool t deep v whole begun (g .came v whole begun e c) (g .halt) clean (run .1))
 
       pub run-lent : Lent l (r .base) new seen here
       run-lent =
           record { v = lent .v; whole = lent .whole; begun = lent .begun; size = lent .size; came = run-came (lent .v) (lent .whole) (lent .begun) (lent .size) (lent .came); room = lent .room }
 
+      pub run-room : r .base + (len + size) ≤ 402653184 + 1572840 * made
+      run-room = lent-room r list pool t run-lent
+
       -- the text is at its end
-      pub going-end : end ≡ length t → FlatKeeps l (r .base) p old₀ seen₀ new seen (End (len + (end - at)) made)
+      pub going-end : end ≡ length t → FlatKeeps l (r .base) p old₀ seen₀ new seen (End (len + size) made)
       going-end q =
           record {
             onward = tt;
-            buffer = adds .buffer ∙ g .buffer;
+            buffer = run .1 .buffer ∙ g .buffer;
             words = g .words;
             reaches = λ v whole begun e c. came-end l v whole begun (run-came v whole begun e c) (omega (arith, q));
           }
 
       module _ {last after : List ℕ} where
         pub going-opens : {next command slot : ℕ} → HaltKeeps l (r .base) here new seen last after (Opens next command slot)
-            → FlatKeeps l (r .base) p old₀ seen₀ last after (Opening end next command slot (len + (end - at)) made)
+            → FlatKeeps l (r .base) p old₀ seen₀ last after (Opening end next command slot (len + size) made)
         going-opens k =
             record {
               onward = (omega (arith, g .from, g .halt .smooth .from, k .past .0), k .past .1);
-              buffer = k .buffer ∙ adds .buffer ∙ g .buffer;
+              buffer = k .buffer ∙ run .1 .buffer ∙ g .buffer;
               words = k .words ∙ g .words;
               reaches = λ v whole begun e c. k .goes v whole begun e (run-came v whole begun e c);
             }
 
         pub going-paused : end ≢ length t → HaltKeeps l (r .base) here new seen last after Pauses
-            → FlatKeeps l (r .base) p old₀ seen₀ last after (Paused end (len + (end - at)) made)
+            → FlatKeeps l (r .base) p old₀ seen₀ last after (Paused end (len + size) made)
         going-paused q k =
             record {
               onward = (omega (arith, g .from, g .halt .smooth .from), omega (arith, q, g .halt .smooth .to), sym (g .words) ∙ k .past);
-              buffer = k .buffer ∙ adds .buffer ∙ g .buffer;
+              buffer = k .buffer ∙ run .1 .buffer ∙ g .buffer;
               words = k .words ∙ g .words;
               reaches = λ v whole begun e c. k .goes v whole begun e (run-came v whole begun e c);
             }
@@ -114,7 +121,7 @@ module _ (r : Reading) (t list pool : List ℕ) (p : Place) (old₀ seen₀ : Li
         going-stopped k =
             record {
               onward = tt;
-              buffer = k .buffer ∙ adds .buffer ∙ g .buffer;
+              buffer = k .buffer ∙ run .1 .buffer ∙ g .buffer;
               words = k .words ∙ g .words;
               reaches = λ v whole begun e c. k .goes v whole begun e (run-came v whole begun e c);
             }
@@ -124,7 +131,7 @@ module _ (r : Reading) (t list pool : List ℕ) (p : Place) (old₀ seen₀ : Li
           pub going-on : at < next
           going-on = omega (arith, g .halt .smooth .from, k .past .0)
 
-          passed-lent : Lent l (r .base) last after (placeOf next (len + (end - at) + more) now)
+          passed-lent : Lent l (r .base) last after (placeOf next (len + size + more) now)
           passed-lent =
               record {
                 v = lent .v;
@@ -135,19 +142,19 @@ module _ (r : Reading) (t list pool : List ℕ) (p : Place) (old₀ seen₀ : Li
                 room = lent .room;
               }
 
-          pub going-sum : r .base + (len + (end - at) + more) ≤ 67108864 + 262140 * now
+          pub going-sum : r .base + (len + size + more) ≤ 402653184 + 1572840 * now
           going-sum = lent-room r list pool t passed-lent
 
           pub going-made : now ≤ r .limit
           going-made = lent-within r list pool t passed-lent
 
-          pub going-next : {e : ℕ} → HaltAt (eqb (r .how) 1) t next e → Going r t list pool p old₀ seen₀ last after next e (len + (end - at) + more) now (met + 1)
+          pub going-next : {e : ℕ} → HaltAt (eqb (r .how) 1) t next e → Going r t list pool p old₀ seen₀ last after next e (len + size + more) now (met + 1)
           going-next h =
               record {
                 halt = h;
                 from = omega (arith, g .from, going-on);
                 few = omega (arith, g .few, going-on);
-                buffer = k .buffer ∙ adds .buffer ∙ g .buffer;
+                buffer = k .buffer ∙ run .1 .buffer ∙ g .buffer;
                 words = k .words ∙ g .words;
                 came = λ v whole begun e c. k .goes v whole begun e (run-came v whole begun e c);
               }

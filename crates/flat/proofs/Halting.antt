@@ -18,28 +18,31 @@ use Rattle.charref.specs.declared.CharNumber.the-variants.{Char as Character}
 use Rattle.legal.specs.FirstFault.{Clean}
 use Rattle.charref.proofs.Encoding.{encode-at-most}
 use Rattle.halts.specs.Halts.{halts, Smooth, blanksSpaced}
+use Rattle.text.specs.Utf8.{WellFormed}
+use Rattle.text.proofs.Utf8.{ascii-well-formed}
 use Rattle.text.specs.declared.Answer.the-variants.{Done, Refused}
 use Rattle.entity.specs.Table.{littleEndian, part, declarations, ValidTable}
 use Rattle.entity.proofs.Commands.{long-list}
 use Rattle.entity.specs.Binding.{text, external, predefined, unknown, predefinedOf, binding, boundTo}
 use Rattle.entity.specs.Commands.{commandText, RefersTo}
-use Rattle.entity.proofs.Referents.{defines-binding}
+use Rattle.entity.proofs.Referents.{defines-binding, predefined-binding}
 use Rattle.tokens.specs.Tokens.{named, stop, Token, Heads, tokenOf}
 use Rattle.tokens.specs.Outcome.{done, refused}
-use Rattle.tokens.specs.Walking.{headAt, outcomeOf}
+use Rattle.tokens.specs.Walking.{headAt, nextAt, outcomeOf}
 use Rattle.attribute.specs.Walk.{Settings, answer, opened, walk}
 use Rattle.attribute.specs.Steps.{headsBy, faultBy, readBy, legalBy, Refers, stopAnswer, Blank}
-use Rattle.attribute.proofs.Single.{stop-deeper, at-external, at-unknown, at-predefined}
+use Rattle.attribute.proofs.Single.{one-of-four, stop-deeper, at-external, at-unknown, at-predefined}
 use Rattle.attribute.proofs.Guards.{read-refers, guard-blank, halt-clean, read-predefined}
-use Rattle.memory.specs.Slots.{slotOf, Kept, Noted, Memory}
+use Rattle.memory.specs.Slots.{shaped, slotOf, Kept, Noted, Memory}
 use Rattle.memory.specs.Levels.{settingsOf, Level, levelOf, Adds, Came, Taken}
 use Rattle.memory.specs.declared.Reading.{Reading}
 use Rattle.memory.specs.declared.Place.{Place}
 use Rattle.memory.proofs.Fitted.{adds-byte}
+use Rattle.memory.proofs.Characters.{token-rest}
 use Rattle.memory.proofs.Levels.{left-done, came-on, came-stop, came-token}
 use Rattle.memory.proofs.Keeping.{memory-more, kept-length, noted-length, memory-noted}
 use Rattle.memory.proofs.Readings.{by-bind, by-inner, by-limit, by-legal, token-named, next-named, read-opens, read-taken, came-leaf, came-blank}
-use Rattle.flat.specs.Between.{Leaf, ForChar, ForName, nameOf, Answers, HaltKeeps, Referred}
+use Rattle.flat.specs.Between.{Writes, Leaf, ForChar, ForName, ForPlain, nameOf, Answers, HaltKeeps, Referred}
 use Rattle.flat.specs.declared.Halted.the-variants.{Next, Opening, Stopped}
 
 -- ---- a reference to the text of a command
@@ -84,7 +87,7 @@ module _ (r : Reading) (t list pool : List ℕ) (p : Place) {command next : ℕ}
           buffer = x .buffer;
           words = refl;
           goes = λ v whole begun e c.
-              read-taken r list pool t (k .deep) v whole begun c (k .bytes) e (k .name) (k .inside) (k .on) (k .to) (k .next-is) (k .is) (k .no-amp) (k .defines) (k .same)
+              read-taken r list pool t (k .deep) v whole begun c (k .bytes) (k .valid) e (k .name) (k .inside) (k .on) (k .to) (k .next-is) (k .is) (k .no-amp) (k .defines) (k .same)
               p known refl refl x;
         }
 
@@ -96,43 +99,48 @@ module _ (r : Reading) (t list pool : List ℕ) (p : Place) {command next : ℕ}
             buffer = refl;
             words = refl;
             goes = λ v whole begun e c.
-                read-opens r list pool t (k .deep) v whole begun c (k .bytes) e (k .name) (k .inside) (k .on) (k .to) (k .next-is) (k .is) (k .no-amp) (k .defines) (k .same)
+                read-opens r list pool t (k .deep) v whole begun c (k .bytes) (k .valid) e (k .name) (k .inside) (k .on) (k .to) (k .next-is) (k .is) (k .no-amp) (k .defines) (k .same)
                 known room;
           }
 
       -- a text without halts is copied, and kept
-      pub halt-leaf : r .depth ≢ 1 → Leaf (eqb (r .inner) 1) (r .inguard) value → {new after : List ℕ}
-          → Adds (blanksSpaced (take (length value - 0) (drop 0 value))) (p .len) old new → Kept seen slot command (slotOf 2 (r .base + p .len) (length value) 1) after
-          → HaltKeeps l (r .base) p old seen new after (Next next (length value) (p .openings + 1))
-      halt-leaf two leaf {new} {after} adds kept =
+      pub halt-leaf : r .depth ≢ 1 → Leaf (eqb (r .inner) 1) (r .inguard) value → {new after : List ℕ} {size : ℕ}
+          → Writes (shaped (r .form) (blanksSpaced (take (length value - 0) (drop 0 value)))) (p .len) old new size
+          → Kept seen slot command (slotOf 2 (r .base + p .len) size 1) after
+          → HaltKeeps l (r .base) p old seen new after (Next next size (p .openings + 1))
+      halt-leaf two leaf {new} {after} {size} written kept =
           let all : take (length value - 0) (drop 0 value) ≡ value = take-all (length value - 0) value (omega arith) in
           let e = k .text-is in
+          let x = commandText list pool command in
+          let w : Writes (shaped (r .form) (blanksSpaced x)) (p .len) old new size =
+          subst (λ (y : List ℕ). Writes (shaped (r .form) (blanksSpaced y)) (p .len) old new size) (all ∙ e) written in
           record {
             past = (k .on, k .to);
-            buffer = adds .buffer;
+            buffer = written .1 .buffer;
             words = kept-length kept;
             goes = λ v whole begun b c.
-                subst (λ (n : ℕ). Came l v whole begun new after next (p .len + n) (p .openings + 1)) (sym (ap length e))
-                (came-leaf r list pool t (k .deep) v whole begun c (k .bytes) b (k .name) (k .inside) (k .on) (k .to) (k .next-is) (k .is) (k .no-amp) (k .defines) (k .same)
-                two (omega (arith, room, limit-is, c .within)) (subst (λ (x : List ℕ). Smooth (eqb (r .inner) 1) x 0 (length x)) e (leaf .smooth))
-                (subst (λ (x : List ℕ). Clean (faultBy (r .inguard)) x 0 (length x)) e (leaf .clean)) known
-                (subst (λ (x : List ℕ). Adds (blanksSpaced x) (p .len) old new) (all ∙ e) adds)
-                (subst (λ (n : ℕ). Kept seen slot command (slotOf 2 (r .base + p .len) n 1) after) (ap length e) kept));
+                subst (λ (n : ℕ). Came l v whole begun new after next (p .len + n) (p .openings + 1)) (sym (w .0))
+                (came-leaf r list pool t (k .deep) v whole begun c (k .bytes) (k .valid) b (k .name) (k .inside) (k .on) (k .to) (k .next-is) (k .is) (k .no-amp)
+                (k .defines) (k .same) two (omega (arith, room, limit-is, c .within))
+                (subst (λ (y : List ℕ). Smooth (eqb (r .inner) 1) y 0 (length y)) e (leaf .smooth))
+                (subst (λ (y : List ℕ). Clean (faultBy (r .inguard)) y 0 (length y)) e (leaf .clean)) known (w .1)
+                (subst (λ (n : ℕ). Kept seen slot command (slotOf 2 (r .base + p .len) n 1) after) (w .0) kept));
           }
 
 -- ---- other references
 
 -- what a lookup found, as what is known of the reference
 pub referred : (r : Reading) (t list pool : List ℕ) (p : Place) {end command start last : ℕ} → r .depth ≢ 0 → ((k : ℕ) → getD list k 0 < 0x100)
-    → ForName t (p .at) end → RefersTo list pool (nameOf t (p .at) end) command start last
+    → ValidTable list pool → ForName t (p .at) end → RefersTo list pool (nameOf t (p .at) end) command start last
     → Referred r t list pool p command (end + 1) (take (last - start) (drop start pool))
 unfolding part
-referred r t list pool p {end} {command} {start} {last} deep bytes f k =
+referred r t list pool p {end} {command} {start} {last} deep bytes valid f k =
     let n : littleEndian list (command + 10) 2 ≡ last - start = omega (arith, k .ends) in
     record {
       name = nameOf t (p .at) end;
       deep = deep;
       bytes = bytes;
+      valid = valid;
       inside = omega (arith, f .ends .from, f .inside);
       on = omega (arith, f .ends .from);
       to = omega (arith, f .inside);
@@ -165,18 +173,20 @@ module _ (r : Reading) (t list pool : List ℕ) (p : Place) (deep : r .depth ≢
   judged c e = ap (λ (f : ℕ → CharNumber). f c) legal ∙ e
 
   -- a reference that stands for a character
-  pub halt-char : {c next more : ℕ} → ForChar t (p .at) c next → legalBy (r .inguard) c ≡ Character c → {new : List ℕ} → more ≡ length (encode c) → Adds (encode c) (p .len) old new
+  pub halt-char : {c next more : ℕ} → ForChar t (p .at) c next → legalBy (r .inguard) c ≡ Character c → {new : List ℕ} → Writes (shaped (r .form) (encode c)) (p .len) old new more
       → HaltKeeps level (r .base) p old seen new seen (Next next more (p .openings))
-  halt-char {c} {next} {more} f may {new} n adds =
+  halt-char {c} {next} {more} f may {new} w =
       record {
         past = (omega (arith, f .on), f .to);
-        buffer = adds .buffer;
+        buffer = w .1 .buffer;
         words = refl;
         goes = λ v whole begun e k.
-            subst (λ (m : ℕ). Came level v whole begun new seen next (p .len + m) (p .openings)) (sym n)
-            (came-token level v whole begun k (encode c) (omega (arith, f .on, f .to)) (f .next-is heads refers) (f .to)
-            (f .given heads refers reads (judged c may) (r .depth) deep (p .openings)) (omega (arith, encode-at-most c, f .on))
-            adds);
+            let inside : p .at < length t = omega (arith, f .on, f .to) in
+            let given = f .given heads refers reads (judged c may) (r .depth) deep (p .openings) in
+            subst (λ (m : ℕ). Came level v whole begun new seen next (p .len + m) (p .openings)) (sym (w .0))
+            (came-token level v whole begun k (encode c) inside (f .next-is heads refers) (f .to) given (f .utf8)
+            (token-rest (r .how) (r .guard) t (p .at) inside (k .rest) reads (r .depth) (p .openings) (encode c) given (f .utf8) (f .next-is heads refers))
+            (omega (arith, encode-at-most c, f .on)) (w .1));
       }
 
   -- one that is refused
@@ -241,25 +251,31 @@ module _ (r : Reading) (t list pool : List ℕ) (p : Place) (deep : r .depth ≢
         }
 
     -- a predefined name is its byte, where the memory that is left is one still
-    halt-byte : {b : ℕ} → binding list pool name ≡ predefined (b ∷ []) → {new after : List ℕ} → new ≡ set old (p .len) b → length after ≡ length seen
-        → ((v : List ℕ) → Memory reads list pool v seen → Memory reads list pool v after) → HaltKeeps level (r .base) p old seen new after (Next (end + 1) 1 (p .openings))
+    halt-byte : {b : ℕ} → binding list pool name ≡ predefined (b ∷ []) → {new after : List ℕ} {size : ℕ} → Writes (shaped (r .form) (b ∷ [])) (p .len) old new size
+        → length after ≡ length seen → ((v : List ℕ) → Memory reads (r .form) list pool v seen → Memory reads (r .form) list pool v after)
+        → HaltKeeps level (r .base) p old seen new after (Next (end + 1) size (p .openings))
     unfolding boundTo
-    halt-byte {b} e {new} {after} w size keeps =
+    halt-byte {b} e {new} {after} {size} w words keeps =
         record {
           past = (omega (arith, f .ends .from), omega (arith, f .inside));
-          buffer = adds .buffer;
-          words = size;
+          buffer = w .1 .buffer;
+          words = words;
           goes = λ v whole begun x k.
               came-on level v whole begun k (b ∷ [])
-              (left-done level (p .at) (p .openings) (end + 1) (p .openings) (b ∷ []) inside
-              (next-named (r .how) (r .guard) t (p .at) end (f .amp) (f .ends) (f .inside) (f .no-number)) (given (p .openings))) refl
-              (adds .fits (k .value) whole (k .size) (k .fitted))
-              (keeps _ (memory-more reads list pool (k .memory) (b ∷ [])))
+              (left-done level (p .at) (p .openings) (end + 1) (p .openings) (b ∷ []) inside next-is (given (p .openings))) (sym (w .0)) one
+              (token-rest (r .how) (r .guard) t (p .at) inside (k .rest) reads (r .depth) (p .openings) (b ∷ []) (given (p .openings)) one next-is)
+              (w .1 .fits (shaped (r .form) (k .value)) whole (k .size) (k .fitted))
+              (keeps _ (memory-more reads (r .form) list pool (k .memory) (shaped (r .form) (b ∷ []))))
               (omega (arith, f .inside)) (le-refl _) (k .within) (omega (arith, f .ends .from));
         }
       where
-        adds : Adds (b ∷ []) (p .len) old new
-        adds = subst (Adds (b ∷ []) (p .len) old) (sym w) (adds-byte b (p .len) old)
+        next-is : nextAt (readBy (r .how) (r .guard)) t (p .at) ≡ end + 1
+        next-is = next-named (r .how) (r .guard) t (p .at) end (f .amp) (f .ends) (f .inside) (f .no-number)
+
+        one : WellFormed (b ∷ [])
+        one =
+            one-of-four (λ c. WellFormed (c ∷ [])) (ascii-well-formed (60 ∷ []) refl) (ascii-well-formed (62 ∷ []) refl) (ascii-well-formed (39 ∷ []) refl)
+            (ascii-well-formed (34 ∷ []) refl) name b (f .no-amp) (predefined-binding list pool name (b ∷ []) e)
 
         itself : (n : ℕ) → walk reads (reads .inner) (r .depth - 1) (b ∷ []) n ≡ done (b ∷ []) n
         itself n =
@@ -272,13 +288,18 @@ module _ (r : Reading) (t list pool : List ℕ) (p : Place) (deep : r .depth ≢
             (rw (f .no-amp, e)) (λ x y. itself n)
 
     -- that the table does not define it is kept, or was known
-    pub halt-predefined : {b : ℕ} → predefinedOf name ≡ predefined (b ∷ []) → binding list pool name ≡ predefined (b ∷ []) → {new after : List ℕ}
-        → new ≡ set old (p .len) b → Noted seen b after → HaltKeeps level (r .base) p old seen new after (Next (end + 1) 1 (p .openings))
-    halt-predefined plain e w noted = halt-byte e w (noted-length noted) (λ v m. memory-noted reads list pool m name (f .no-amp) plain e noted)
+    pub halt-predefined : {b : ℕ} → predefinedOf name ≡ predefined (b ∷ []) → binding list pool name ≡ predefined (b ∷ []) → {new after : List ℕ} {size : ℕ}
+        → Writes (shaped (r .form) (b ∷ [])) (p .len) old new size → Noted seen b after → HaltKeeps level (r .base) p old seen new after (Next (end + 1) size (p .openings))
+    halt-predefined plain e w noted = halt-byte e w (noted-length noted) (λ v m. memory-noted reads (r .form) list pool m name (f .no-amp) plain e noted)
 
-    pub halt-plain : {b : ℕ} → binding list pool name ≡ predefined (b ∷ []) → {new : List ℕ} → new ≡ set old (p .len) b
-        → HaltKeeps level (r .base) p old seen new seen (Next (end + 1) 1 (p .openings))
+    pub halt-plain : {b : ℕ} → binding list pool name ≡ predefined (b ∷ []) → {new : List ℕ} {size : ℕ} → Writes (shaped (r .form) (b ∷ [])) (p .len) old new size
+        → HaltKeeps level (r .base) p old seen new seen (Next (end + 1) size (p .openings))
     halt-plain e w = halt-byte e w refl (λ v m. m)
+
+-- the byte of a predefined name is ASCII
+pub plain-ascii : (t list pool : List ℕ) (at b : ℕ) → ForPlain t list pool at b → b < 128
+plain-ascii t list pool at b f =
+    one-of-four (λ c. c < 128) (omega arith) (omega arith) (omega arith) (omega arith) (nameOf t at (at + 3)) b (f .name .no-amp) (f .is)
 
 -- ---- a space, for a line end or a blank
 
@@ -292,7 +313,7 @@ halt-blank r t list pool p deep old seen inside {w} halt blank {new} q =
       past = (omega (arith, blank .some), blank .inside);
       buffer = adds .buffer;
       words = refl;
-      goes = λ v whole begun b c. came-blank r list pool t deep v whole begun c (record { byte = 32; width = w }) inside read adds;
+      goes = λ v whole begun b c. came-blank r list pool t deep v whole begun c w inside read adds;
     }
 
 -- ---- a table

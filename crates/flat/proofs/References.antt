@@ -13,6 +13,7 @@ use borrow.Author.Tests.{eqb-true, eqb-false}
 use types.Run.{OneOf}
 use denote.Enum.Declared.{tagOf}
 use Rattle.text.specs.Bytes.{sameBytes}
+use Rattle.text.proofs.Utf8.{ascii-well-formed}
 use Rattle.charref.specs.CharRef.{charNumber, anyCharacter, numberAnswer}
 use Rattle.charref.specs.Reading.{Found, Closed}
 use Rattle.charref.specs.declared.Quick.{Quick}
@@ -20,7 +21,7 @@ use Rattle.charref.specs.declared.CharNumber.{CharNumber}
 use Rattle.charref.specs.declared.CharNumber.the-variants.{Char, UnexpectedSign, InvalidNumber, InvalidCodepoint, IllegalCharacter, Forbidden}
 use Rattle.charref.proofs.CharNumber.{the-type}
 use Rattle.charref.proofs.Encoding.{encode-1}
-use Rattle.charref.proofs.Numbers.{charNumber-character, charNumber-passes, relegal, relegal-number}
+use Rattle.charref.proofs.Numbers.{charNumber-character, charNumber-well-formed, charNumber-passes, relegal, relegal-number}
 use Rattle.text.proofs.Patterns.{at-head}
 use Rattle.entity.specs.Binding.{Bound, predefined, predefinedOf, boundTo}
 use Rattle.entity.specs.Commands.{Unhidden}
@@ -42,7 +43,7 @@ use Rattle.flat.specs.declared.Meaning.the-variants.{Char as Character}
 pub number-char : (digits : List ℕ) (next : ℕ) {c : ℕ} → charNumber anyCharacter digits ≡ Char c → NumberMeans digits next (Character c next)
 unfolding numberOutcome numbered
 number-char digits next {c} e =
-    (refl, charNumber-character digits c e .most, λ legal n. ap (λ (x : CharNumber). numbered (numberAnswer x) n) (relegal-number legal digits ∙ ap (relegal legal) e))
+    (refl, charNumber-character digits c e .most, charNumber-well-formed digits c e, λ legal n. ap (λ (x : CharNumber). numbered (numberAnswer x) n) (relegal-number legal digits ∙ ap (relegal legal) e))
 
 -- what is asked of a number by any rule, where the lenient one gives another case than a character
 other-number : (legal : ℕ → CharNumber) (digits : List ℕ) (n : ℕ) {x : CharNumber} → charNumber anyCharacter digits ≡ x
@@ -85,13 +86,14 @@ module _ (t : List ℕ) (at : ℕ) (amp : getD t at 0 ≡ 38) {end : ℕ} (e : N
         let to = m .0 in
         record {
           small = m .1;
+          utf8 = m .2;
           on = omega (arith, to, e .from);
           to = omega (arith, to, h);
           next-is = λ heads refers. goes-to heads refers ∙ sym to;
           given = λ heads refers s is depth deep n.
-              at-number heads refers s depth deep t at n end amp e h b ∙ m .2 (s .legal) n ∙ ap (λ (x : CharNumber). numbered (numberAnswer x) n) is;
+              at-number heads refers s depth deep t at n end amp e h b ∙ m .3 (s .legal) n ∙ ap (λ (x : CharNumber). numbered (numberAnswer x) n) is;
           forbidden = λ other heads refers s is depth deep n.
-              at-number heads refers s depth deep t at n end amp e h b ∙ m .2 (s .legal) n ∙ ap (λ (x : CharNumber). numbered (numberAnswer x) n) is;
+              at-number heads refers s depth deep t at n end amp e h b ∙ m .3 (s .legal) n ∙ ap (λ (x : CharNumber). numbered (numberAnswer x) n) is;
         }
     means-number b (Name x) m = absurd m
     means-number b (Refused number first second) m = λ heads refers s such depth deep n. at-number heads refers s depth deep t at n end amp e h b ∙ m (s .legal) n
@@ -102,6 +104,7 @@ module _ (t : List ℕ) (at : ℕ) (amp : getD t at 0 ≡ 38) {end : ℕ} (e : N
       means-amp q =
           record {
             small = omega arith;
+            utf8 = rw (encode-1 38 (omega arith)) (ascii-well-formed (38 ∷ []) refl);
             on = omega (arith, e .from);
             to = omega (arith, h);
             next-is = goes-to;

@@ -1,31 +1,71 @@
--- Runs and characters written after a value (`run-piece`, `run-none`, `run-empty`, `char-piece`, `char-none`). Assumes nothing.
-use mathlib.Core.Path.{_≡_, sym, subst, _∙_}
-use mathlib.Core.List.{List}
-use Prim.Native.Nat.{ℕ, _+_, _-_, _≤_, _<_}
+-- Pieces written after a value: runs (`run-piece`, `run-none`, `run-empty`), what has the canonical form (`form-piece`, `form-none`,
+-- `form-writes`), and a character's bytes in a buffer of their own (`held-char`). Assumes nothing.
+use mathlib.Core.Path.{_≡_, refl, sym, ap, subst, _∙_}
+use mathlib.Core.Logic.{_≢_}
+use mathlib.Core.Bool.{Bool}
+use mathlib.Core.List.{List, [], _++_}
+use Prim.Native.Nat.{ℕ, _+_, _-_, _*_, _≤_, _<_}
 use native.Mathlib.Omega.{arith}
+use lib.Dec.{eqb}
 use lib.ListN.{length, take, drop, length-drop}
-use lib.Seq.{length-take-le}
+use lib.Seq.{length-take-le, take-append-seam}
 use borrow.Rule.Slice.PartMut.{midOf, putMid}
 use Rattle.text.specs.Call.{laid}
+use Rattle.output.proofs.Laid.{rest-part}
+use Rattle.eols.specs.Stops.{ruleFor}
+use Rattle.canonical.specs.Canonical.{canonical}
+use Rattle.canonical.proofs.Canonical.{canonical-length}
+use Rattle.charref.specs.CharRef.{encode}
 use Rattle.halts.specs.Halts.{blanksSpaced}
-use Rattle.memory.specs.Levels.{Adds}
-use Rattle.memory.proofs.Fitted.{adds-piece, adds-none, adds-nothing}
 use Rattle.halts.proofs.Spaces.{spaced-length}
+use Rattle.memory.specs.Slots.{shaped}
+use Rattle.memory.specs.Levels.{Adds}
+use Rattle.memory.proofs.Shaped.{shaped-none, shaped-plain, shaped-form}
+use Rattle.memory.proofs.Fitted.{adds-piece, adds-none, adds-nothing}
+use Rattle.flat.specs.Between.{Writes}
+
+-- ---- as the value is, or in its canonical form
+
+pub writes-plain : {form : ℕ} → form ≡ 0 → {more old new : List ℕ} {len size : ℕ} → Writes more len old new size → Writes (shaped form more) len old new size
+writes-plain e {more} {old} {new} {len} {size} w = subst (λ (x : List ℕ). Writes x len old new size) (sym (shaped-plain e more)) w
+
+pub writes-form : {form : ℕ} → form ≢ 0 → (more : List ℕ) {old new : List ℕ} {len size : ℕ} → Writes (canonical (ruleFor (eqb form 2)) more) len old new size
+    → Writes (shaped form more) len old new size
+writes-form n more {old} {new} {len} {size} w = subst (λ (x : List ℕ). Writes x len old new size) (sym (shaped-form n more)) w
+
+pub writes-nothing : (form len : ℕ) (old : List ℕ) → Writes (shaped form []) len old old 0
+writes-nothing form len old = subst (λ (x : List ℕ). Writes x len old old 0) (sym (shaped-none form)) (refl, adds-nothing len old)
+
+-- ---- a piece, where it fits and where it does not
+
+pub writes-piece : (more : List ℕ) {len size : ℕ} {old part : List ℕ} → size ≡ length more → len + size ≤ length old → part ≡ laid more (midOf len (length old - len) old)
+    → Writes more len old (putMid len (length old - len) old part) size
+writes-piece more n h p = (n, adds-piece more (omega (arith, n, h)) p)
+
+pub writes-none : (more : List ℕ) {len size : ℕ} {old : List ℕ} → size ≡ length more → length old < len + size → Writes more len old old size
+writes-none more {len} {size} {old} n h = (n, adds-none more len old (omega (arith, n, h)))
+
+-- ---- runs
 
 module _ (t : List ℕ) (from to : ℕ) (h : from ≤ to) (g : to ≤ length t) where
   abbrev run : List ℕ
   run = blanksSpaced (take (to - from) (drop from t))
 
-  run-length : length run ≡ to - from
-  run-length = spaced-length (take (to - from) (drop from t)) ∙ length-take-le (to - from) (drop from t) (rw length-drop (omega (arith, h, g)))
+  pub run-length : to - from ≡ length run
+  run-length = sym (spaced-length (take (to - from) (drop from t)) ∙ length-take-le (to - from) (drop from t) (rw length-drop (omega (arith, h, g))))
 
-  module _ (len : ℕ) (old : List ℕ) where
-    pub run-piece : {part : List ℕ} → len + (to - from) ≤ length old → part ≡ laid run (midOf len (length old - len) old)
-        → Adds run len old (putMid len (length old - len) old part)
-    run-piece k p = adds-piece run (omega (arith, k, run-length)) p
+  pub run-empty : to - from ≡ 0 → run ≡ []
+  run-empty k = ap (λ (n : ℕ). blanksSpaced (take n (drop from t))) k
 
-    pub run-none : length old < len + (to - from) → Adds run len old old
-    run-none k = adds-none run len old (omega (arith, k, run-length))
+-- its form is at most six times as long
+pub form-most : (newer : Bool) (run : List ℕ) → length (canonical (ruleFor newer) (blanksSpaced run)) ≤ 6 * length run
+form-most newer run = omega (arith, canonical-length (ruleFor newer) (blanksSpaced run) .1, spaced-length run)
 
-    pub run-empty : to - from ≡ 0 → Adds run len old old
-    run-empty k = subst (λ (n : ℕ). Adds (blanksSpaced (take n (drop from t))) len old old) (sym k) (adds-nothing len old)
+-- so there is room for it in the rest of the buffer
+pub rest-room : (len : ℕ) (old : List ℕ) {n : ℕ} → len + n ≤ length old → n ≤ length (midOf len (length old - len) old)
+rest-room len old {n} h = omega (arith, h, ap length (rest-part len old), length-drop len old)
+
+-- ---- a character in a buffer of its own
+
+pub held-char : (c n : ℕ) (rest : List ℕ) → n ≡ length (encode c) → take n (encode c ++ rest) ≡ encode c
+held-char c n rest e = ap (λ (k : ℕ). take k (encode c ++ rest)) e ∙ take-append-seam (encode c) rest

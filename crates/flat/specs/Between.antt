@@ -6,6 +6,7 @@ use mathlib.Core.Bool.{Bool, true, false}
 use mathlib.Core.List.{List, [], _∷_}
 use lib.ListN.{length, getD, take, drop}
 use Rattle.text.specs.Bytes.{sameBytes}
+use Rattle.text.specs.Utf8.{WellFormed}
 use Rattle.text.specs.declared.Answer.{Answer}
 use Rattle.text.specs.declared.Answer.the-variants.{Done}
 use Rattle.text.specs.declared.Answer.the-variants.{Refused as Refusal}
@@ -15,6 +16,7 @@ use Rattle.charref.specs.declared.CharNumber.the-variants.{Forbidden}
 use Rattle.charref.specs.declared.CharNumber.the-variants.{Char as Character}
 use Rattle.legal.specs.FirstFault.{Clean}
 use Rattle.halts.specs.Halts.{Smooth}
+use Rattle.entity.specs.Table.{ValidTable}
 use Rattle.entity.specs.Binding.{predefined, predefinedOf, binding}
 use Rattle.entity.specs.Commands.{commandName, commandText, Defines}
 use Rattle.tokens.specs.Tokens.{named, stop, Heads, tokenOf}
@@ -22,13 +24,19 @@ use Rattle.tokens.specs.Outcome.{Outcome, done, refused, numbered, numberOutcom
 use Rattle.tokens.specs.Walking.{NameEnd, headAt, nextAt}
 use Rattle.attribute.specs.Walk.{Settings}
 use Rattle.attribute.specs.Steps.{faultBy, readBy, Refers, outcomeAt}
-use Rattle.memory.specs.Levels.{Level, Came, Refuses, Opens}
+use Rattle.memory.specs.Levels.{Level, Adds, Came, Refuses, Opens}
 use Rattle.memory.specs.declared.Reading.{Reading}
 use Rattle.memory.specs.declared.Place.{Place}
 use Rattle.flat.specs.declared.Meaning.{Meaning}
 use Rattle.flat.specs.declared.Meaning.the-variants.{Char, Name, Refused}
 use Rattle.flat.specs.declared.Halted.{Halted}
 use Rattle.flat.specs.declared.Halted.the-variants.{Next, Opening, Paused, Stopped}
+
+-- ---- pieces of what is written
+
+-- they are added after `len` bytes, and their number is told, whether they fit or not
+abbrev pub Writes : List ℕ → ℕ → List ℕ → List ℕ → ℕ → Type 0
+Writes more len old new size = (size ≡ length more) × Adds more len old new
 
 -- ---- a text that is copied where it is referred to
 
@@ -50,6 +58,7 @@ Answers text at outcome = AnswersWhere (λ s. Unit {0}) text at outcome
 -- the `&` at an offset stands for a character; what comes after it starts at `next`
 pub record ForChar (text : List ℕ) (at c next : ℕ) : Type 0 where
   pub small : c ≤ 1114111
+  pub utf8 : WellFormed (encode c)
   pub on : at + 2 ≤ next
   pub to : next ≤ length text
   pub next-is : (heads : Heads) → Refers heads → nextAt heads text at ≡ next
@@ -88,7 +97,7 @@ handedTo (Refusal number first second) = Refused number first second
 -- a character number, with the text after `#`
 abbrev pub NumberMeans : List ℕ → ℕ → Meaning → Type 0
 NumberMeans digits next (Char c after) =
-    (after ≡ next) × (c ≤ 1114111) × ((legal : ℕ → CharNumber) (n : ℕ) → numberOutcome legal digits n ≡ numbered (numberAnswer (legal c)) n)
+    (after ≡ next) × (c ≤ 1114111) × WellFormed (encode c) × ((legal : ℕ → CharNumber) (n : ℕ) → numberOutcome legal digits n ≡ numbered (numberAnswer (legal c)) n)
 NumberMeans digits next (Name end) = ⊥
 NumberMeans digits next (Refused number first second) = (legal : ℕ → CharNumber) (n : ℕ) → numberOutcome legal digits n ≡ refused [] n number first second
 
@@ -120,6 +129,7 @@ pub record Referred (r : Reading) (text list pool : List ℕ) (p : Place) (comma
   pub name : List ℕ
   pub deep : r .depth ≢ 0
   pub bytes : (k : ℕ) → getD list k 0 < 0x100
+  pub valid : ValidTable list pool
   pub inside : p .at < length text
   pub on : p .at < next
   pub to : next ≤ length text

@@ -1,23 +1,26 @@
 // The walk between two openings: runs, line ends, characters, predefined names, texts that are kept, and short texts without halts.
 // Nothing here calls itself. A run is written byte by byte, TAB and LF as spaces; it ends at a halt (crate halts), and `halt_step` says
-// what becomes of that. What fits in the output is written, else nothing: a walk that counts lends a short one.
+// what becomes of that. Where the canonical form is wanted, that of each piece is written: pieces are whole characters. What fits in the
+// output is written, else nothing: a walk that counts lends a short one.
 ghost use mathlib.Core.Path.{_≡_};
 ghost use mathlib.Core.Logic.{_≢_};
 ghost use mathlib.Core.Bool.{true, false};
-ghost use mathlib.Core.List.{List};
+ghost use mathlib.Core.List.{List, [], _∷_};
 ghost use Prim.Native.Nat.{ℕ, _+_, _-_, _≤_, _<_};
 ghost use lib.Dec.{eqb};
 ghost use lib.ListN.{length, getD, take, drop};
 ghost use Rattle.text.specs.Bytes.{pick};
 ghost use Rattle.charref.specs.CharRef.{encode};
 ghost use Rattle.charref.specs.declared.CharNumber.the-variants.{Char, Forbidden};
+ghost use Rattle.eols.specs.Stops.{ruleFor};
+ghost use Rattle.canonical.specs.Canonical.{canonical};
 ghost use Rattle.legal.specs.FirstFault.{FirstFault};
 ghost use Rattle.halts.specs.Halts.{halts, HaltAt, blanksSpaced};
 ghost use Rattle.entity.specs.Table.{ValidTable};
 ghost use Rattle.attribute.specs.Steps.{headsBy, faultBy, legalBy, Blank};
-ghost use Rattle.memory.specs.Slots.{Trusts};
+ghost use Rattle.memory.specs.Slots.{shaped, Trusts};
 ghost use Rattle.memory.specs.Levels.{Adds, Bounds, Lent, FlatKeeps, levelOf};
-ghost use Rattle.flat.specs.Between.{Leaf, Means, ForName, ForPlain, handedTo, NumberMeans, HaltKeeps, Referred};
+ghost use Rattle.flat.specs.Between.{Writes, Leaf, Means, ForName, ForPlain, handedTo, NumberMeans, HaltKeeps, Referred};
 use charref::CharNumber;
 use entity::Referent;
 use memory::Had;
@@ -64,19 +67,61 @@ enum Halted {
     },
 }
 
-// ---- writing after the `len` bytes of this level's value
+// ---- writing after the `len` bytes that this level has written
+
+// The canonical form of a value.
+pub fn write_value(value: &[u8], len: usize, newer: bool, out: &mut [u8]) -> usize
+    requires { ⌜ (length (now value) ≤ 16777216) × (len ≤ 0x1000000000000) ⌝ }
+    ensures { λ r. ⌜ (r ≡ length (canonical (ruleFor newer) (now (value .entry)))) × Adds (canonical (ruleFor newer) (now (value .entry))) len (now (out .entry)) (now (out .exit)) ⌝ }
+{
+    let n = canonical::canonical_length(value, newer);
+    if len + n <= out.len() {
+        canonical::write_canonical(value, newer, &mut out[len..]);
+    }
+    n
+}
+
+// The canonical form of a run, its blanks as spaces. Where there are six bytes for each there is room: no count is needed.
+pub fn write_form(run: &[u8], len: usize, newer: bool, out: &mut [u8]) -> usize
+    requires { ⌜ (length (now run) ≤ 16777216) × (len ≤ 0x1000000000000) ⌝ }
+    ensures { λ r. ⌜ (r ≡ length (canonical (ruleFor newer) (blanksSpaced (now (run .entry))))) × Adds (canonical (ruleFor newer) (blanksSpaced (now (run .entry)))) len (now (out .entry)) (now (out .exit)) ⌝ }
+{
+    if len + 6 * run.len() <= out.len() {
+        return canonical::write_spaced(run, newer, &mut out[len..]);
+    }
+    let n = canonical::spaced_length(run, newer);
+    if len + n <= out.len() {
+        canonical::write_spaced(run, newer, &mut out[len..]);
+    }
+    n
+}
 
 // A run, its blanks as spaces.
-fn write_run(text: &[u8], from: usize, to: usize, len: usize, out: &mut [u8])
+fn write_run(text: &[u8], from: usize, to: usize, len: usize, form: u8, out: &mut [u8]) -> usize
     requires { ⌜ (from ≤ to) × (to ≤ length (now text)) × (length (now text) ≤ 16777216) × (len ≤ 0x1000000000000) ⌝ }
-    ensures { λ _. ⌜ Adds (blanksSpaced (take (to - from) (drop from (now (text .entry))))) len (now (out .entry)) (now (out .exit)) ⌝ }
+    ensures { λ r. ⌜ Writes (shaped form (blanksSpaced (take (to - from) (drop from (now (text .entry)))))) len (now (out .entry)) (now (out .exit)) r ⌝ }
 {
     let n = to - from;
-    if n != 0 {
-        if len + n <= out.len() {
-            halts::put_spaced(&text[from..to], &mut out[len..]);
-        }
+    if n == 0 {
+        return 0;
     }
+    if form != 0 {
+        return write_form(&text[from..to], len, form == 2, out);
+    }
+    if len + n <= out.len() {
+        halts::put_spaced(&text[from..to], &mut out[len..]);
+    }
+    n
+}
+
+// The canonical form of a character.
+fn write_char_form(c: u32, len: usize, newer: bool, out: &mut [u8]) -> usize
+    requires { ⌜ (c ≤ 1114111) × (len ≤ 0x1000000000000) ⌝ }
+    ensures { λ r. ⌜ (r ≡ length (canonical (ruleFor newer) (encode c))) × Adds (canonical (ruleFor newer) (encode c)) len (now (out .entry)) (now (out .exit)) ⌝ }
+{
+    let mut held = [0u8; 4];
+    let n = charref::encode_utf8(c, &mut held);
+    write_value(&held[..n], len, newer, out)
 }
 
 // A character above ASCII.
@@ -92,15 +137,30 @@ fn write_wide(c: u32, len: usize, out: &mut [u8]) -> usize
 }
 
 // A character. Most are ASCII.
-fn write_char(c: u32, len: usize, out: &mut [u8]) -> usize
+fn write_char(c: u32, len: usize, form: u8, out: &mut [u8]) -> usize
     requires { ⌜ (c ≤ 1114111) × (len ≤ 0x1000000000000) ⌝ }
-    ensures { λ r. ⌜ (r ≡ length (encode c)) × Adds (encode c) len (now (out .entry)) (now (out .exit)) ⌝ }
+    ensures { λ r. ⌜ Writes (shaped form (encode c)) len (now (out .entry)) (now (out .exit)) r ⌝ }
 {
+    if form != 0 {
+        return write_char_form(c, len, form == 2, out);
+    }
     if c < 0x80 {
         output::put_byte(c as u8, len, out);
         return 1;
     }
     write_wide(c, len, out)
+}
+
+// A byte that a predefined name stands for.
+fn write_byte(b: u8, len: usize, form: u8, out: &mut [u8]) -> usize
+    requires { ⌜ (b < 128) × (len ≤ 0x1000000000000) ⌝ }
+    ensures { λ r. ⌜ Writes (shaped form (b ∷ [])) len (now (out .entry)) (now (out .exit)) r ⌝ }
+{
+    if form != 0 {
+        return write_char_form(b as u32, len, form == 2, out);
+    }
+    output::put_byte(b, len, out);
+    1
 }
 
 // ---- references
@@ -235,8 +295,7 @@ fn text_step(
     }
     if reading.depth != 1 {
         if is_leaf(value, reading.inner == 1, reading.inguard) {
-            let n = value.len();
-            write_run(value, 0, n, place.len, out);
+            let n = write_run(value, 0, value.len(), place.len, reading.form, out);
             memory::keep(command, slot, 2, reading.base + place.len, n, 1, seen);
             return Halted::Next {
                 at: next,
@@ -294,10 +353,10 @@ fn named_step(
         },
         Referent::Predefined(b) => {
             memory::keep_plain(b, seen);
-            output::put_byte(b, place.len, out);
+            let more = write_byte(b, place.len, reading.form, out);
             Halted::Next {
                 at: end + 1,
-                len: 1,
+                len: more,
                 openings: made,
             }
         }
@@ -392,10 +451,10 @@ fn halt_step(
     }
     let plain = quick_plain(text, at, seen, list);
     if plain != 0 {
-        output::put_byte(plain, len, out);
+        let written = write_byte(plain, len, reading.form, out);
         return Halted::Next {
             at: at + 4,
-            len: 1,
+            len: written,
             openings: place.openings,
         };
     }
@@ -408,7 +467,7 @@ fn halt_step(
                     second: 0,
                 };
             }
-            let more = write_char(c, len, out);
+            let more = write_char(c, len, reading.form, out);
             Halted::Next {
                 at: next,
                 len: more,
@@ -477,8 +536,8 @@ pub fn normalize_flat(
                 second: 0,
             };
         }
-        write_run(text, at, end, len, out);
-        len += end - at;
+        let written = write_run(text, at, end, len, reading.form, out);
+        len += written;
         if end == text.len() {
             return Reached::End {
                 len,

@@ -1,10 +1,16 @@
 -- What the checks of a call answer, and what they let pass. Assumes nothing.
 use mathlib.Core.Path.{_≡_, refl, _∙_, ap}
+use mathlib.Core.Bool.{Bool, true, false}
 use mathlib.Core.List.{List, []}
 use Prim.Native.Nat.{ℕ, _≤_}
 use native.Mathlib.Omega.{arith}
+use lib.Dec.{eqb}
 use lib.ListN.{length}
-use Rattle.text.specs.Call.{andThen, callOf, guarded, longestText, lengthCheck, utf8Check, textCheck}
+use borrow.Author.Tests.{eqb-true}
+use Rattle.text.specs.Bytes.{pick}
+use Rattle.text.specs.Utf8.{utf8End, WellFormed}
+use Rattle.text.proofs.Longest.{end-whole}
+use Rattle.text.specs.Call.{passed, andThen, callOf, guarded, longestText, lengthCheck, utf8Check, textCheck}
 use Rattle.text.specs.declared.Answer.{Answer}
 use Rattle.text.specs.declared.Answer.the-variants.{Done, Refused}
 use Rattle.text.proofs.Call.{checked-length}
@@ -52,6 +58,15 @@ module _ (text list pool : List ℕ) (others : Answer) {r : Answer} {first secon
   passed-others : Passes others
   passed-others = let k = both (lengthCheck text) others (front .is) .1 in record { first = front .first; second = front .second; is = k }
 
+-- the text is UTF-8
+checked-utf8 : (text : List ℕ) {first second : ℕ} → utf8Check text ≡ Done first second → WellFormed text
+unfolding utf8Check
+checked-utf8 text {first} {second} e = go (eqb (utf8End text) (length text)) refl e
+  where
+    go : (t : Bool) → eqb (utf8End text) (length text) ≡ t → pick t passed (Refused 5 (utf8End text) 0) ≡ Done first second → WellFormed text
+    go true q k = end-whole text (eqb-true (utf8End text) (length text) q)
+    go false q k = let z : _≡_ {A = ℕ} 0 1 = cc in absurd (omega arith)
+
 module _ (text : List ℕ) (version depth limit : ℕ) (list pool : List ℕ) {r : Answer} {first second : ℕ} (e : r ≡ walkCheck text version depth limit list pool) (d : r ≡ Done first second) where
   pub passed-limit : limit ≤ 1000000
   passed-limit =
@@ -59,8 +74,13 @@ module _ (text : List ℕ) (version depth limit : ℕ) (list pool : List ℕ) {r
       let s = both (settingsCheck version depth limit) (utf8Check text) (k .is) .0 in
       checked-settings version depth limit (s .is) .1
 
+  pub passed-utf8 : WellFormed text
+  passed-utf8 =
+      let k = passed-others text list pool (andThen (settingsCheck version depth limit) (utf8Check text)) e d in
+      checked-utf8 text (both (settingsCheck version depth limit) (utf8Check text) (k .is) .1)
+
   -- all that a walk asks of its arguments
-  pub passed-walk : ValidTable list pool × (length text ≤ longestText × limit ≤ 1000000)
+  pub passed-walk : ValidTable list pool × (length text ≤ longestText × (limit ≤ 1000000 × WellFormed text))
   passed-walk =
       let others = andThen (settingsCheck version depth limit) (utf8Check text) in
-      (passed-table text list pool others e d, (passed-length text list pool others e d, passed-limit))
+      (passed-table text list pool others e d, (passed-length text list pool others e d, (passed-limit, passed-utf8)))

@@ -35,10 +35,10 @@ pub own-tests : (a b d e : ℕ) → (ltb a b || ltb d e) ≡ false → (b ≤ a)
 own-tests a b d e t = (ltb-false a b (or-left (ltb a b) (ltb d e) t), ltb-false d e (or-right (ltb a b) (ltb d e) t))
 
 -- a memory has the bounds that are asked for
-pub memory-bounds : (s : Settings) (list pool : List ℕ) {v words : List ℕ} {reached : ℕ} (command slot : ℕ) → Memory s list pool v words → slot < 16
+pub memory-bounds : (s : Settings) (form : ℕ) (list pool : List ℕ) {v words : List ℕ} {reached : ℕ} (command slot : ℕ) → Memory s form list pool v words → slot < 16
     → length v ≡ reached
     → Bounds command slot (s .limit) reached words
-memory-bounds s list pool command slot m h e =
+memory-bounds s form list pool command slot m h e =
     record {
       size = m .size;
       inside = λ q. omega (arith, m .stands slot command h q .inside, e);

@@ -1,4 +1,4 @@
--- The whole memory: empty at first (`memory-zeros`, `memory-none`), kept as the value grows (`memory-more`), one slot or one word replaced
+-- The whole memory: empty at first (`memory-zeros`, `memory-none`), kept as more is written (`memory-more`), one slot or one word replaced
 -- (`memory-kept`, `memory-noted`), and what it says of the table (`memory-trusts`). Assumes nothing.
 use mathlib.Core.Path.{_≡_, refl, sym, ap, subst, _∙_}
 use mathlib.Core.Logic.{_≢_}
@@ -115,9 +115,9 @@ module _ (words : List ℕ) (size : length words ≡ 84) (k c : ℕ) (x : Slot) 
 
 -- ---- the memory
 
-module _ (s : Settings) (list pool : List ℕ) where
+module _ (s : Settings) (form : ℕ) (list pool : List ℕ) where
   -- words that are all 0 keep nothing
-  pub memory-zeros : (v words : List ℕ) → (length words ≢ 0 → length words ≡ 84) → ((k : ℕ) → getD words k 0 ≡ 0) → Memory s list pool v words
+  pub memory-zeros : (v words : List ℕ) → (length words ≢ 0 → length words ≡ 84) → ((k : ℕ) → getD words k 0 ≡ 0) → Memory s form list pool v words
   memory-zeros v words size zeros =
       record {
         size = size;
@@ -126,17 +126,17 @@ module _ (s : Settings) (list pool : List ℕ) where
         plain = λ b d e. absurd (e (zeros (plainWord b)));
       }
 
-  pub memory-start : (v : List ℕ) → Memory s list pool v (replicate 84 0)
+  pub memory-start : (v : List ℕ) → Memory s form list pool v (replicate 84 0)
   memory-start v = memory-zeros v (replicate 84 0) (λ z. refl) (zero-at 84)
 
   -- nor does a memory of no words
-  pub memory-none : (v words : List ℕ) → length words ≡ 0 → Memory s list pool v words
+  pub memory-none : (v words : List ℕ) → length words ≡ 0 → Memory s form list pool v words
   memory-none v [] e = memory-zeros v [] (λ z. absurd (z e)) (λ k. refl)
   memory-none v (w ∷ ws) e = absurd (omega (arith, e))
 
-  module _ {v words : List ℕ} (m : Memory s list pool v words) where
-    -- the value grows at its end
-    pub memory-more : (more : List ℕ) → Memory s list pool (v ++ more) words
+  module _ {v words : List ℕ} (m : Memory s form list pool v words) where
+    -- more is written at the end
+    pub memory-more : (more : List ℕ) → Memory s form list pool (v ++ more) words
     memory-more more =
         record {
           size = m .size;
@@ -146,8 +146,8 @@ module _ (s : Settings) (list pool : List ℕ) where
         }
 
     -- a text is kept in a slot, whatever was in it
-    pub memory-keep : (k c : ℕ) (x : Slot) → length words ≢ 0 → k < 16 → Defines list pool c → Stands s (commandText list pool c) v x
-        → Memory s list pool v (keptIn words k c x)
+    pub memory-keep : (k c : ℕ) (x : Slot) → length words ≢ 0 → k < 16 → Defines list pool c → Stands s form (commandText list pool c) v x
+        → Memory s form list pool v (keptIn words k c x)
     memory-keep k c x some h d t =
         let size = m .size some in
         record {
@@ -170,18 +170,18 @@ module _ (s : Settings) (list pool : List ℕ) where
         go-defines {j} e false i l q = m .defines j e l (sym (kept-far words (m .size some) k c x h j l (eqb-false j k i) .0) ∙ q)
 
         go-stands : {j : ℕ} (e : ℕ) (b : Bool) → eqb j k ≡ b → j < 16 → getD (keptIn words k c x) j 0 ≡ e + 1
-            → Stands s (commandText list pool e) v (slotAt (keptIn words k c x) j)
+            → Stands s form (commandText list pool e) v (slotAt (keptIn words k c x) j)
         go-stands {j} e true i l q =
             let z = eqb-true j k i in
-            subst (λ (n : ℕ). Stands s (commandText list pool n) v (slotAt (keptIn words k c x) j)) (same-command e z q)
-            (subst (Stands s (commandText list pool c) v) (sym (kept-slot words (m .size some) k c x h) ∙ ap (slotAt (keptIn words k c x)) (sym z)) t)
+            subst (λ (n : ℕ). Stands s form (commandText list pool n) v (slotAt (keptIn words k c x) j)) (same-command e z q)
+            (subst (Stands s form (commandText list pool c) v) (sym (kept-slot words (m .size some) k c x h) ∙ ap (slotAt (keptIn words k c x)) (sym z)) t)
         go-stands {j} e false i l q =
             let f = kept-far words (m .size some) k c x h j l (eqb-false j k i) in
-            subst (Stands s (commandText list pool e) v) (sym (f .1)) (m .stands j e l (sym (f .0) ∙ q))
+            subst (Stands s form (commandText list pool e) v) (sym (f .1)) (m .stands j e l (sym (f .0) ∙ q))
 
     -- a predefined name was looked up, and the table does not define it
     pub memory-plain : (name : List ℕ) (c w : ℕ) → c ≢ 38 → binding list pool name ≡ predefined (c ∷ []) → predefinedOf name ≡ predefined (c ∷ [])
-        → Memory s list pool v (set words (plainWord c) w)
+        → Memory s form list pool v (set words (plainWord c) w)
     memory-plain name c w hc found p =
         let a = plain-after c in
         let low : (j : ℕ) → j < 80 → getD (set words (plainWord c) w) j 0 ≡ getD words j 0 =
@@ -192,7 +192,7 @@ module _ (s : Settings) (list pool : List ℕ) where
           stands = λ k e h q.
               let r : slotAt (set words (plainWord c) w) k ≡ slotAt words k =
               rw (low (k + 16) (omega (arith, h)), low (k + 32) (omega (arith, h)), low (k + 48) (omega (arith, h)), low (k + 64) (omega (arith, h))) in
-              subst (Stands s (commandText list pool e) v) (sym r) (m .stands k e h (sym (low k (omega (arith, h))) ∙ q));
+              subst (Stands s form (commandText list pool e) v) (sym r) (m .stands k e h (sym (low k (omega (arith, h))) ∙ q));
           plain = λ b hb q. go b hb q (eqb (plainWord b) (plainWord c)) refl;
         }
       where
@@ -203,7 +203,7 @@ module _ (s : Settings) (list pool : List ℕ) where
 
 -- ---- by the contracts of the code
 
-pub memory-trusts : {s : Settings} {list pool v words : List ℕ} → Memory s list pool v words → Trusts list pool words
+pub memory-trusts : {s : Settings} {form : ℕ} {list pool v words : List ℕ} → Memory s form list pool v words → Trusts list pool words
 memory-trusts m = record { size = m .size; defines = m .defines; plain = m .plain }
 
 -- both leave the number of words
@@ -231,25 +231,25 @@ noted-length {old} {new} {b} k = go (eqb (length old) 0) refl
     go true e = ap length (k .none (eqb-true (length old) 0 e))
     go false e = ap length (k .enters (eqb-false (length old) 0 e)) ∙ length-set old (plainWord b) 1
 
-module _ (s : Settings) (list pool : List ℕ) {v old new : List ℕ} (m : Memory s list pool v old) where
+module _ (s : Settings) (form : ℕ) (list pool : List ℕ) {v old new : List ℕ} (m : Memory s form list pool v old) where
   -- the text of a command that stands so was kept
-  pub memory-kept : {slot command : ℕ} {x : Slot} → slot < 16 → Defines list pool command → Stands s (commandText list pool command) v x
-      → Kept old slot command x new → Memory s list pool v new
+  pub memory-kept : {slot command : ℕ} {x : Slot} → slot < 16 → Defines list pool command → Stands s form (commandText list pool command) v x
+      → Kept old slot command x new → Memory s form list pool v new
   memory-kept {slot} {command} {x} h d t k = go (eqb (length old) 0) refl
     where
-      go : (b : Bool) → eqb (length old) 0 ≡ b → Memory s list pool v new
-      go true e = subst (Memory s list pool v) (sym (k .none (eqb-true (length old) 0 e))) m
+      go : (b : Bool) → eqb (length old) 0 ≡ b → Memory s form list pool v new
+      go true e = subst (Memory s form list pool v) (sym (k .none (eqb-true (length old) 0 e))) m
       go false e =
           let some = eqb-false (length old) 0 e in
-          subst (Memory s list pool v) (sym (k .enters some)) (memory-keep s list pool m slot command x some h d t)
+          subst (Memory s form list pool v) (sym (k .enters some)) (memory-keep s form list pool m slot command x some h d t)
 
   -- a name other than `amp` was looked up, and the table does not define it
   pub memory-noted : (name : List ℕ) {b : ℕ} → sameBytes name (97 ∷ 109 ∷ 112 ∷ []) ≡ false → predefinedOf name ≡ predefined (b ∷ [])
-      → binding list pool name ≡ predefined (b ∷ []) → Noted old b new → Memory s list pool v new
+      → binding list pool name ≡ predefined (b ∷ []) → Noted old b new → Memory s form list pool v new
   memory-noted name {b} amp p found k = go (eqb (length old) 0) refl
     where
-      go : (t : Bool) → eqb (length old) 0 ≡ t → Memory s list pool v new
-      go true e = subst (Memory s list pool v) (sym (k .none (eqb-true (length old) 0 e))) m
+      go : (t : Bool) → eqb (length old) 0 ≡ t → Memory s form list pool v new
+      go true e = subst (Memory s form list pool v) (sym (k .none (eqb-true (length old) 0 e))) m
       go false e =
-          subst (Memory s list pool v) (sym (k .enters (eqb-false (length old) 0 e)))
-          (memory-plain s list pool m name b 1 (not-amp name b amp p) found p)
+          subst (Memory s form list pool v) (sym (k .enters (eqb-false (length old) 0 e)))
+          (memory-plain s form list pool m name b 1 (not-amp name b amp p) found p)

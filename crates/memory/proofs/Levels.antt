@@ -12,6 +12,7 @@ use native.Mathlib.Nat.{le-refl}
 use lib.ListN.{length, getD, take, drop, length-append, length-take}
 use borrow.Rule.Slice.PartMut.{midOf, putMid}
 use Rattle.text.specs.Bytes.{sameBytes}
+use Rattle.text.specs.Utf8.{WellFormed}
 use Rattle.text.specs.declared.Answer.{Answer}
 use Rattle.text.specs.declared.Answer.the-variants.{Done, Refused}
 use Rattle.entity.specs.Table.{littleEndian, part}
@@ -19,20 +20,22 @@ use Rattle.entity.specs.Binding.{text, predefined, predefinedOf, binding}
 use Rattle.entity.specs.Commands.{commandName, commandText, Defines}
 use Rattle.entity.proofs.Referents.{defines-binding}
 use Rattle.output.specs.Over.{over}
+use Rattle.text.proofs.Utf8.{append-well-formed, ascii-well-formed}
 use Rattle.tokens.specs.Tokens.{named, Token, stop, Heads, tokenOf, tokens}
 use Rattle.tokens.specs.Outcome.{Outcome, done, refused, prepend, followed, run, produced, answerOf}
 use Rattle.tokens.specs.Walking.{headAt, nextAt, outcomeOf, stepOf}
 use Rattle.tokens.specs.declared.Step.{Step}
 use Rattle.tokens.specs.declared.Step.the-variants.{Next, Stopped}
 use Rattle.tokens.proofs.Openings.{openingsOf}
-use Rattle.tokens.proofs.Progress.{run-at, run-over, prepend-none, prepend-prepend, went, halted}
+use Rattle.tokens.proofs.Progress.{run-at, run-over, prepend-none, prepend-prepend}
 use Rattle.attribute.specs.Walk.{Settings, walk}
 use Rattle.attribute.specs.Steps.{stopAnswer, stepFrom}
 use Rattle.attribute.proofs.Single.{walk-run}
-use Rattle.memory.specs.Slots.{opening, Slot, Stands, slotAt, Memory, Kept, Noted}
+use Rattle.memory.specs.Slots.{opening, shaped, shapedIn, Slot, Stands, slotAt, Memory, Kept, Noted}
 use Rattle.memory.specs.Levels.{Level, innerLevel, left, Fitted, Adds, Came, Whole, Refuses, Opens, Finishes, Opened, Taken, Lent}
 use Rattle.memory.specs.declared.Reading.{Reading}
 use Rattle.memory.specs.declared.Place.{Place}
+use Rattle.memory.proofs.Shaped.{shaped-none, shaped-most, shaped-append, shaped-went, shaped-halted}
 use Rattle.memory.proofs.Slots.{opening-one, opening-within, opening-stop, stands-opened, stands-size, again-stop, part-of-level}
 use Rattle.memory.proofs.Keeping.{memory-zeros, memory-more, memory-kept, memory-noted}
 use Rattle.memory.proofs.Fitted.{fitted-start, fitted-level, fitted-full, fitted-again}
@@ -57,10 +60,26 @@ opening-brief s brief depth m made t value h e =
     subst (λ (o : Outcome). length (produced o) + 65535 * (m + 1) ≤ length t + 65535 * openingsOf o) e (brief (depth - 1) (m + 1) t) in
     omega (arith, b, h)
 
-pub stands-brief : (s : Settings) → Brief s → {t v : List ℕ} {x : Slot} → length t ≤ 65535 → Stands s t v x → x .count ≤ 65535 * x .opened
-stands-brief s brief {t} {v} {x} h k =
-    let b = opening-brief s brief (x .depth) 0 (0 + x .opened) t (take (x .count) (drop (x .place) v)) h (k .again (x .depth) 0 (le-refl _) (omega (arith, k .few))) in
-    omega (arith, b, stands-size s t k)
+pub stands-brief : (s : Settings) → Brief s → {form : ℕ} {t v : List ℕ} {x : Slot} → length t ≤ 65535 → (k : Stands s form t v x) → length (k .value) ≤ 65535 * x .opened
+stands-brief s brief {form} {t} {v} {x} h k =
+    omega (arith, opening-brief s brief (x .depth) 0 (0 + x .opened) t (k .value) h (k .again (x .depth) 0 (le-refl _) (omega (arith, k .few))))
+
+-- ---- what a level needs to know of its settings and its table
+
+-- how long values are, that the texts of the table are whole characters, and that what is made of such a text is
+pub record Sound (s : Settings) (list pool : List ℕ) : Type 0 where
+  pub brief : Brief s
+  pub texts : (c : ℕ) → Defines list pool c → WellFormed (commandText list pool c)
+  pub values : (depth n made : ℕ) (t value : List ℕ) → WellFormed t → walk s (s .inner) depth t n ≡ done value made → WellFormed value
+
+pub opening-utf8 : (s : Settings) {list pool : List ℕ} → Sound s list pool → {c : ℕ} → Defines list pool c → (depth m made : ℕ) (value : List ℕ)
+    → opening s depth (commandText list pool c) m ≡ done value made → WellFormed value
+opening-utf8 s {list} {pool} sound {c} d depth m made value e = sound .values (depth - 1) (m + 1) made (commandText list pool c) value (sound .texts c d) e
+
+pub stands-utf8 : (s : Settings) {list pool : List ℕ} → Sound s list pool → {c : ℕ} → Defines list pool c → {form : ℕ} {v : List ℕ} {x : Slot}
+    → (k : Stands s form (commandText list pool c) v x) → WellFormed (k .value)
+stands-utf8 s sound d {form} {v} {x} k =
+    opening-utf8 s sound d (x .depth) 0 (0 + x .opened) (k .value) (k .again (x .depth) 0 (le-refl _) (omega (arith, k .few)))
 
 -- ---- the contract of `again`, by the code's cases
 
@@ -92,6 +111,10 @@ module _ (l : Level) where
   abbrev S : Settings
   S = l .settings
 
+  -- what is written of a value
+  abbrev w : List ℕ → List ℕ
+  w value = shaped (l .form) value
+
   abbrev given : ℕ → ℕ → Outcome
   given i n = outcomeOf (stopAnswer S (l .depth)) (tokenOf (headAt (l .at) (l .text) i)) n
 
@@ -109,14 +132,17 @@ module _ (l : Level) where
 
   module _ (v whole : List ℕ) (begun : ℕ) where
     -- at the level's start
-    pub came-start : {words : List ℕ} → Memory S (l .list) (l .pool) v words → begun ≤ S .limit → Came l v whole begun whole words 0 0 begun
-    came-start {words} m h =
+    pub came-start : {words : List ℕ} → WellFormed (l .text) → Memory S (l .form) (l .list) (l .pool) v words → begun ≤ S .limit → Came l v whole begun whole words 0 0 begun
+    came-start {words} u m h =
+        let none = shaped-none (l .form) in
         record {
           value = [];
-          size = refl;
+          size = ap length none;
           outcome = sym (prepend-none (left l 0 begun));
-          fitted = fitted-start whole;
-          memory = subst (λ (x : List ℕ). Memory S (l .list) (l .pool) x words) (sym (append-nil v)) m;
+          fitted = subst (λ (x : List ℕ). Fitted x whole whole) (sym none) (fitted-start whole);
+          memory = subst (λ (x : List ℕ). Memory S (l .form) (l .list) (l .pool) x words) (sym (ap (λ (x : List ℕ). v ++ x) none ∙ append-nil v)) m;
+          utf8 = ascii-well-formed [] refl;
+          rest = u;
           inside = omega arith;
           more = le-refl _;
           within = h;
@@ -125,31 +151,36 @@ module _ (l : Level) where
 
     module _ {out words : List ℕ} {i len made : ℕ} (c : Came l v whole begun out words i len made) where
       -- on to a later offset, with more of the value
-      pub came-on : (more : List ℕ) {new after : List ℕ} {j size now : ℕ} → left l i made ≡ prepend more (left l j now) → length more ≡ size
-          → Fitted (c .value ++ more) whole new → Memory S (l .list) (l .pool) ((v ++ c .value) ++ more) after
-          → j ≤ length (l .text) → made ≤ now → now ≤ S .limit → size + 4 * i + 262140 * made ≤ 4 * j + 262140 * now
+      pub came-on : (more : List ℕ) {new after : List ℕ} {j size now : ℕ} → left l i made ≡ prepend more (left l j now) → length (w more) ≡ size
+          → WellFormed more → WellFormed (drop j (l .text))
+          → Fitted (w (c .value) ++ w more) whole new → Memory S (l .form) (l .list) (l .pool) ((v ++ w (c .value)) ++ w more) after
+          → j ≤ length (l .text) → made ≤ now → now ≤ S .limit → length more + 4 * i + 262140 * made ≤ 4 * j + 262140 * now
           → Came l v whole begun new after j (len + size) now
-      came-on more {new} {after} {j} {size} {now} e n f m h g w b =
+      came-on more {new} {after} {j} {size} {now} e n u rest f m h g top b =
+          let joined : w (c .value) ++ w more ≡ w (c .value ++ more) = sym (shaped-append (l .form) (c .value) more u) in
           record {
             value = c .value ++ more;
-            size = rw (length-append, c .size, n);
+            size = ap length (sym joined) ∙ length-append (w (c .value)) (w more) ∙ omega (arith, c .size, n);
             outcome = c .outcome ∙ ap (prepend (c .value)) e ∙ prepend-prepend (c .value) more (left l j now);
-            fitted = f;
-            memory = subst (λ (x : List ℕ). Memory S (l .list) (l .pool) x after) (append-assoc v (c .value) more) m;
+            fitted = subst (λ (x : List ℕ). Fitted x whole new) joined f;
+            memory = subst (λ (x : List ℕ). Memory S (l .form) (l .list) (l .pool) x after) (append-assoc v (w (c .value)) (w more) ∙ ap (λ (x : List ℕ). v ++ x) joined) m;
+            utf8 = append-well-formed (c .value) more (c .utf8) u;
+            rest = rest;
             inside = h;
             more = omega (arith, c .more, g);
-            within = w;
-            counted = omega (arith, c .counted, b);
+            within = top;
+            counted = omega (arith, c .counted, b, n, shaped-most (l .form) more);
           }
 
       -- the same where nothing is kept
-      pub came-past : (more : List ℕ) {new : List ℕ} {j size now : ℕ} → left l i made ≡ prepend more (left l j now) → length more ≡ size
-          → Fitted (c .value ++ more) whole new → j ≤ length (l .text) → made ≤ now → now ≤ S .limit → size + 4 * i + 262140 * made ≤ 4 * j + 262140 * now
+      pub came-past : (more : List ℕ) {new : List ℕ} {j size now : ℕ} → left l i made ≡ prepend more (left l j now) → length (w more) ≡ size
+          → WellFormed more → WellFormed (drop j (l .text)) → Fitted (w (c .value) ++ w more) whole new
+          → j ≤ length (l .text) → made ≤ now → now ≤ S .limit → length more + 4 * i + 262140 * made ≤ 4 * j + 262140 * now
           → Came l v whole begun new words j (len + size) now
-      came-past more e n f h g w b = came-on more e n f (memory-more S (l .list) (l .pool) (c .memory) more) h g w b
+      came-past more e n u rest f h g top b = came-on more e n u rest f (memory-more S (l .form) (l .list) (l .pool) (c .memory) (w more)) h g top b
 
       -- the same place with another memory
-      pub came-memory : {after : List ℕ} → Memory S (l .list) (l .pool) (v ++ c .value) after → Came l v whole begun out after i len made
+      pub came-memory : {after : List ℕ} → Memory S (l .form) (l .list) (l .pool) (v ++ w (c .value)) after → Came l v whole begun out after i len made
       came-memory {after} m =
           record {
             value = c .value;
@@ -157,6 +188,8 @@ module _ (l : Level) where
             outcome = c .outcome;
             fitted = c .fitted;
             memory = m;
+            utf8 = c .utf8;
+            rest = c .rest;
             inside = c .inside;
             more = c .more;
             within = c .within;
@@ -166,11 +199,11 @@ module _ (l : Level) where
       -- after it was noted that the table does not define a predefined name
       pub came-noted : (name : List ℕ) {b : ℕ} {after : List ℕ} → sameBytes name (97 ∷ 109 ∷ 112 ∷ []) ≡ false → predefinedOf name ≡ predefined (b ∷ [])
           → binding (l .list) (l .pool) name ≡ predefined (b ∷ []) → Noted words b after → Came l v whole begun out after i len made
-      came-noted name amp p found k = came-memory (memory-noted S (l .list) (l .pool) (c .memory) name amp p found k)
+      came-noted name amp p found k = came-memory (memory-noted S (l .form) (l .list) (l .pool) (c .memory) name amp p found k)
 
       -- with the first memory of a walk that had none
       pub came-zeros : (after : List ℕ) → (length after ≢ 0 → length after ≡ 84) → ((k : ℕ) → getD after k 0 ≡ 0) → Came l v whole begun out after i len made
-      came-zeros after size zeros = came-memory (memory-zeros S (l .list) (l .pool) (v ++ c .value) after size zeros)
+      came-zeros after size zeros = came-memory (memory-zeros S (l .form) (l .list) (l .pool) (v ++ w (c .value)) after size zeros)
 
       pub came-end : length (l .text) ≤ i → Whole l v whole begun out words len made
       came-end h =
@@ -193,10 +226,10 @@ module _ (l : Level) where
 
       -- one token that makes no opening, or is refused
       pub came-token : (more : List ℕ) {new : List ℕ} {j : ℕ} → i < length (l .text) → nextAt (l .at) (l .text) i ≡ j → j ≤ length (l .text)
-          → given i made ≡ done more made → length more + 4 * i ≤ 4 * j → Adds more len out new
-          → Came l v whole begun new words j (len + length more) made
-      came-token more {new} {j} h q to e b f =
-          came-past more (left-done i made j made more h q e) refl (f .fits (c .value) whole (c .size) (c .fitted)) to (le-refl _) (c .within) (omega (arith, b))
+          → given i made ≡ done more made → WellFormed more → WellFormed (drop j (l .text)) → length more + 4 * i ≤ 4 * j → Adds (w more) len out new
+          → Came l v whole begun new words j (len + length (w more)) made
+      came-token more {new} {j} h q to e u rest b f =
+          came-past more (left-done i made j made more h q e) refl u rest (f .fits (w (c .value)) whole (c .size) (c .fitted)) to (le-refl _) (c .within) (omega (arith, b))
 
       pub came-stop : {number first second : ℕ} (before : List ℕ) (m : ℕ) → i < length (l .text) → given i made ≡ refused before m number first second
           → Refuses l begun number first second
@@ -207,7 +240,8 @@ module _ (l : Level) where
       module _ (deep : l .depth ≢ 0) {command : ℕ} (name : List ℕ) {j : ℕ} (inside : i < length (l .text)) (on : i < j) (to : j ≤ length (l .text))
           (next : nextAt (l .at) (l .text) i ≡ j) (is : tokenOf (headAt (l .at) (l .text) i) ≡ stop (named i name))
           (amp : sameBytes name (97 ∷ 109 ∷ 112 ∷ []) ≡ false) (bind : S .bind name ≡ binding (l .list) (l .pool) name)
-          (d : Defines (l .list) (l .pool) command) (same : sameBytes (commandName (l .list) (l .pool) command) name ≡ true) where
+          (d : Defines (l .list) (l .pool) command) (same : sameBytes (commandName (l .list) (l .pool) command) name ≡ true)
+          (rest : WellFormed (drop j (l .text))) where
         abbrev t : List ℕ
         t = commandText (l .list) (l .pool) command
 
@@ -226,111 +260,112 @@ module _ (l : Level) where
                   ∙ ap (λ (x : Token). followed (outcomeOf (stopAnswer S (l .depth)) x made) (λ m. left l j m)) is
                   ∙ ap (λ (o : Outcome). followed o (λ m. left l j m)) (opening-stop S t (l .depth) made deep room i name amp bound);
               defines = d;
+              rest = rest;
               known = k;
               room = omega (arith, room, c .within);
             }
 
-        -- what a slot says is its value; the bytes are in the whole call's value
-        pub came-again : Brief S → {new : List ℕ} (slot : ℕ) → slot < 16 → getD words slot 0 ≡ command + 1 → slotAt words slot .depth ≤ l .depth
+        -- what a slot says is its value; its bytes are in what the whole call has written
+        pub came-again : Sound S (l .list) (l .pool) → {new : List ℕ} (slot : ℕ) → slot < 16 → getD words slot 0 ≡ command + 1 → slotAt words slot .depth ≤ l .depth
             → made + slotAt words slot .opened ≤ S .limit
-            → Fitted (c .value ++ take (slotAt words slot .count) (drop (slotAt words slot .place) (v ++ c .value))) whole new
+            → Fitted (w (c .value) ++ take (slotAt words slot .count) (drop (slotAt words slot .place) (v ++ w (c .value)))) whole new
             → Came l v whole begun new words j (len + slotAt words slot .count) (made + slotAt words slot .opened)
-        came-again brief slot k e enough few f =
+        came-again sound {new} slot k e enough few f =
             let x = slotAt words slot in
             let st = c .memory .stands slot command k e in
-            let small = stands-brief S brief (text-short d) st in
-            came-past (take (x .count) (drop (x .place) (v ++ c .value)))
-            (left-done i made j (made + x .opened) (take (x .count) (drop (x .place) (v ++ c .value))) inside next
+            let small = stands-brief S (sound .brief) (text-short d) st in
+            came-past (st .value)
+            (left-done i made j (made + x .opened) (st .value) inside next
             (ap (λ (y : Token). outcomeOf (stopAnswer S (l .depth)) y made) is ∙ again-stop S t st (l .depth) made deep enough few i name amp bound))
-            (stands-size S t st) f to (omega arith) few (omega (arith, small, on))
+            (stands-size S t st) (stands-utf8 S sound d st) rest (subst (λ (y : List ℕ). Fitted (w (c .value) ++ y) whole new) (sym (st .is)) f)
+            to (omega arith) few (omega (arith, small, on))
 
         -- so by the contract of `again`, whose reading and place are those of the level
-        pub came-taken : Brief S → {new : List ℕ} {slot count now : ℕ} (r : Reading) (p : Place) → slot < 16 → length v ≡ r .base → r .depth ≡ l .depth
+        pub came-taken : Sound S (l .list) (l .pool) → {new : List ℕ} {slot count now : ℕ} (r : Reading) (p : Place) → slot < 16 → length v ≡ r .base → r .depth ≡ l .depth
             → r .limit ≡ S .limit → p .len ≡ len → p .openings ≡ made → Taken command slot r p words out new count now
             → Came l v whole begun new words j (len + count) now
-        came-taken brief {new} {slot} {count} {now} r p k at-base deep-is limit-is len-is made-is x =
+        came-taken sound {new} {slot} {count} {now} r p k at-base deep-is limit-is len-is made-is x =
             let st = c .memory .stands slot command k (x .is) in
             let e = x .size in
             let o : now ≡ made + slotAt words slot .opened = omega (arith, x .opens, made-is) in
-            let size : length (c .value) ≡ p .len = omega (arith, c .size, len-is) in
+            let size : length (w (c .value)) ≡ p .len = omega (arith, c .size, len-is) in
             let room : slotAt words slot .place + count ≤ r .base + p .len =
-            omega (arith, st .inside, e, length-append v (c .value), at-base, size) in
-            let f = x .writes v (c .value) whole at-base size room (c .fitted) in
+            omega (arith, st .inside, e, length-append v (w (c .value)), at-base, size) in
+            let f = x .writes v (w (c .value)) whole at-base size room (c .fitted) in
             subst (λ (n : ℕ). Came l v whole begun new words j (len + n) now) (sym e)
             (subst (λ (n : ℕ). Came l v whole begun new words j (len + slotAt words slot .count) n) (sym o)
-            (came-again brief slot k (x .is) (omega (arith, x .enough, deep-is)) (omega (arith, o, x .within, limit-is))
-            (subst (λ (n : ℕ). Fitted (c .value ++ take n (drop (slotAt words slot .place) (v ++ c .value))) whole new) e f)))
+            (came-again sound slot k (x .is) (omega (arith, x .enough, deep-is)) (omega (arith, o, x .within, limit-is))
+            (subst (λ (n : ℕ). Fitted (w (c .value) ++ take n (drop (slotAt words slot .place) (v ++ w (c .value)))) whole new) e f)))
 
         -- a text whose opening is known is its value, and may be kept with a depth at which that holds
-        pub came-kept : Brief S → {new after : List ℕ} (value : List ℕ) (now : ℕ) → made < S .limit → opening S (l .depth) t made ≡ done value now
-            → Fitted (c .value ++ value) whole new → Memory S (l .list) (l .pool) ((v ++ c .value) ++ value) after
-            → Came l v whole begun new after j (len + length value) now
-        came-kept brief value now room e f m =
-            let small = opening-brief S brief (l .depth) made now t value (text-short d) e in
+        pub came-kept : Sound S (l .list) (l .pool) → {new after : List ℕ} (value : List ℕ) (now : ℕ) → made < S .limit → opening S (l .depth) t made ≡ done value now
+            → Fitted (w (c .value) ++ w value) whole new → Memory S (l .form) (l .list) (l .pool) ((v ++ w (c .value)) ++ w value) after
+            → Came l v whole begun new after j (len + length (w value)) now
+        came-kept sound value now room e f m =
+            let small = opening-brief S (sound .brief) (l .depth) made now t value (text-short d) e in
             let one = opening-one S t (l .depth) made now value e in
             came-on value
             (left-done i made j now value inside next
             (ap (λ (y : Token). outcomeOf (stopAnswer S (l .depth)) y made) is
             ∙ opening-stop S t (l .depth) made deep (λ q. omega (arith, q, room)) i name amp bound ∙ e))
-            refl f m to (omega (arith, one)) (opening-within S t (l .depth) made now value room e) (omega (arith, small, one, on))
+            refl (opening-utf8 S sound d (l .depth) made now value e) rest f m to (omega (arith, one))
+            (opening-within S t (l .depth) made now value room e) (omega (arith, small, one, on))
 
     -- ---- an opening, and what is kept of it
 
     module _ {out words : List ℕ} {at next command slot len made base : ℕ}
         (o : Opens l v whole begun out words at next command slot len made) (at-base : length v ≡ base) where
       abbrev sofar : List ℕ
-      sofar = o .came .value
+      sofar = w (o .came .value)
 
       -- the step is called with these
-      pub opens-memory : Memory S (l .list) (l .pool) (v ++ sofar) words
+      pub opens-memory : Memory S (l .form) (l .list) (l .pool) (v ++ sofar) words
       opens-memory = o .came .memory
 
       pub opens-place : length (v ++ sofar) ≡ base + len
       opens-place = rw (length-append, at-base, o .came .size)
 
-      module _ {w : ℕ} {part after : List ℕ} (least : w ≡ min len (length out)) where
-        pub opened-next : Brief S → {a more now : ℕ} {last : List ℕ}
-            → Opened S (l .list) (l .pool) (l .depth) command next made (v ++ sofar) (midOf w (length out - w) out) part after (Next a more now)
+      module _ {cut : ℕ} {part after : List ℕ} (least : cut ≡ min len (length out)) where
+        pub opened-next : Sound S (l .list) (l .pool) → {a more now : ℕ} {last : List ℕ}
+            → Opened S (l .form) (l .list) (l .pool) (l .depth) command next made (v ++ sofar) (midOf cut (length out - cut) out) part after (Next a more now)
             → Kept after slot command (record { depth = l .depth; place = base + len; count = more; opened = now - made }) last
-            → (a ≡ next) × Came l v whole begun (putMid w (length out - w) out part) last next (len + more) now
-        opened-next brief {a} {more} {now} {last} p kept =
+            → (a ≡ next) × Came l v whole begun (putMid cut (length out - cut) out part) last next (len + more) now
+        opened-next sound {a} {more} {now} {last} p kept =
             let t = commandText (l .list) (l .pool) command in
-            let op = opening S (l .depth) t made in
-            let g = went next op [] (over (produced op) []) a more now (record { answers = p .answers; writes = refl }) in
+            let g = shaped-went (l .form) next (opening S (l .depth) t made) (p .answers) in
             let one = opening-one S t (l .depth) made now (g .value) (g .whole) in
             let top = opening-within S t (l .depth) made now (g .value) (o .room) (g .whole) in
-            let small = opening-brief S brief (l .depth) made now t (g .value) (text-short (o .defines)) (g .whole) in
+            let small = opening-brief S (sound .brief) (l .depth) made now t (g .value) (text-short (o .defines)) (g .whole) in
             let x : Slot = record { depth = l .depth; place = base + len; count = more; opened = now - made } in
-            let st : Stands S t ((v ++ sofar) ++ g .value) x =
-            stands-opened S t (v ++ sofar) (g .value) (g .whole) (o .room) (sym opens-place) (sym (g .size)) refl in (
+            let st : Stands S (l .form) t ((v ++ sofar) ++ w (g .value)) x =
+            stands-opened S t (l .form) (v ++ sofar) (g .value) (g .whole) (o .room) (sym opens-place) (sym (g .size)) refl in (
               g .to,
               came-on (o .came) (g .value)
                   (o .is ∙ ap (λ (y : Outcome). followed y (λ n. left l next n)) (g .whole))
                   (g .size)
-                  (fitted-level (o .came .fitted) (g .value) (o .came .size) least (p .fitted (g .value) now (g .whole)))
-                  (memory-kept S (l .list) (l .pool) (p .keeps (g .value) now (g .whole)) (o .known) (o .defines) st kept)
-                  (o .inside) (omega (arith, one)) top (omega (arith, small, g .size, one, o .on)),
+                  (opening-utf8 S sound (o .defines) (l .depth) made now (g .value) (g .whole)) (o .rest)
+                  (fitted-level (o .came .fitted) (w (g .value)) (o .came .size) least (p .fitted (g .value) now (g .whole)))
+                  (memory-kept S (l .form) (l .list) (l .pool) (p .keeps (g .value) now (g .whole)) (o .known) (o .defines) st kept)
+                  (o .inside) (omega (arith, one)) top (omega (arith, small, one, o .on)),
             )
 
         -- where the step goes on, and how much it made
         pub opened-counts : Brief S → {a more now : ℕ}
-            → Opened S (l .list) (l .pool) (l .depth) command next made (v ++ sofar) (midOf w (length out - w) out) part after (Next a more now)
-            → (a ≡ next) × (made < now) × (now ≤ S .limit) × (more + 65535 * made ≤ 65535 * now)
+            → Opened S (l .form) (l .list) (l .pool) (l .depth) command next made (v ++ sofar) (midOf cut (length out - cut) out) part after (Next a more now)
+            → (a ≡ next) × (made < now) × (now ≤ S .limit) × (more + 393210 * made ≤ 393210 * now)
         opened-counts brief {a} {more} {now} p =
             let t = commandText (l .list) (l .pool) command in
-            let op = opening S (l .depth) t made in
-            let g = went next op [] (over (produced op) []) a more now (record { answers = p .answers; writes = refl }) in
+            let g = shaped-went (l .form) next (opening S (l .depth) t made) (p .answers) in
             let one = opening-one S t (l .depth) made now (g .value) (g .whole) in
             let top = opening-within S t (l .depth) made now (g .value) (o .room) (g .whole) in
             let small = opening-brief S brief (l .depth) made now t (g .value) (text-short (o .defines)) (g .whole) in
-            (g .to, omega (arith, one), top, omega (arith, small, g .size))
+            (g .to, omega (arith, one), top, omega (arith, small, g .size, shaped-most (l .form) (g .value)))
 
         pub opened-stopped : {number first second : ℕ}
-            → Opened S (l .list) (l .pool) (l .depth) command next made (v ++ sofar) (midOf w (length out - w) out) part after (Stopped number first second)
+            → Opened S (l .form) (l .list) (l .pool) (l .depth) command next made (v ++ sofar) (midOf cut (length out - cut) out) part after (Stopped number first second)
             → Refuses l begun number first second
         opened-stopped {number} {first} {second} p =
-            let op = opening S (l .depth) (commandText (l .list) (l .pool) command) made in
-            let g = halted next op [] (over (produced op) []) number first second (record { answers = p .answers; writes = refl }) in
+            let g = shaped-halted (l .form) next (opening S (l .depth) (commandText (l .list) (l .pool) command) made) (p .answers) in
             came-refused (o .came) (g .before) (g .openings) (o .is ∙ ap (λ (y : Outcome). followed y (λ n. left l next n)) (g .whole))
 
     -- ---- the level's answer
@@ -338,23 +373,23 @@ module _ (l : Level) where
     pub finishes-end : {out words : List ℕ} {len made : ℕ} → Whole l v whole begun out words len made → Finishes l v whole begun out words (Done len made)
     finishes-end {out} {words} {len} {made} e =
         record {
-          answers = sym (ap answerOf (e .outcome) ∙ ap (λ (n : ℕ). Done n made) (e .size));
+          answers = sym (ap (λ (o : Outcome). answerOf (shapedIn (l .form) o)) (e .outcome) ∙ ap (λ (n : ℕ). Done n made) (e .size));
           made = λ value openings q. same value openings q;
         }
       where
-        same : (value : List ℕ) (openings : ℕ) → left l 0 begun ≡ done value openings → Whole l v whole begun out words (length value) openings
+        same : (value : List ℕ) (openings : ℕ) → left l 0 begun ≡ done value openings → Whole l v whole begun out words (length (w value)) openings
         same value openings q =
             let z : done (e .value) made ≡ done value openings = sym (e .outcome) ∙ q in
             let a : e .value ≡ value = cc in
             let b : made ≡ openings = cc in
-            let n : len ≡ length value = sym (e .size) ∙ ap length a in
+            let n : len ≡ length (w value) = sym (e .size) ∙ ap (λ (x : List ℕ). length (w x)) a in
             subst (λ (k : ℕ). Whole l v whole begun out words k openings) n (subst (Whole l v whole begun out words len) b e)
 
     pub finishes-refused : {out words : List ℕ} {number first second : ℕ} → Refuses l begun number first second
         → Finishes l v whole begun out words (Refused number first second)
     finishes-refused {out} {words} {number} {first} {second} e =
         record {
-          answers = sym (ap answerOf (e .outcome));
+          answers = sym (ap (λ (o : Outcome). answerOf (shapedIn (l .form) o)) (e .outcome));
           made = λ value openings q. absurd (no value openings q);
         }
       where
@@ -366,67 +401,69 @@ module _ (l : Level) where
 
 -- ---- the step over the walk of the text that it opens
 
-module _ (s : Settings) (list pool : List ℕ) (depth command next openings : ℕ) (v old new words : List ℕ) where
+module _ (s : Settings) (form : ℕ) (list pool : List ℕ) (depth command next openings : ℕ) (v old new words : List ℕ) where
   abbrev inner : Level
-  inner = innerLevel s list pool depth command
+  inner = innerLevel s form list pool depth command
 
   pub opening-left : opening s depth (commandText list pool command) openings ≡ left inner 0 (openings + 1)
   opening-left = walk-left inner (openings + 1)
 
-  pub opened-walked : {r : Answer} → Finishes inner v old (openings + 1) new words r → Opened s list pool depth command next openings v old new words (stepFrom next r)
+  pub opened-walked : {r : Answer} → Finishes inner v old (openings + 1) new words r → Opened s form list pool depth command next openings v old new words (stepFrom next r)
   opened-walked {r} f =
       record {
-        answers = ap (stepFrom next) (f .answers) ∙ told (left inner 0 (openings + 1)) ∙ ap (stepOf next) (sym opening-left);
+        answers = ap (stepFrom next) (f .answers) ∙ told (left inner 0 (openings + 1)) ∙ ap (λ (o : Outcome). stepOf next (shapedIn form o)) (sym opening-left);
         fitted = λ value made e. same value made e .0;
         keeps = λ value made e. same value made e .1;
       }
     where
-      told : (o : Outcome) → stepFrom next (answerOf o) ≡ stepOf next o
+      told : (o : Outcome) → stepFrom next (answerOf (shapedIn form o)) ≡ stepOf next (shapedIn form o)
       told (done value made) = refl
       told (refused before made number first second) = refl
 
-      same : (value : List ℕ) (made : ℕ) → opening s depth (commandText list pool command) openings ≡ done value made → Fitted value old new × Memory s list pool (v ++ value) words
+      same : (value : List ℕ) (made : ℕ) → opening s depth (commandText list pool command) openings ≡ done value made
+          → Fitted (shaped form value) old new × Memory s form list pool (v ++ shaped form value) words
       same value made e =
           let q = sym opening-left ∙ e in
-          let w = f .made value made q in
-          let z : done (w .value) made ≡ done value made = sym (w .outcome) ∙ q in
-          let a : w .value ≡ value = cc in
-          (subst (λ (x : List ℕ). Fitted x old new) a (w .fitted), subst (λ (x : List ℕ). Memory s list pool (v ++ x) words) a (w .memory))
+          let x = f .made value made q in
+          let z : done (x .value) made ≡ done value made = sym (x .outcome) ∙ q in
+          let a : x .value ≡ value = cc in
+          (subst (λ (y : List ℕ). Fitted (shaped form y) old new) a (x .fitted), subst (λ (y : List ℕ). Memory s form list pool (v ++ shaped form y) words) a (x .memory))
 
   -- a text whose walk keeps nothing, as at depth 1
-  pub opened-plain : {r : Step} (o : Outcome) → opening s depth (commandText list pool command) openings ≡ o → r ≡ stepOf next o
-      → ((value : List ℕ) (made : ℕ) → o ≡ done value made → Fitted value old new) → Memory s list pool v words
-      → Opened s list pool depth command next openings v old new words r
+  pub opened-plain : {r : Step} (o : Outcome) → opening s depth (commandText list pool command) openings ≡ o → r ≡ stepOf next (shapedIn form o)
+      → ((value : List ℕ) (made : ℕ) → o ≡ done value made → Fitted (shaped form value) old new) → Memory s form list pool v words
+      → Opened s form list pool depth command next openings v old new words r
   opened-plain o e a f m =
       record {
-        answers = a ∙ ap (stepOf next) (sym e);
+        answers = a ∙ ap (λ (x : Outcome). stepOf next (shapedIn form x)) (sym e);
         fitted = λ value made q. f value made (sym e ∙ q);
-        keeps = λ value made q. memory-more s list pool m value;
+        keeps = λ value made q. memory-more s form list pool m (shaped form value);
       }
 
 -- ---- no sum overflows
 
-module _ (l : Level) (v whole : List ℕ) (begun base : ℕ) (room : base + 4 * length (l .text) ≤ 67108864 + 262140 * begun) where
-  pub came-room : {out words : List ℕ} {i len made : ℕ} → Came l v whole begun out words i len made → base + len ≤ 67108864 + 262140 * made
+module _ (l : Level) (v whole : List ℕ) (begun base : ℕ) (room : base + 24 * length (l .text) ≤ 402653184 + 1572840 * begun) where
+  pub came-room : {out words : List ℕ} {i len made : ℕ} → Came l v whole begun out words i len made → base + len ≤ 402653184 + 1572840 * made
   came-room c = omega (arith, room, c .counted, c .inside)
 
   -- the level of an opened text has its room
   pub inner-room : {out words : List ℕ} {at next command slot len made : ℕ} → Opens l v whole begun out words at next command slot len made
-      → base + len + 4 * length (commandText (l .list) (l .pool) command) ≤ 67108864 + 262140 * (made + 1)
+      → base + len + 24 * length (commandText (l .list) (l .pool) command) ≤ 402653184 + 1572840 * (made + 1)
   inner-room o = omega (arith, came-room (o .came), text-short (o .defines))
 
   -- so the step, and the walk of its text, are asked what they need
   pub opens-lent : {out words : List ℕ} {at next command slot len made : ℕ} → Opens l v whole begun out words at next command slot len made → length v ≡ base
-      → (lent : List ℕ) → Lent (innerLevel (l .settings) (l .list) (l .pool) (l .depth) command) (base + len) lent words (placeOf 0 0 (made + 1))
-  opens-lent {out} {words} {at} {next} {command} {slot} {len} {made} o at-base lent =
-      let inner = innerLevel (l .settings) (l .list) (l .pool) (l .depth) command in
-      let x = v ++ o .came .value in
+      → Sound (l .settings) (l .list) (l .pool) → (lent : List ℕ)
+      → Lent (innerLevel (l .settings) (l .form) (l .list) (l .pool) (l .depth) command) (base + len) lent words (placeOf 0 0 (made + 1))
+  opens-lent {out} {words} {at} {next} {command} {slot} {len} {made} o at-base sound lent =
+      let inner = innerLevel (l .settings) (l .form) (l .list) (l .pool) (l .depth) command in
+      let x = v ++ shaped (l .form) (o .came .value) in
       record {
         v = x;
         whole = lent;
         begun = made + 1;
         size = opens-place l v whole begun o at-base;
-        came = came-start inner x lent (made + 1) (o .came .memory) (omega (arith, o .room));
+        came = came-start inner x lent (made + 1) (sound .texts command (o .defines)) (o .came .memory) (omega (arith, o .room));
         room = inner-room o;
       }
 

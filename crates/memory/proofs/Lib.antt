@@ -1,3 +1,5 @@
+pub mod Shaped
+pub mod Characters
 pub mod Slots
 pub mod Unhidden
 pub mod Keeping

@@ -8,8 +8,9 @@ use lib.Dec.{ltb}
 use lib.ListN.{length, getD, drop, replicate}
 use borrow.Author.Tests.{ltb-true}
 use Rattle.text.proofs.Bytes.{and-left, and-right}
+use Rattle.text.proofs.Utf8.{ascii-well-formed}
 use Rattle.entity.specs.Binding.{text, binding}
-use Rattle.entity.specs.Table.{part, littleEndian}
+use Rattle.entity.specs.Table.{part, littleEndian, tableCheck, ValidTable}
 use Rattle.entity.specs.Commands.{commandName, commandText, Defines}
 use Rattle.legal.specs.FirstFault.{Clean}
 use Rattle.halts.specs.Halts.{halts, Smooth}
@@ -20,13 +21,13 @@ use Rattle.attribute.specs.Walk.{Settings, walk}
 use Rattle.tokens.specs.declared.Step.the-variants.{Next}
 use Rattle.attribute.specs.Heads.{attributeHead}
 use Rattle.attribute.specs.Steps.{faultBy, stopAnswer}
-use Rattle.memory.specs.Slots.{opening, slotOf, plainWord, Memory, keptIn}
+use Rattle.memory.specs.Slots.{opening, shaped, slotOf, plainWord, Memory, keptIn}
 use Rattle.memory.specs.Levels.{settingsBy, Level, levelOf, Came, Opens, Finishes, Opened}
 use Rattle.memory.proofs.Keeping.{memory-start}
 use Rattle.memory.specs.declared.Reading.{Reading}
 use Rattle.memory.proofs.Fitted.{adds-none}
 use Rattle.memory.proofs.Levels.{placeOf, came-start, came-end, taken-full, opened-walked, opened-next, finishes-end}
-use Rattle.memory.proofs.Readings.{by-brief, inner-level, read-opens, read-taken, came-leaf}
+use Rattle.memory.proofs.Readings.{by-sound, inner-level, read-opens, read-taken, came-leaf}
 
 -- ---- a name that is hidden by an earlier command: e = `x`, e = `y`
 
@@ -123,7 +124,7 @@ clean-e = record { from = omega arith; to = omega arith; none = λ k g h. refl }
 
 -- the reading as XML 1.0, at a depth
 abbrev rd : ℕ → Reading
-rd depth = record { how = 0; inner = 0; guard = 0; inguard = 0; depth = depth; limit = 2; base = 0 }
+rd depth = record { how = 0; inner = 0; guard = 0; inguard = 0; depth = depth; limit = 2; form = 0; base = 0 }
 
 abbrev outer : ℕ → List ℕ → Level
 outer depth t = levelOf (rd depth) list pool t
@@ -143,25 +144,29 @@ small (b ∷ bs) e (suc k) = small bs (and-right (ltb b 256) (bytesOnly bs) e) k
 bytes : (k : ℕ) → getD list k 0 < 0x100
 bytes = small list refl
 
+valid : ValidTable list pool
+unfolding tableCheck
+valid = refl
+
 -- what is kept of e after n bytes, in the slot 5
 abbrev keptE : List ℕ → ℕ → List ℕ
 keptE words n = keptIn words 5 0 (slotOf 2 n 1 1)
 
 begun : Came (outer 2 ee) [] [] 0 [] (replicate 84 0) 0 0 0
 unfolding settingsBy
-begun = came-start (outer 2 ee) [] [] 0 (memory-start S list pool []) (omega arith)
+begun = came-start (outer 2 ee) [] [] 0 (ascii-well-formed ee refl) (memory-start S 0 list pool []) (omega arith)
 
 after-leaf : Came (outer 2 ee) [] [] 0 [] (keptE (replicate 84 0) 0) 3 1 1
-unfolding attributeHead part littleEndian
+unfolding attributeHead part littleEndian shaped
 after-leaf =
-    came-leaf (rd 2) list pool ee (λ q. omega (arith, q)) [] [] 0 begun bytes refl (101 ∷ []) (omega arith) (omega arith) (omega arith) refl refl refl
+    came-leaf (rd 2) list pool ee (λ q. omega (arith, q)) [] [] 0 begun bytes valid refl {command = 0} (101 ∷ []) (omega arith) (omega arith) (omega arith) refl refl refl
     defines-e refl (λ q. omega (arith, q)) (omega arith) smooth-e clean-e {slot = 5} (omega arith) (adds-none _ 0 [] (omega arith))
     (record { none = λ q. absurd (omega (arith, q)); enters = λ q. refl })
 
 after-again : Came (outer 2 ee) [] [] 0 [] (keptE (replicate 84 0) 0) 6 2 2
 unfolding attributeHead part littleEndian
 after-again =
-    read-taken (rd 2) list pool ee (λ q. omega (arith, q)) [] [] 0 after-leaf bytes refl (101 ∷ []) (omega arith) (omega arith) (omega arith) refl refl refl
+    read-taken (rd 2) list pool ee (λ q. omega (arith, q)) [] [] 0 after-leaf bytes valid refl (101 ∷ []) (omega arith) (omega arith) (omega arith) refl refl refl
     defines-e refl {slot = 5} (placeOf 3 1 1) (omega arith) refl refl
     (record { is = refl; enough = omega arith; size = refl; opens = refl; within = omega arith; buffer = refl; writes = taken-full 0 1 1 0 (omega arith) })
 
@@ -180,40 +185,40 @@ defines-f : Defines list pool 12
 unfolding part littleEndian binding
 defines-f = record { fits = omega arith; name = omega arith; inside = omega arith; short = omega arith; binds = refl }
 
-module _ (v : List ℕ) (none : length v ≡ 0) (m : Memory S list pool v (replicate 84 0)) where
+module _ (v : List ℕ) (none : length v ≡ 0) (m : Memory S 0 list pool v (replicate 84 0)) where
   inner-begun : Came (outer 2 toE) v [] 1 [] (replicate 84 0) 0 0 1
   unfolding settingsBy
-  inner-begun = came-start (outer 2 toE) v [] 1 m (omega arith)
+  inner-begun = came-start (outer 2 toE) v [] 1 (ascii-well-formed toE refl) m (omega arith)
 
   inner-leaf : Came (outer 2 toE) v [] 1 [] (keptE (replicate 84 0) 0) 3 1 2
-  unfolding attributeHead part littleEndian
+  unfolding attributeHead part littleEndian shaped
   inner-leaf =
-      came-leaf (rd 2) list pool toE (λ q. omega (arith, q)) v [] 1 inner-begun bytes none (101 ∷ []) (omega arith) (omega arith) (omega arith) refl refl refl
+      came-leaf (rd 2) list pool toE (λ q. omega (arith, q)) v [] 1 inner-begun bytes valid none {command = 0} (101 ∷ []) (omega arith) (omega arith) (omega arith) refl refl refl
       defines-e refl (λ q. omega (arith, q)) (omega arith) smooth-e clean-e {slot = 5} (omega arith) (adds-none _ 0 [] (omega arith))
       (record { none = λ q. absurd (omega (arith, q)); enters = λ q. refl })
 
   inner-whole : Finishes (outer 2 toE) v [] 1 [] (keptE (replicate 84 0) 0) (Done 1 2)
   inner-whole = finishes-end (outer 2 toE) v [] 1 (came-end (outer 2 toE) v [] 1 inner-leaf (omega arith))
 
-  inner-walked : Opened S list pool 3 12 3 0 v [] [] (keptE (replicate 84 0) 0) (Next 3 1 2)
+  inner-walked : Opened S 0 list pool 3 12 3 0 v [] [] (keptE (replicate 84 0) 0) (Next 3 1 2)
   unfolding part littleEndian
   inner-walked =
-      opened-walked S list pool 3 12 3 0 v [] [] (keptE (replicate 84 0) 0)
+      opened-walked S 0 list pool 3 12 3 0 v [] [] (keptE (replicate 84 0) 0)
       (subst (λ (l : Level). Finishes l v [] 1 [] (keptE (replicate 84 0) 0) (Done 1 2)) (sym (inner-level (rd 3) list pool 12 0)) inner-whole)
 
 f-begun : Came (outer 3 toF) [] [] 0 [] (replicate 84 0) 0 0 0
 unfolding settingsBy
-f-begun = came-start (outer 3 toF) [] [] 0 (memory-start S list pool []) (omega arith)
+f-begun = came-start (outer 3 toF) [] [] 0 (ascii-well-formed toF refl) (memory-start S 0 list pool []) (omega arith)
 
 f-opens : Opens (outer 3 toF) [] [] 0 [] (replicate 84 0) 0 3 12 7 0 0
 unfolding attributeHead part littleEndian
 f-opens =
-    read-opens (rd 3) list pool toF (λ q. omega (arith, q)) [] [] 0 f-begun bytes refl (102 ∷ []) (omega arith) (omega arith) (omega arith) refl refl refl
+    read-opens (rd 3) list pool toF (λ q. omega (arith, q)) [] [] 0 f-begun bytes valid refl (102 ∷ []) (omega arith) (omega arith) (omega arith) refl refl refl
     defines-f refl {slot = 7} (omega arith) (λ q. omega (arith, q))
 
 -- after it both e and f are kept
 f-opened : Came (outer 3 toF) [] [] 0 [] (keptIn (keptE (replicate 84 0) 0) 7 12 (slotOf 3 0 1 2)) 3 1 2
 f-opened =
-    opened-next (outer 3 toF) [] [] 0 f-opens refl {w = 0} {part = []} refl (by-brief 0 0 list pool 2 bytes)
-    (inner-walked (f-opens .came .value) (f-opens .came .size) (f-opens .came .memory))
+    opened-next (outer 3 toF) [] [] 0 f-opens refl {cut = 0} {part = []} refl (by-sound 0 0 list pool 2 bytes valid)
+    (inner-walked (shaped 0 (f-opens .came .value)) (f-opens .came .size) (f-opens .came .memory))
     (record { none = λ q. absurd (omega (arith, q)); enters = λ q. refl }) .1

@@ -21,7 +21,7 @@ use Rattle.attribute.proofs.Deeper.{deeper-done}
 use Rattle.attribute.proofs.Shifted.{walk-moved}
 use Rattle.attribute.proofs.Values.{walk-within}
 use Rattle.attribute.proofs.Single.{stop-deeper}
-use Rattle.memory.specs.Slots.{opening, Slot, Stands}
+use Rattle.memory.specs.Slots.{opening, shaped, Slot, Stands}
 
 -- ---- parts of the value so far
 
@@ -86,48 +86,50 @@ module _ (s : Settings) (t : List ℕ) where
 
   -- ---- a slot
 
-  -- kept as the value grows
-  pub stands-more : {v : List ℕ} (more : List ℕ) {x : Slot} → Stands s t v x → Stands s t (v ++ more) x
-  stands-more {v} more {x} k =
+  -- kept as more is written
+  pub stands-more : {form : ℕ} {v : List ℕ} (more : List ℕ) {x : Slot} → Stands s form t v x → Stands s form t (v ++ more) x
+  stands-more {form} {v} more {x} k =
       record {
+        value = k .value;
         inside = rw length-append (omega (arith, k .inside));
+        is = k .is ∙ sym (part-more v more (x .place) (x .count) (k .inside));
         few = k .few;
-        again = λ e m h l. k .again e m h l ∙ ap (λ (w : List ℕ). done w (m + x .opened)) (sym (part-more v more (x .place) (x .count) (k .inside)));
+        again = k .again;
       }
 
   -- made of one opening
-  pub stands-made : (v value : List ℕ) (depth m o : ℕ) → opening s depth t m ≡ done value (m + o) → o ≤ s .limit
-      → Stands s t (v ++ value) (record { depth = depth; place = length v; count = length value; opened = o })
-  stands-made v value depth m o q f =
+  pub stands-made : (form : ℕ) (v value : List ℕ) (depth m o : ℕ) → opening s depth t m ≡ done value (m + o) → o ≤ s .limit
+      → Stands s form t (v ++ shaped form value) (record { depth = depth; place = length v; count = length (shaped form value); opened = o })
+  stands-made form v value depth m o q f =
       record {
+        value = value;
         inside = rw length-append (omega arith);
+        is = sym (part-last v (shaped form value));
         few = f;
-        again = λ e n h l.
-            opening-moved e m n o value (opening-deeper depth e m (m + o) value h q) l
-            ∙ ap (λ (w : List ℕ). done w (n + o)) (sym (part-last v value));
+        again = λ e n h l. opening-moved e m n o value (opening-deeper depth e m (m + o) value h q) l;
       }
 
   -- the same by the numbers of the code
-  pub stands-opened : (v value : List ℕ) {depth m made place count o : ℕ} → opening s depth t m ≡ done value made → m < s .limit
-      → place ≡ length v → count ≡ length value → o ≡ made - m
-      → Stands s t (v ++ value) (record { depth = depth; place = place; count = count; opened = o })
-  stands-opened v value {depth} {m} {made} {place} {count} {o} q h p c r =
+  pub stands-opened : (form : ℕ) (v value : List ℕ) {depth m made place count o : ℕ} → opening s depth t m ≡ done value made → m < s .limit
+      → place ≡ length v → count ≡ length (shaped form value) → o ≡ made - m
+      → Stands s form t (v ++ shaped form value) (record { depth = depth; place = place; count = count; opened = o })
+  stands-opened form v value {depth} {m} {made} {place} {count} {o} q h p c r =
       let one = opening-one depth m made value q in
       let top = opening-within depth m made value h q in
       let z : made ≡ m + o = omega (arith, r, one) in
-      rw (p, c) (stands-made v value depth m o (q ∙ ap (done value) z) (omega (arith, top, z)))
+      rw (p, c) (stands-made form v value depth m o (q ∙ ap (done value) z) (omega (arith, top, z)))
 
-  module _ {v : List ℕ} {x : Slot} (k : Stands s t v x) where
+  module _ {form : ℕ} {v : List ℕ} {x : Slot} (k : Stands s form t v x) where
     -- its text took an opening
     pub stands-some : 1 ≤ x .opened
     stands-some = omega (arith, opening-one (x .depth) 0 (0 + x .opened) _ (k .again (x .depth) 0 (omega arith) (omega (arith, k .few))))
 
-    pub stands-size : length (take (x .count) (drop (x .place) v)) ≡ x .count
-    stands-size = length-take-le (x .count) (drop (x .place) v) (rw length-drop (omega (arith, k .inside)))
+    pub stands-size : length (shaped form (k .value)) ≡ x .count
+    stands-size = ap length (k .is) ∙ length-take-le (x .count) (drop (x .place) v) (rw length-drop (omega (arith, k .inside)))
 
     -- used at a reference, at its depth or deeper
     pub again-stop : (depth n : ℕ) → depth ≢ 0 → x .depth ≤ depth → n + x .opened ≤ s .limit → (i : ℕ) (name : List ℕ)
         → sameBytes name (97 ∷ 109 ∷ 112 ∷ []) ≡ false → s .bind name ≡ text t
-        → stopAnswer s depth (named i name) n ≡ done (take (x .count) (drop (x .place) v)) (n + x .opened)
+        → stopAnswer s depth (named i name) n ≡ done (k .value) (n + x .opened)
     again-stop depth n deep enough l i name amp bound =
         opening-stop depth n deep (λ e. omega (arith, stands-some, e, l)) i name amp bound ∙ k .again depth n enough l

@@ -24,7 +24,7 @@ use Rattle.attribute.proofs.Stops.{heads-copy}
 use Rattle.attribute.proofs.Blanks.{smooth-blank}
 use Rattle.attribute.proofs.Guards.{read-at, guard-blank}
 use Rattle.attribute.proofs.Single.{stop-deeper, walk-run}
-use Rattle.memory.specs.Slots.{opening, Stands}
+use Rattle.memory.specs.Slots.{opening, shaped, Stands}
 use Rattle.memory.proofs.Slots.{stands-made}
 
 -- a byte that is no stop is written as it is
@@ -108,6 +108,6 @@ module _ (s : Settings) (how guard : ℕ) (inner : s .inner ≡ readBy how guard
   leaf-opening e m h =
       ap (λ (at : Heads). walk s at (e - 1) t (m + 1)) inner ∙ smooth-whole s how guard (e - 1) (λ q. omega (arith, h, q)) t (m + 1) p clean
 
-  pub leaf-stands : (v : List ℕ) → 1 ≤ s .limit
-      → Stands s t (v ++ blanksSpaced t) (record { depth = 2; place = length v; count = length (blanksSpaced t); opened = 1 })
-  leaf-stands v h = stands-made s t v (blanksSpaced t) 2 0 1 (leaf-opening 2 0 (omega arith)) h
+  pub leaf-stands : (form : ℕ) (v : List ℕ) → 1 ≤ s .limit
+      → Stands s form t (v ++ shaped form (blanksSpaced t)) (record { depth = 2; place = length v; count = length (shaped form (blanksSpaced t)); opened = 1 })
+  leaf-stands form v h = stands-made s t form v (blanksSpaced t) 2 0 1 (leaf-opening 2 0 (omega arith)) h

@@ -6,6 +6,7 @@ use mathlib.Core.Logic.{_≢_}
 use mathlib.Core.List.{List, _++_}
 use lib.ListN.{length, getD, take, drop}
 use Rattle.text.specs.Call.{laid}
+use Rattle.text.specs.Utf8.{WellFormed}
 use Rattle.text.specs.declared.Answer.{Answer}
 use Rattle.entity.specs.Binding.{binding}
 use Rattle.entity.specs.Commands.{commandText, Defines}
@@ -15,7 +16,7 @@ use Rattle.tokens.specs.Walking.{stepOf}
 use Rattle.tokens.specs.declared.Step.{Step}
 use Rattle.attribute.specs.Walk.{Settings}
 use Rattle.attribute.specs.Steps.{readBy, legalBy, stopAnswer}
-use Rattle.memory.specs.Slots.{opening, Slot, slotAt, Memory}
+use Rattle.memory.specs.Slots.{opening, shaped, shapedIn, Slot, slotAt, Memory}
 use Rattle.memory.specs.declared.Reading.{Reading}
 use Rattle.memory.specs.declared.Place.{Place}
 use Rattle.memory.specs.declared.Had.{Had}
@@ -36,9 +37,10 @@ settingsOf r list pool = settingsBy (r .inner) (r .inguard) list pool (r .limit)
 
 -- ---- a level
 
--- what a level is told: the reading, the heads of its text, its depth, its text, the table
+-- what a level is told: the reading, what is written of values, the heads of its text, its depth, its text, the table
 pub record Level : Type 0 where
   pub settings : Settings
+  pub form : ℕ
   pub at : Heads
   pub depth : ℕ
   pub text : List ℕ
@@ -47,11 +49,12 @@ pub record Level : Type 0 where
 
 abbrev pub levelOf : Reading → List ℕ → List ℕ → List ℕ → Level
 levelOf r list pool text =
-    record { settings = settingsOf r list pool; at = readBy (r .how) (r .guard); depth = r .depth; text = text; list = list; pool = pool }
+    record { settings = settingsOf r list pool; form = r .form; at = readBy (r .how) (r .guard); depth = r .depth; text = text; list = list; pool = pool }
 
 -- the level of a text that is opened
-abbrev pub innerLevel : Settings → List ℕ → List ℕ → ℕ → ℕ → Level
-innerLevel s list pool depth command = record { settings = s; at = s .inner; depth = depth - 1; text = commandText list pool command; list = list; pool = pool }
+abbrev pub innerLevel : Settings → ℕ → List ℕ → List ℕ → ℕ → ℕ → Level
+innerLevel s form list pool depth command =
+    record { settings = s; form = form; at = s .inner; depth = depth - 1; text = commandText list pool command; list = list; pool = pool }
 
 -- the outcome of what is left from an offset on
 abbrev pub left : Level → ℕ → ℕ → Outcome
@@ -67,29 +70,32 @@ pub record Adds (more : List ℕ) (len : ℕ) (old new : List ℕ) : Type 0 wher
   pub buffer : length new ≡ length old
   pub fits : (value whole : List ℕ) → length value ≡ len → Fitted value whole old → Fitted (value ++ more) whole new
 
--- Where a level stands that began after the whole call's value `v` with `begun` openings, over the buffer `whole`: the tokens before `i`
--- gave `value`, and the memory is good for all that is made.
+-- Where a level stands that began after `v`, which the whole call had written, with `begun` openings, over the buffer `whole`: the tokens
+-- before `i` gave `value`, and the memory is good for all that is written. The value and the rest of the text are whole characters, so that
+-- the canonical form of what comes next can be written after that of the value.
 pub record Came (l : Level) (v whole : List ℕ) (begun : ℕ) (out words : List ℕ) (i len made : ℕ) : Type 0 where
   pub value : List ℕ
-  pub size : length value ≡ len
+  pub size : length (shaped (l .form) value) ≡ len
   pub outcome : left l 0 begun ≡ prepend value (left l i made)
-  pub fitted : Fitted value whole out
-  pub memory : Memory (l .settings) (l .list) (l .pool) (v ++ value) words
+  pub fitted : Fitted (shaped (l .form) value) whole out
+  pub memory : Memory (l .settings) (l .form) (l .list) (l .pool) (v ++ shaped (l .form) value) words
+  pub utf8 : WellFormed value
+  pub rest : WellFormed (drop i (l .text))
   pub inside : i ≤ length (l .text)
   pub more : begun ≤ made
   pub within : made ≤ l .settings .limit
-  pub counted : len + 262140 * begun ≤ 4 * i + 262140 * made
+  pub counted : len + 1572840 * begun ≤ 24 * i + 1572840 * made
 
 -- the level is at its end: its whole outcome, and the memory for what comes after it
 pub record Whole (l : Level) (v whole : List ℕ) (begun : ℕ) (out words : List ℕ) (len made : ℕ) : Type 0 where
   pub value : List ℕ
-  pub size : length value ≡ len
+  pub size : length (shaped (l .form) value) ≡ len
   pub outcome : left l 0 begun ≡ done value made
-  pub fitted : Fitted value whole out
-  pub memory : Memory (l .settings) (l .list) (l .pool) (v ++ value) words
+  pub fitted : Fitted (shaped (l .form) value) whole out
+  pub memory : Memory (l .settings) (l .form) (l .list) (l .pool) (v ++ shaped (l .form) value) words
   pub more : begun ≤ made
   pub within : made ≤ l .settings .limit
-  pub counted : len + 262140 * begun ≤ 4 * length (l .text) + 262140 * made
+  pub counted : len + 1572840 * begun ≤ 24 * length (l .text) + 1572840 * made
 
 -- the level is refused
 pub record Refuses (l : Level) (begun number first second : ℕ) : Type 0 where
@@ -104,6 +110,7 @@ pub record Opens (l : Level) (v whole : List ℕ) (begun : ℕ) (out words : Lis
   pub inside : next ≤ length (l .text)
   pub is : left l at made ≡ followed (opening (l .settings) (l .depth) (commandText (l .list) (l .pool) command) made) (λ n. left l next n)
   pub defines : Defines (l .list) (l .pool) command
+  pub rest : WellFormed (drop next (l .text))
   pub known : slot < 16
   pub room : made < l .settings .limit
 
@@ -123,7 +130,7 @@ pub record Lent (l : Level) (base : ℕ) (out words : List ℕ) (p : Place) : Ty
   pub begun : ℕ
   pub size : length v ≡ base
   pub came : Came l v whole begun out words (p .at) (p .len) (p .openings)
-  pub room : base + 4 * length (l .text) ≤ 67108864 + 262140 * begun
+  pub room : base + 24 * length (l .text) ≤ 402653184 + 1572840 * begun
 
 -- how far the part between two openings goes: so the walker ends. It pauses for want of a memory alone
 abbrev pub Onward : ℕ → ℕ → List ℕ → Reached → Type 0
@@ -141,8 +148,8 @@ pub record FlatKeeps (l : Level) (base : ℕ) (p : Place) (old seen new kept : L
 
 -- the answer of a level; of a refusal nothing but the answer is said
 pub record Finishes (l : Level) (v whole : List ℕ) (begun : ℕ) (out words : List ℕ) (r : Answer) : Type 0 where
-  pub answers : r ≡ answerOf (left l 0 begun)
-  pub made : (value : List ℕ) (openings : ℕ) → left l 0 begun ≡ done value openings → Whole l v whole begun out words (length value) openings
+  pub answers : r ≡ answerOf (shapedIn (l .form) (left l 0 begun))
+  pub made : (value : List ℕ) (openings : ℕ) → left l 0 begun ≡ done value openings → Whole l v whole begun out words (length (shaped (l .form) value)) openings
 
 -- of `normalize_attr_steps`, which is lent 84 words, so that nothing is paused at
 pub record StepsKeep (l : Level) (base : ℕ) (p : Place) (old seen new kept : List ℕ) (r : Answer) : Type 0 where
@@ -150,17 +157,18 @@ pub record StepsKeep (l : Level) (base : ℕ) (p : Place) (old seen new kept : L
   pub words : length kept ≡ length seen
   pub finishes : (v whole : List ℕ) (begun : ℕ) → length v ≡ base → Came l v whole begun old seen (p .at) (p .len) (p .openings) → Finishes l v whole begun new kept r
 
--- what the step that opens the text of a command answers, after `openings` and the whole call's value `v`
-pub record Opened (s : Settings) (list pool : List ℕ) (depth command next openings : ℕ) (v old new words : List ℕ) (r : Step) : Type 0 where
-  pub answers : r ≡ stepOf next (opening s depth (commandText list pool command) openings)
-  pub fitted : (value : List ℕ) (made : ℕ) → opening s depth (commandText list pool command) openings ≡ done value made → Fitted value old new
-  pub keeps : (value : List ℕ) (made : ℕ) → opening s depth (commandText list pool command) openings ≡ done value made → Memory s list pool (v ++ value) words
+-- what the step that opens the text of a command answers, after `openings` and `v`, which the whole call had written
+pub record Opened (s : Settings) (form : ℕ) (list pool : List ℕ) (depth command next openings : ℕ) (v old new words : List ℕ) (r : Step) : Type 0 where
+  pub answers : r ≡ stepOf next (shapedIn form (opening s depth (commandText list pool command) openings))
+  pub fitted : (value : List ℕ) (made : ℕ) → opening s depth (commandText list pool command) openings ≡ done value made → Fitted (shaped form value) old new
+  pub keeps : (value : List ℕ) (made : ℕ) → opening s depth (commandText list pool command) openings ≡ done value made
+      → Memory s form list pool (v ++ shaped form value) words
 
 -- of `normalize_attr_step`, at the place where the text is opened: `at` is the end of its reference
-pub record StepKeeps (s : Settings) (list pool : List ℕ) (depth command base : ℕ) (p : Place) (old seen new kept : List ℕ) (r : Step) : Type 0 where
+pub record StepKeeps (s : Settings) (form : ℕ) (list pool : List ℕ) (depth command base : ℕ) (p : Place) (old seen new kept : List ℕ) (r : Step) : Type 0 where
   pub buffer : length new ≡ length old
   pub words : length kept ≡ length seen
-  pub opened : (v : List ℕ) → length v ≡ base + p .len → Memory s list pool v seen → Opened s list pool depth command (p .at) (p .openings) v old new kept r
+  pub opened : (v : List ℕ) → length v ≡ base + p .len → Memory s form list pool v seen → Opened s form list pool depth command (p .at) (p .openings) v old new kept r
 
 -- ---- below these
 

@@ -7,17 +7,32 @@ use mathlib.Core.List.{List, [], _∷_}
 use lib.Dec.{eqb}
 use lib.ListN.{length, getD, set, take, drop}
 use Rattle.text.specs.Bytes.{pick}
+use Rattle.eols.specs.Stops.{ruleFor}
+use Rattle.canonical.specs.Canonical.{canonical}
 use Rattle.entity.specs.Commands.{commandText, Defines, Unhidden}
-use Rattle.tokens.specs.Outcome.{Outcome, done}
+use Rattle.tokens.specs.Outcome.{Outcome, done, refused}
 use Rattle.attribute.specs.Walk.{Settings, walk}
 
 -- a text opened at a depth that is not used up, after so many openings: it is walked with the depth one less, one opening more
 abbrev pub opening : Settings → ℕ → List ℕ → ℕ → Outcome
 opening s depth t openings = walk s (s .inner) (depth - 1) t (openings + 1)
 
+-- ---- what is written of a value
+
+-- by the code's number: 0 the value itself, else its canonical form, 1 under XML 1.0, 2 under XML 1.1
+unfoldable pub shaped : ℕ → List ℕ → List ℕ
+unfolding canonical
+shaped form value = pick (eqb form 0) value (canonical (ruleFor (eqb form 2)) value)
+
+-- an outcome with what is written of its value
+abbrev pub shapedIn : ℕ → Outcome → Outcome
+shapedIn form (done value openings) = done (shaped form value) openings
+shapedIn form (refused before openings number first second) = refused before openings number first second
+
 -- ---- a slot
 
--- a depth that is enough for the text, where its value starts in the whole call's value, its length, the openings that it takes
+-- a depth that is enough for the text, where what is written of its value starts in all that the call writes, its length, the openings that
+-- it takes
 pub record Slot : Type 0 where
   pub depth : ℕ
   pub place : ℕ
@@ -27,11 +42,13 @@ pub record Slot : Type 0 where
 abbrev pub slotOf : ℕ → ℕ → ℕ → ℕ → Slot
 slotOf depth place count opened = record { depth = depth; place = place; count = count; opened = opened }
 
--- what a slot says of the text `t`, where `v` is the whole call's value so far
-pub record Stands (s : Settings) (t v : List ℕ) (x : Slot) : Type 0 where
+-- what a slot says of the text `t`, where `v` is what the whole call has written so far
+pub record Stands (s : Settings) (form : ℕ) (t v : List ℕ) (x : Slot) : Type 0 where
+  pub value : List ℕ
   pub inside : x .place + x .count ≤ length v
+  pub is : shaped form value ≡ take (x .count) (drop (x .place) v)
   pub few : x .opened ≤ s .limit
-  pub again : (e m : ℕ) → x .depth ≤ e → m + x .opened ≤ s .limit → opening s e t m ≡ done (take (x .count) (drop (x .place) v)) (m + x .opened)
+  pub again : (e m : ℕ) → x .depth ≤ e → m + x .opened ≤ s .limit → opening s e t m ≡ done value (m + x .opened)
 
 -- ---- the words: 16 slots side by side, the offset of the command and 1 first; then a word for each of lt, gt, apos, quot
 
@@ -49,10 +66,10 @@ pub record Trusts (list pool words : List ℕ) : Type 0 where
   pub plain : (b : ℕ) → b ≢ 38 → getD words (plainWord b) 0 ≢ 0 → Unhidden list pool b
 
 -- a memory of no words keeps nothing
-pub record Memory (s : Settings) (list pool v words : List ℕ) : Type 0 where
+pub record Memory (s : Settings) (form : ℕ) (list pool v words : List ℕ) : Type 0 where
   pub size : length words ≢ 0 → length words ≡ 84
   pub defines : (k c : ℕ) → k < 16 → getD words k 0 ≡ c + 1 → Defines list pool c
-  pub stands : (k c : ℕ) → k < 16 → getD words k 0 ≡ c + 1 → Stands s (commandText list pool c) v (slotAt words k)
+  pub stands : (k c : ℕ) → k < 16 → getD words k 0 ≡ c + 1 → Stands s form (commandText list pool c) v (slotAt words k)
   pub plain : (b : ℕ) → b ≢ 38 → getD words (plainWord b) 0 ≢ 0 → Unhidden list pool b
 
 -- the words after a text was kept in the slot `k`, store by store

@@ -21,7 +21,8 @@ use entity::Referent;
 
 // What a level of a walk is set to: how its text is read and how the texts inside it are (0 as XML 1.0, 1 as XML 1.1, 2 past line ends),
 // which characters may stand in it and in these (0 all, else the rule of that number less one of crate legal), its depth, the opening
-// limit, and where its value starts in the whole call's value.
+// limit, what is written of its value (0 the value itself, 1 its canonical form under XML 1.0, 2 under XML 1.1), and where that starts in
+// all that the call writes.
 pub struct Reading {
     pub how: u8,
     pub inner: u8,
@@ -29,6 +30,7 @@ pub struct Reading {
     pub inguard: u8,
     pub depth: u64,
     pub limit: u64,
+    pub form: u8,
     pub base: usize,
 }
 

@@ -5,6 +5,7 @@ ghost use mathlib.Core.List.{[], _∷_};
 ghost use Prim.Native.Nat.{_≤_};
 ghost use lib.ListN.{length};
 ghost use Rattle.text.specs.Call.{callOf};
+ghost use Rattle.text.specs.Utf8.{WellFormed};
 ghost use Rattle.entity.specs.Table.{ValidTable};
 ghost use Rattle.normalize.specs.Calls.{outcomeFor};
 ghost use Rattle.nmtokens.specs.Nmtokens.{collapsed};
@@ -24,9 +25,10 @@ pub fn normalize_nmtokens(
     requires { ⌜ ValidTable (now list) (now pool) ⌝ }
     requires { ⌜ length (now text) ≤ 16777216 ⌝ }
     requires { ⌜ wanted .limit ≤ 1000000 ⌝ }
+    requires { ⌜ WellFormed (now text) ⌝ }
     ensures { λ r. ⌜ callOf r (now (scratch .exit) ∷ now (out .exit) ∷ []) ≡ collapsed (outcomeFor wanted (now (list .entry)) (now (pool .entry)) (now (text .entry))) (now (scratch .entry)) (now (out .entry)) ⌝ }
 {
-    let filled = normalize::normalized(text, wanted, list, pool, refusals::NO_SCRATCH, scratch);
+    let filled = normalize::normalized(text, wanted, 0, list, pool, refusals::NO_SCRATCH, scratch);
     let Answer::Done {
         first: len,
         second: openings,

@@ -19,6 +19,7 @@ use Rattle.output.specs.Over.{over}
 use Rattle.output.proofs.Clip.{over-fits}
 use Rattle.eols.specs.Stops.{ruleFor}
 use Rattle.text.specs.Simple.{Simple}
+use Rattle.text.specs.Utf8.{WellFormed}
 use Rattle.eols.proofs.LineEnds.{version-rule}
 use Rattle.legal.specs.Legal.{inValue, mayStand}
 use Rattle.legal.specs.FirstFault.{mayBy, Clean, FirstFault}
@@ -42,11 +43,13 @@ use Rattle.attribute.specs.Steps.{headsBy, faultBy, readBy, stopAnswer}
 use Rattle.attribute.specs.Form.{formed}
 use Rattle.attribute.proofs.Formed.{Filled, formed-written}
 use Rattle.attribute.proofs.Outer.{withOuter, walk-outer}
+use Rattle.memory.specs.Slots.{shaped, shapedIn}
 use Rattle.memory.specs.Levels.{settingsBy, settingsOf, Level, levelOf, left, Fitted, Came, Reaches, Finishes, Lent, FlatKeeps, StepsKeep}
 use Rattle.memory.specs.declared.Reading.{Reading}
 use Rattle.memory.specs.declared.Place.{Place}
 use Rattle.memory.specs.declared.Reached.{Reached}
 use Rattle.memory.specs.declared.Reached.the-variants.{End, Opening, Paused, Stopped}
+use Rattle.memory.proofs.Shaped.{shaped-plain, shaped-form}
 use Rattle.memory.proofs.Keeping.{memory-start, memory-none}
 use Rattle.halts.proofs.Spaces.{spaced-length}
 use Rattle.memory.proofs.Stretches.{smooth-part, smooth-run, smooth-whole}
@@ -55,7 +58,7 @@ use Rattle.memory.proofs.Levels.{placeOf, walk-left, came-start, came-memory}
 use Rattle.memory.proofs.Turns.{turn-end, turn-stopped}
 use Rattle.cycle.specs.Cycle.{Walkable}
 use Rattle.normalize.specs.declared.Wanted.{Wanted}
-use Rattle.normalize.specs.Calls.{readingFor, outcomeFor, walkOf, Walks, WalksOn}
+use Rattle.normalize.specs.Calls.{readingFor, outcomeFor, walkOf, formOf, Walks, WalksOn}
 
 -- ---- the walk
 
@@ -66,27 +69,31 @@ module _ (r : Reading) (list pool text : List ℕ) (outer : r .base ≡ 0) where
   walk-is : walkOf r list pool text ≡ left level 0 0
   walk-is = walk-left level 0
 
-  finished : {whole new kept : List ℕ} {a : Answer} → Finishes level [] whole 0 new kept a → length new ≡ length whole → Walks (left level 0 0) whole new a
+  finished : {whole new kept : List ℕ} {a : Answer} → Finishes level [] whole 0 new kept a → length new ≡ length whole
+      → Walks (shapedIn (r .form) (left level 0 0)) whole new a
   finished {whole} {new} f n =
-      record {
-        answers = f .answers;
-        buffer = n;
-        fitted = λ value made q.
-            let w = f .made value made q in
-            let z : done (w .value) made ≡ done value made = sym (w .outcome) ∙ q in
-            let k : w .value ≡ value = cc in
-            subst (λ (x : List ℕ). Fitted x whole new) k (w .fitted);
-      }
+      record { answers = f .answers; buffer = n; fitted = λ value made q. go (left level 0 0) refl q }
+    where
+      go : {value : List ℕ} {made : ℕ} (o : Outcome) → left level 0 0 ≡ o → shapedIn (r .form) o ≡ done value made → Fitted value whole new
+      go {value} {made} (done x m) e q =
+          let w = f .made x m e in
+          let z : done (w .value) m ≡ done x m = sym (w .outcome) ∙ e in
+          let k : w .value ≡ x = cc in
+          let shown : shaped (r .form) x ≡ value = cc in
+          subst (λ (y : List ℕ). Fitted y whole new) (ap (shaped (r .form)) k ∙ shown) (w .fitted)
+      go (refused before m number first second) e q =
+          let z : _≡_ {A = ℕ} 0 1 = cc in
+          absurd (omega (arith, z))
 
-  walks-whole : {out new : List ℕ} {a : Answer} → Walks (left level 0 0) out new a → Walks (walkOf r list pool text) out new a
-  walks-whole {out} {new} {a} w = subst (λ (o : Outcome). Walks o out new a) (sym walk-is) w
+  walks-whole : {out new : List ℕ} {a : Answer} → Walks (shapedIn (r .form) (left level 0 0)) out new a → Walks (formOf r list pool text) out new a
+  walks-whole {out} {new} {a} w = subst (λ (o : Outcome). Walks (shapedIn (r .form) o) out new a) (sym walk-is) w
 
   -- ---- from a place on, with a new memory
 
   module _ (p : Place) {old : List ℕ} where
     renewed : {v whole : List ℕ} {begun : ℕ} → Came level v whole begun old [] (p .at) (p .len) (p .openings)
         → Came level v whole begun old (replicate 84 0) (p .at) (p .len) (p .openings)
-    renewed {v} {whole} {begun} c = came-memory level v whole begun c (memory-start (settingsOf r list pool) list pool _)
+    renewed {v} {whole} {begun} c = came-memory level v whole begun c (memory-start (settingsOf r list pool) (r .form) list pool _)
 
     pub opened-lent : Lent level 0 old [] p → Lent level (r .base) old (replicate 84 0) p
     opened-lent n =
@@ -104,25 +111,25 @@ module _ (r : Reading) (list pool text : List ℕ) (outer : r .base ≡ 0) where
 
   -- ---- the first pass
 
-  start-came : (out : List ℕ) → Came level [] out 0 out [] 0 0 0
-  start-came out = came-start level [] out 0 (memory-none (settingsOf r list pool) list pool [] [] refl) (omega arith)
+  start-came : WellFormed text → (out : List ℕ) → Came level [] out 0 out [] 0 0 0
+  start-came utf8 out = came-start level [] out 0 utf8 (memory-none (settingsOf r list pool) (r .form) list pool [] [] refl) (omega arith)
 
-  pub start-lent : length text ≤ 16777216 → (out : List ℕ) → Lent level (r .base) out [] (placeOf 0 0 0)
-  start-lent short out =
-      record { v = []; whole = out; begun = 0; size = sym outer; came = start-came out; room = omega (arith, outer, short) }
+  pub start-lent : WellFormed text → length text ≤ 16777216 → (out : List ℕ) → Lent level (r .base) out [] (placeOf 0 0 0)
+  start-lent utf8 short out =
+      record { v = []; whole = out; begun = 0; size = sym outer; came = start-came utf8 out; room = omega (arith, outer, short) }
 
-  module _ {out new kept : List ℕ} {x : Reached} (f : FlatKeeps level (r .base) (placeOf 0 0 0) out [] new kept x) where
+  module _ (utf8 : WellFormed text) {out new kept : List ℕ} {x : Reached} (f : FlatKeeps level (r .base) (placeOf 0 0 0) out [] new kept x) where
     reached : {y : Reached} → x ≡ y → Reaches level [] out 0 new kept y
-    reached is = subst (Reaches level [] out 0 new kept) is (f .reaches [] out 0 (sym outer) (start-came out))
+    reached is = subst (Reaches level [] out 0 new kept) is (f .reaches [] out 0 (sym outer) (start-came utf8 out))
 
-    pub text-end : {len made : ℕ} → x ≡ End len made → Walks (walkOf r list pool text) out new (Done len made)
+    pub text-end : {len made : ℕ} → x ≡ End len made → Walks (formOf r list pool text) out new (Done len made)
     text-end is = walks-whole (finished (turn-end level (reached is)) (f .buffer))
 
-    pub text-stopped : {number first second : ℕ} → x ≡ Stopped number first second → Walks (walkOf r list pool text) out new (Refused number first second)
+    pub text-stopped : {number first second : ℕ} → x ≡ Stopped number first second → Walks (formOf r list pool text) out new (Refused number first second)
     text-stopped is = walks-whole (finished (turn-stopped level {out = new} {words = kept} (reached is)) (f .buffer))
 
     bare : {i len made : ℕ} → Came level [] out 0 new kept i len made → Came level [] out 0 new [] i len made
-    bare c = came-memory level [] out 0 c (memory-none (settingsOf r list pool) list pool _ [] refl)
+    bare c = came-memory level [] out 0 c (memory-none (settingsOf r list pool) (r .form) list pool _ [] refl)
 
     -- on from a text to open, or from a pause
     pub text-opens : {i next command slot len made : ℕ} → x ≡ Opening i next command slot len made → Came level [] out 0 new [] i len made
@@ -135,7 +142,7 @@ module _ (r : Reading) (list pool text : List ℕ) (outer : r .base ≡ 0) where
       pub on-lent : length text ≤ 16777216 → Lent level 0 new [] (placeOf i len made)
       on-lent short = record { v = []; whole = out; begun = 0; size = refl; came = c; room = omega (arith, short) }
 
-      pub on-walks : {last : List ℕ} {a : Answer} → WalksOn level (placeOf i len made) [] new last a → Walks (walkOf r list pool text) out last a
+      pub on-walks : {last : List ℕ} {a : Answer} → WalksOn level (placeOf i len made) [] new last a → Walks (formOf r list pool text) out last a
       on-walks w = walks-whole (w out c)
 
 -- ---- a call that walks twice, the count first
@@ -172,15 +179,40 @@ module _ (short : ℕ) (o : Outcome) (out : List ℕ) {old new : List ℕ} {a : 
 -- ---- a text without halts
 
 module _ (short : ℕ) (t out : List ℕ) where
-  pub spaced-short : length out < length t → Ended short (done (blanksSpaced t) 0) out out (Refused short (length t) 0)
-  spaced-short h =
-      let n = spaced-length t in
-      subst (λ (k : ℕ). Ended short (done (blanksSpaced t) 0) out out (Refused short k 0)) n (whole-short short (blanksSpaced t) out (omega (arith, n, h)))
+  -- as it is
+  module _ {form : ℕ} (plain : form ≡ 0) where
+    shown : {last : List ℕ} {a : Answer} (x : List ℕ) → Ended short (done x 0) out last a → Ended short (done (shaped form x) 0) out last a
+    shown {last} {a} x e = subst (λ (y : List ℕ). Ended short (done y 0) out last a) (sym (shaped-plain plain x)) e
 
-  pub spaced-written : {last : List ℕ} → length t ≤ length out → last ≡ laid (blanksSpaced t) out → Ended short (done (blanksSpaced t) 0) out last (Done (length t) 0)
-  spaced-written {last} h e =
-      let n = spaced-length t in
-      subst (λ (k : ℕ). Ended short (done (blanksSpaced t) 0) out last (Done k 0)) n (whole-written short (blanksSpaced t) out (omega (arith, n, h)) e)
+    pub copied-ended : {last : List ℕ} {a : Answer} → Ended short (done t 0) out last a → Ended short (done (shaped form t) 0) out last a
+    copied-ended e = shown t e
+
+    pub spaced-short : length out < length t → Ended short (done (shaped form (blanksSpaced t)) 0) out out (Refused short (length t) 0)
+    spaced-short h =
+        let n = spaced-length t in
+        shown (blanksSpaced t)
+        (subst (λ (k : ℕ). Ended short (done (blanksSpaced t) 0) out out (Refused short k 0)) n (whole-short short (blanksSpaced t) out (omega (arith, n, h))))
+
+    pub spaced-written : {last : List ℕ} → length t ≤ length out → last ≡ laid (blanksSpaced t) out
+        → Ended short (done (shaped form (blanksSpaced t)) 0) out last (Done (length t) 0)
+    spaced-written {last} h e =
+        let n = spaced-length t in
+        shown (blanksSpaced t)
+        (subst (λ (k : ℕ). Ended short (done (blanksSpaced t) 0) out last (Done k 0)) n (whole-written short (blanksSpaced t) out (omega (arith, n, h)) e))
+
+  -- in its canonical form, of which it is told that it fits or not
+  pub form-ended : {form : ℕ} → form ≢ 0 → {last : List ℕ} {a : Answer} (x : List ℕ) → Ended short (done (canonical (ruleFor (eqb form 2)) x) 0) out last a
+      → Ended short (done (shaped form x) 0) out last a
+  form-ended n {last} {a} x e = subst (λ (y : List ℕ). Ended short (done y 0) out last a) (sym (shaped-form n x)) e
+
+pub form-short : (short : ℕ) (more out : List ℕ) {n : ℕ} → n ≡ length more → length out < n → Ended short (done more 0) out out (Refused short n 0)
+form-short short more out e h =
+    subst (λ (k : ℕ). Ended short (done more 0) out out (Refused short k 0)) (sym e) (whole-short short more out (omega (arith, e, h)))
+
+pub form-written : (short : ℕ) (more out : List ℕ) {n : ℕ} {last : List ℕ} → n ≡ length more → length more ≤ length out → last ≡ laid more out
+    → Ended short (done more 0) out last (Done n 0)
+form-written short more out {n} {last} e h q =
+    subst (λ (k : ℕ). Ended short (done more 0) out last (Done k 0)) (sym e) (whole-written short more out h q)
 
 -- ---- the walk that a call asks for
 
@@ -198,6 +230,11 @@ ended-same short out {o} {p} {last} {a} e k = subst (λ (x : Outcome). Ended sho
 pub ended-26 : {o : Outcome} {before : List ℕ} {n at : ℕ} (short : ℕ) (out : List ℕ) → o ≡ refused before n 26 at 0 → Ended short o out out (Refused 26 at 0)
 unfolding answerIn leftIn
 ended-26 short out e = ended-same short out e (refl, refl)
+
+-- the value itself is written
+pub shown-plain : (o : Outcome) → shapedIn 0 o ≡ o
+shown-plain (done value made) = ap (λ (x : List ℕ). done x made) (shaped-plain refl value)
+shown-plain (refused before made number first second) = refl
 
 -- the heads of the value itself, and those of the texts of the table
 abbrev outerHeads : Bool → Bool → Heads
@@ -261,8 +298,8 @@ module _ (w : Wanted) (list pool t : List ℕ) where
       ∙ sym (normalize-walk (w .strict) newer list pool (w .limit) (w .depth) t)
       ∙ ap (λ (rule : Rule). normalize (readingBy (w .strict) rule list pool (w .limit)) (w .depth) t) (version-rule (w .version) newer refl)
 
-  walk-for : walkOf (readingFor w (marked list)) list pool t ≡ asked
-  walk-for =
+  walk-for : (form : ℕ) → walkOf (readingFor w (marked list) form) list pool t ≡ asked
+  walk-for form =
       let inner : ℕ = pick (marked list) 2 (pick newer 1 0) in
       let inguard : ℕ = pick (w .strict) (pick newer 3 1) 0 in
       ap (λ (x : Settings). walk x (readBy how guard) (w .depth) t 0) (settings-for (w .strict) newer list pool (w .limit) (marked list) refl)
@@ -276,26 +313,26 @@ module _ (w : Wanted) (list pool t : List ℕ) where
   by-how : {first : ℕ} → HaltAt newer t 0 first → HaltAt (eqb how 1) t 0 first
   by-how {first} h = subst (λ (x : Bool). HaltAt x t 0 first) (sym (flag newer)) h
 
-  module _ {r : Reading} (is : r ≡ readingFor w (marked list)) where
+  module _ (form : ℕ) {r : Reading} (is : r ≡ readingFor w (marked list) form) where
     -- what the walk over the text is asked
-    pub read-asked : w .depth ≢ 0 → w .limit ≤ 1000000 → length t ≤ 16777216 → {first : ℕ} → HaltAt newer t 0 first
-        → ((r .base ≡ 0) × Walkable r t) × HaltAt (eqb (r .how) 1) t 0 first
-    read-asked deep most short {first} h =
-        subst (λ (x : Reading). ((x .base ≡ 0) × Walkable x t) × HaltAt (eqb (x .how) 1) t 0 first) (sym is)
-        ((refl, record { deep = deep; most = most; short = short }), by-how h)
+    pub read-asked : w .depth ≢ 0 → w .limit ≤ 1000000 → length t ≤ 16777216 → WellFormed t → {first : ℕ} → HaltAt newer t 0 first
+        → ((r .base ≡ 0) × Walkable r t) × (HaltAt (eqb (r .how) 1) t 0 first × WellFormed t)
+    read-asked deep most short utf8 {first} h =
+        subst (λ (x : Reading). ((x .base ≡ 0) × Walkable x t) × (HaltAt (eqb (x .how) 1) t 0 first × WellFormed t)) (sym is)
+        ((refl, record { deep = deep; most = most; short = short }), (by-how h, utf8))
 
     module _ (short : ℕ) (out : List ℕ) where
-      pub call-bottom : {last : List ℕ} {a : Answer} → w .depth ≡ 0 → ((s : Settings) → Ended short (walk s (readBy (r .how) (r .guard)) 0 t 0) out last a)
-          → Ended short asked out last a
+      pub call-bottom : {last : List ℕ} {a : Answer} → w .depth ≡ 0 → ((s : Settings) → Ended short (shapedIn form (walk s (readBy (r .how) (r .guard)) 0 t 0)) out last a)
+          → Ended short (shapedIn form asked) out last a
       call-bottom {last} {a} z e =
-          let bottom = subst (λ (x : Reading). (s : Settings) → Ended short (walk s (readBy (x .how) (x .guard)) 0 t 0) out last a) is e in
-          ended-same short out (sym asked-is ∙ ap (λ (d : ℕ). walk s (readBy how guard) d t 0) z) (bottom s)
+          let bottom = subst (λ (x : Reading). (s : Settings) → Ended short (shapedIn form (walk s (readBy (x .how) (x .guard)) 0 t 0)) out last a) is e in
+          ended-same short out (ap (shapedIn form) (sym asked-is ∙ ap (λ (d : ℕ). walk s (readBy how guard) d t 0) z)) (bottom s)
 
-      pub call-read : {last : List ℕ} {a : Answer} → Ended short (walkOf r list pool t) out last a → Ended short asked out last a
-      call-read e = ended-same short out (sym (ap (λ (x : Reading). walkOf x list pool t) is ∙ walk-for)) e
+      pub call-read : {last : List ℕ} {a : Answer} → Ended short (formOf r list pool t) out last a → Ended short (shapedIn form asked) out last a
+      call-read e = ended-same short out (sym (ap (λ (x : Reading). formOf x list pool t) is ∙ ap (shapedIn form) (walk-for form))) e
 
   -- a text without halts
-  module _ (deep : w .depth ≢ 0) {first : ℕ} (h : HaltAt newer t 0 first) (z : first ≡ length t) {g : ℕ} (is : g ≡ guard) {fault : ℕ}
+  module _ (form : ℕ) (deep : w .depth ≢ 0) {first : ℕ} (h : HaltAt newer t 0 first) (z : first ≡ length t) {g : ℕ} (is : g ≡ guard) {fault : ℕ}
       (found : FirstFault (faultBy g) t 0 first fault) (short : ℕ) (out : List ℕ) where
     abbrev halt : HaltAt (eqb how 1) t 0 first
     halt = by-how h
@@ -304,14 +341,14 @@ module _ (w : Wanted) (list pool t : List ℕ) where
     f = subst (λ (x : ℕ). FirstFault (faultBy x) t 0 first fault) is found
 
     -- every character of it may stand
-    pub call-spaced : {last : List ℕ} {a : Answer} → fault ≡ first → Ended short (done (blanksSpaced t) 0) out last a → Ended short asked out last a
+    pub call-spaced : {last : List ℕ} {a : Answer} → fault ≡ first → Ended short (done (shaped form (blanksSpaced t)) 0) out last a → Ended short (shapedIn form asked) out last a
     call-spaced q e =
         let clean = subst (λ (k : ℕ). Clean (faultBy guard) t 0 k) (q ∙ z) (f .clean) in
         let smooth = subst (Smooth (eqb how 1) t 0) z (halt .smooth) in
-        ended-same short out (sym asked-is ∙ smooth-whole s how guard (w .depth) deep t 0 smooth clean) e
+        ended-same short out (ap (shapedIn form) (sym asked-is ∙ smooth-whole s how guard (w .depth) deep t 0 smooth clean)) e
 
     -- or one may not: refusal 26
-    pub call-barred : fault ≢ first → Ended short asked out out (Refused 26 fault 0)
+    pub call-barred : fault ≢ first → Ended short (shapedIn form asked) out out (Refused 26 fault 0)
     call-barred q =
         let inside : fault < length t = omega (arith, f .within, q, z) in
         let part = smooth-part (halt .smooth) (f .clean .from) (f .within) in
@@ -322,10 +359,11 @@ module _ (w : Wanted) (list pool t : List ℕ) where
         ∙ ap (λ (d : Head). followed (outcomeOf answers (tokenOf d) 0) (λ m. fromOn heads answers t (fault + 1 + skipOf d) m))
         (read-barred t fault inside guard (headsBy how) (f .found (omega (arith, f .within, q)))) in
         ended-26 short out
+        (ap (shapedIn form)
         (sym asked-is
         ∙ walk-run s heads (w .depth) t 0
         ∙ smooth-run s how guard (w .depth) deep t 0 part (f .clean)
-        ∙ ap (prepend (blanksSpaced (take (fault - 0) t))) stopped)
+        ∙ ap (prepend (blanksSpaced (take (fault - 0) t))) stopped))
 
   -- so no sum overflows
   pub call-short : {value : List ℕ} {made : ℕ} → asked ≡ done value made → ((k : ℕ) → getD list k 0 < 0x100) → length t ≤ 16777216 → w .limit ≤ 1000000
@@ -333,7 +371,7 @@ module _ (w : Wanted) (list pool t : List ℕ) where
   call-short {value} {made} e bytes h m =
       let inner : ℕ = pick (marked list) 2 (pick newer 1 0) in
       let inguard : ℕ = pick (w .strict) (pick newer 3 1) 0 in
-      let o = walk-for ∙ e in
+      let o = walk-for 0 ∙ e in
       let n : length value + 65535 * 0 ≤ length t + 65535 * made =
       subst (λ (x : Outcome). length (produced x) + 65535 * 0 ≤ length t + 65535 * openingsOf x) o (by-most inner inguard list pool (w .limit) bytes how guard (w .depth) 0 t) in
       let k : made ≤ w .limit = subst (λ (x : Outcome). openingsOf x ≤ w .limit) o (by-within inner inguard list pool (w .limit) (readBy how guard) (w .depth) t) in

@@ -12,14 +12,15 @@ use Rattle.tokens.specs.Outcome.{Outcome, done, answerOf}
 use Rattle.attribute.specs.Steps.{readBy}
 use Rattle.attribute.specs.Walk.{walk, normalize}
 use Rattle.attribute.specs.Strict.{readingBy}
+use Rattle.memory.specs.Slots.{shapedIn}
 use Rattle.memory.specs.Levels.{settingsOf, Level, left, Fitted, Came}
 use Rattle.memory.specs.declared.Reading.{Reading}
 use Rattle.memory.specs.declared.Place.{Place}
 use Rattle.normalize.specs.declared.Wanted.{Wanted}
 
--- what the walk over the text of a call is set to, and by whether its list is marked
-abbrev pub readingFor : Wanted → Bool → Reading
-readingFor w past =
+-- what the walk over the text of a call is set to, by whether its list is marked and by what is written of the value
+abbrev pub readingFor : Wanted → Bool → ℕ → Reading
+readingFor w past form =
     let newer = ltb 1 (w .version) in
     record {
       how = pick newer 1 0;
@@ -28,6 +29,7 @@ readingFor w past =
       inguard = pick (w .strict) (pick newer 3 1) 0;
       depth = w .depth;
       limit = w .limit;
+      form = form;
       base = 0;
     }
 
@@ -38,6 +40,10 @@ outcomeFor w list pool text = normalize (readingBy (w .strict) (ruleOf (w .versi
 abbrev pub walkOf : Reading → List ℕ → List ℕ → List ℕ → Outcome
 walkOf r list pool text = walk (settingsOf r list pool) (readBy (r .how) (r .guard)) (r .depth) text 0
 
+-- with what is written of its value
+abbrev pub formOf : Reading → List ℕ → List ℕ → List ℕ → Outcome
+formOf r list pool text = shapedIn (r .form) (walkOf r list pool text)
+
 -- its answer, and in the buffer the value where all of it fits
 pub record Walks (o : Outcome) (old new : List ℕ) (r : Answer) : Type 0 where
   pub answers : r ≡ answerOf o
@@ -46,4 +52,4 @@ pub record Walks (o : Outcome) (old new : List ℕ) (r : Answer) : Type 0 where
 
 -- the same from a place on that the walk came to
 abbrev pub WalksOn : Level → Place → List ℕ → List ℕ → List ℕ → Answer → Type 0
-WalksOn l p words old new r = (whole : List ℕ) → Came l [] whole 0 old words (p .at) (p .len) (p .openings) → Walks (left l 0 0) whole new r
+WalksOn l p words old new r = (whole : List ℕ) → Came l [] whole 0 old words (p .at) (p .len) (p .openings) → Walks (shapedIn (l .form) (left l 0 0)) whole new r

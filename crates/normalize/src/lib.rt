@@ -10,6 +10,7 @@ ghost use Rattle.text.specs.Bytes.{pick};
 ghost use Rattle.text.specs.Call.{callOf, finish, laid};
 ghost use Rattle.text.specs.Version.{ruleOf};
 ghost use Rattle.text.specs.Simple.{Simple};
+ghost use Rattle.text.specs.Utf8.{WellFormed};
 ghost use Rattle.eols.specs.Stops.{ruleFor};
 ghost use Rattle.canonical.specs.Canonical.{canonical};
 ghost use Rattle.halts.specs.Halts.{HaltAt, blanksSpaced};
@@ -19,9 +20,10 @@ ghost use Rattle.tokens.specs.Walking.{Ended};
 ghost use Rattle.attribute.specs.Walk.{Settings, walk};
 ghost use Rattle.attribute.specs.Steps.{readBy};
 ghost use Rattle.attribute.specs.Form.{formed};
+ghost use Rattle.memory.specs.Slots.{shaped, shapedIn};
 ghost use Rattle.memory.specs.Levels.{levelOf, Lent};
 ghost use Rattle.cycle.specs.Cycle.{Walkable};
-ghost use Rattle.normalize.specs.Calls.{readingFor, outcomeFor, walkOf, Walks, WalksOn};
+ghost use Rattle.normalize.specs.Calls.{readingFor, outcomeFor, formOf, Walks, WalksOn};
 use memory::Place;
 use memory::Reached;
 use memory::Reading;
@@ -68,7 +70,8 @@ fn normalize_text(
     requires { ⌜ ValidTable (now list) (now pool) ⌝ }
     requires { ⌜ (reading .base ≡ 0) × Walkable reading (now text) ⌝ }
     requires { ⌜ HaltAt (eqb (reading .how) 1) (now text) 0 first ⌝ }
-    ensures { λ r. ⌜ Walks (walkOf reading (now (list .entry)) (now (pool .entry)) (now (text .entry))) (now (out .entry)) (now (out .exit)) r ⌝ }
+    requires { ⌜ WellFormed (now text) ⌝ }
+    ensures { λ r. ⌜ Walks (formOf reading (now (list .entry)) (now (pool .entry)) (now (text .entry))) (now (out .entry)) (now (out .exit)) r ⌝ }
 {
     let mut none = [0u64; 1];
     let start = Place {
@@ -142,7 +145,8 @@ fn normalize_into(
     requires { ⌜ ValidTable (now list) (now pool) ⌝ }
     requires { ⌜ (reading .base ≡ 0) × Walkable reading (now text) ⌝ }
     requires { ⌜ HaltAt (eqb (reading .how) 1) (now text) 0 first ⌝ }
-    ensures { λ r. ⌜ Ended short (walkOf reading (now (list .entry)) (now (pool .entry)) (now (text .entry))) (now (out .entry)) (now (out .exit)) r ⌝ }
+    requires { ⌜ WellFormed (now text) ⌝ }
+    ensures { λ r. ⌜ Ended short (formOf reading (now (list .entry)) (now (pool .entry)) (now (text .entry))) (now (out .entry)) (now (out .exit)) r ⌝ }
 {
     let mut held = [0u8; 128];
     let counted = normalize_text(text, first, reading, list, pool, &mut held);
@@ -169,9 +173,54 @@ fn normalize_into(
 
 // ---- the calls
 
+// The canonical form of a text as it is. Where the output has six times its length there is room: no count is needed.
+fn form_copied(text: &[u8], newer: bool, short: u32, out: &mut [u8]) -> Answer
+    requires { ⌜ length (now text) ≤ 16777216 ⌝ }
+    ensures { λ r. ⌜ Ended short (done (canonical (ruleFor newer) (now (text .entry))) 0) (now (out .entry)) (now (out .exit)) r ⌝ }
+{
+    if out.len() < 6 * text.len() {
+        let length = canonical::canonical_length(text, newer);
+        if out.len() < length {
+            return Answer::Refused {
+                number: short,
+                first: length as u64,
+                second: 0,
+            };
+        }
+    }
+    let written = canonical::write_canonical(text, newer, out);
+    Answer::Done {
+        first: written as u64,
+        second: 0,
+    }
+}
+
+// The same of a text with TAB and LF as spaces.
+fn form_spaced(text: &[u8], newer: bool, short: u32, out: &mut [u8]) -> Answer
+    requires { ⌜ length (now text) ≤ 16777216 ⌝ }
+    ensures { λ r. ⌜ Ended short (done (canonical (ruleFor newer) (blanksSpaced (now (text .entry)))) 0) (now (out .entry)) (now (out .exit)) r ⌝ }
+{
+    if out.len() < 6 * text.len() {
+        let length = canonical::spaced_length(text, newer);
+        if out.len() < length {
+            return Answer::Refused {
+                number: short,
+                first: length as u64,
+                second: 0,
+            };
+        }
+    }
+    let written = canonical::write_spaced(text, newer, out);
+    Answer::Done {
+        first: written as u64,
+        second: 0,
+    }
+}
+
 // The text of a call at depth 0: refused where there is a fault or a stop, else its own value.
-fn normalize_bottom(text: &[u8], how: u8, guard: u8, short: u32, out: &mut [u8]) -> Answer
-    ensures { λ r. ⌜ ((s : Settings) → Ended short (walk s (readBy how guard) 0 (now (text .entry)) 0) (now (out .entry)) (now (out .exit)) r) ⌝ }
+fn normalize_bottom(text: &[u8], how: u8, guard: u8, form: u8, short: u32, out: &mut [u8]) -> Answer
+    requires { ⌜ length (now text) ≤ 16777216 ⌝ }
+    ensures { λ r. ⌜ ((s : Settings) → Ended short (shapedIn form (walk s (readBy how guard) 0 (now (text .entry)) 0)) (now (out .entry)) (now (out .exit)) r) ⌝ }
 {
     let fault = cycle::bottom_fault(text, how, guard);
     if fault != text.len() {
@@ -188,13 +237,20 @@ fn normalize_bottom(text: &[u8], how: u8, guard: u8, short: u32, out: &mut [u8])
             second: 0,
         };
     }
+    if form != 0 {
+        return form_copied(text, form == 2, short, out);
+    }
     tokens::copied_whole(text, short, out)
 }
 
 // The text of a call without halts: its bytes, TAB and LF as spaces.
-fn spaced_whole(text: &[u8], short: u32, out: &mut [u8]) -> Answer
-    ensures { λ r. ⌜ Ended short (done (blanksSpaced (now (text .entry))) 0) (now (out .entry)) (now (out .exit)) r ⌝ }
+fn spaced_whole(text: &[u8], form: u8, short: u32, out: &mut [u8]) -> Answer
+    requires { ⌜ length (now text) ≤ 16777216 ⌝ }
+    ensures { λ r. ⌜ Ended short (done (shaped form (blanksSpaced (now (text .entry)))) 0) (now (out .entry)) (now (out .exit)) r ⌝ }
 {
+    if form != 0 {
+        return form_spaced(text, form == 2, short, out);
+    }
     let n = text.len();
     if out.len() < n {
         return Answer::Refused {
@@ -230,8 +286,8 @@ fn inner_guard(strict: bool, newer: bool) -> u8
 }
 
 // What the walk over the text of a call is set to: the texts of a marked list are past line ends.
-fn reading_for(list: &[u8], wanted: Wanted) -> Reading
-    ensures { λ r. ⌜ r ≡ readingFor wanted (marked (now (list .entry))) ⌝ }
+fn reading_for(list: &[u8], wanted: Wanted, form: u8) -> Reading
+    ensures { λ r. ⌜ r ≡ readingFor wanted (marked (now (list .entry))) form ⌝ }
 {
     let newer = 1 < wanted.version;
     let how = if newer { 1 } else { 0 };
@@ -243,6 +299,7 @@ fn reading_for(list: &[u8], wanted: Wanted) -> Reading
         inguard: inner_guard(wanted.strict, newer),
         depth: wanted.depth,
         limit: wanted.limit,
+        form,
         base: 0,
     }
 }
@@ -252,6 +309,7 @@ fn reading_for(list: &[u8], wanted: Wanted) -> Reading
 pub fn normalized(
     text: &[u8],
     wanted: Wanted,
+    form: u8,
     list: &[u8],
     pool: &[u8],
     short: u32,
@@ -260,16 +318,17 @@ pub fn normalized(
     requires { ⌜ ValidTable (now list) (now pool) ⌝ }
     requires { ⌜ length (now text) ≤ 16777216 ⌝ }
     requires { ⌜ wanted .limit ≤ 1000000 ⌝ }
-    ensures { λ r. ⌜ Ended short (outcomeFor wanted (now (list .entry)) (now (pool .entry)) (now (text .entry))) (now (out .entry)) (now (out .exit)) r ⌝ }
+    requires { ⌜ WellFormed (now text) ⌝ }
+    ensures { λ r. ⌜ Ended short (shapedIn form (outcomeFor wanted (now (list .entry)) (now (pool .entry)) (now (text .entry)))) (now (out .entry)) (now (out .exit)) r ⌝ }
 {
     if wanted.depth == 0 {
-        let used_up = reading_for(list, wanted);
-        return normalize_bottom(text, used_up.how, used_up.guard, short, out);
+        let used_up = reading_for(list, wanted, form);
+        return normalize_bottom(text, used_up.how, used_up.guard, form, short, out);
     }
     let newer = 1 < wanted.version;
     let first = halts::first_halt(text, newer);
     if first != text.len() {
-        let reading = reading_for(list, wanted);
+        let reading = reading_for(list, wanted, form);
         return normalize_into(text, first, reading, list, pool, short, out);
     }
     let fault = flat::run_fault(text, 0, first, outer_guard(wanted.strict, newer));
@@ -280,7 +339,7 @@ pub fn normalized(
             second: 0,
         };
     }
-    spaced_whole(text, short, out)
+    spaced_whole(text, form, short, out)
 }
 
 // The attribute value normalized. Success: the length written, the openings. A text of which it is known that it is simple is its own
@@ -297,12 +356,13 @@ pub fn normalize_attribute_value(
     requires { ⌜ ValidTable (now list) (now pool) ⌝ }
     requires { ⌜ length (now text) ≤ 16777216 ⌝ }
     requires { ⌜ wanted .limit ≤ 1000000 ⌝ }
+    requires { ⌜ WellFormed (now text) ⌝ }
     ensures { λ r. ⌜ callOf r (now (out .exit) ∷ []) ≡ finished (outcomeFor wanted (now (list .entry)) (now (pool .entry)) (now (text .entry))) (now (out .entry)) ⌝ }
 {
     if simple {
         return tokens::copied_whole(text, refusals::NO_ROOM, out);
     }
-    normalized(text, wanted, list, pool, refusals::NO_ROOM, out)
+    normalized(text, wanted, 0, list, pool, refusals::NO_ROOM, out)
 }
 
 // The canonical form of a value that a scratch holds. Where the output has six times its length there is room: no count is needed.
@@ -339,9 +399,10 @@ pub fn canonical_form(
     requires { ⌜ ValidTable (now list) (now pool) ⌝ }
     requires { ⌜ length (now text) ≤ 16777216 ⌝ }
     requires { ⌜ wanted .limit ≤ 1000000 ⌝ }
+    requires { ⌜ WellFormed (now text) ⌝ }
     ensures { λ r. ⌜ callOf r (now (scratch .exit) ∷ now (out .exit) ∷ []) ≡ formed (ruleOf (wanted .version)) (outcomeFor wanted (now (list .entry)) (now (pool .entry)) (now (text .entry))) (now (scratch .entry)) (now (out .entry)) ⌝ }
 {
-    let filled = normalized(text, wanted, list, pool, refusals::NO_SCRATCH, scratch);
+    let filled = normalized(text, wanted, 0, list, pool, refusals::NO_SCRATCH, scratch);
     let Answer::Done {
         first: len,
         second: openings,

@@ -5,8 +5,9 @@ use native.Mathlib.Omega.{arith}
 use lib.ListN.{length, getD, take, drop, length-take, length-drop}
 use borrow.Author.Needs.{needs}
 use Rattle.entity.specs.Commands.{commandText}
-use Rattle.memory.specs.Levels.{levelOf, Lent}
-use Rattle.memory.proofs.Levels.{placeOf}
+use Rattle.memory.specs.Levels.{settingsOf, levelOf, Lent}
+use Rattle.memory.proofs.Levels.{Sound, placeOf}
+use Rattle.memory.proofs.Readings.{by-sound}
 use Rattle.flat.proofs.Halting.{valid-short}
 use Rattle.cycle.proofs.Cycle.{text-is, step-lent, step-of, step-bottom, Goes, goes-start, goes-lent, keeps-end, keeps-stopped}
 use Rattle.cycle.proofs.Cycle.{never-paused, at-opening, open-counts, goes-open, keeps-refused}
@@ -113,6 +114,21 @@ text-told t c =
     let a = step-begin t c .args in
     text-is (a .reading) (a .place) (a .list .now) (a .pool .now) (a .command) (c .before .text-start .ensures .0) (c .text-length .ensures .0)
 
+-- it is short
+text-brief : (t : ℕ) (c : Told t)
+    → length (take (c .before .text-start .result + c .text-length .result - c .before .text-start .result) (drop (c .before .text-start .result) (step-begin t c .args .pool .now)))
+    ≤ 16777216
+text-brief t c = simp (length-take, length-drop) (omega (arith, c .text-length .ensures))
+
+-- what the settings and the table are
+step-sound : (t : ℕ) (c : Told t)
+    → Sound (settingsOf (step-begin t c .args .reading) (step-begin t c .args .list .now) (step-begin t c .args .pool .now)) (step-begin t c .args .list .now)
+    (step-begin t c .args .pool .now)
+step-sound t c =
+    let begin = step-begin t c in
+    let a = begin .args in
+    by-sound (a .reading .inner) (a .reading .inguard) (a .list .now) (a .pool .now) (a .reading .limit) (λ k. omega (arith, c .before .before .before .before .before .shared-slice-known .given k)) (begin .pre .1 .0)
+
 -- ---- the step's needs
 
 normalize-attr-step-text-start-requires : (t : ℕ) → normalize-attr-step-lts.Need-text-start-requires (normalize-attr-step-claims t) (normalize-attr-step-at t)
@@ -149,7 +165,7 @@ normalize-attr-step-part-bottom-step-end t c =
 
 normalize-attr-step-bottom-step-requires : (t : ℕ) → normalize-attr-step-lts.Need-bottom-step-requires (normalize-attr-step-claims t) (normalize-attr-step-at t)
     normalize-attr-step.Post
-normalize-attr-step-bottom-step-requires t c κs = tt
+normalize-attr-step-bottom-step-requires t c κs = text-brief t (c .before .before .before .before)
 
 normalize-attr-step-same-length : (t : ℕ) → normalize-attr-step-lts.Need-same-length (normalize-attr-step-claims t) (normalize-attr-step-at t)
     normalize-attr-step.Post
@@ -194,9 +210,7 @@ normalize-attr-step-normalize-attr-steps-requires t c κs =
     let begin = step-begin t told in
     let a = begin .args in
     let asked = begin .pre .1 .1 .0 in
-    let start = told .before .text-start .result in
-    let short : length (take (start + told .text-length .result - start) (drop start (a .pool .now))) ≤ 16777216 =
-    simp (length-take, length-drop) (omega (arith, told .text-length .ensures)) in (
+    let short = text-brief t told in (
       omega (arith, begin .pre .0, asked .deep),
       (
         begin .pre .1 .0,
@@ -229,7 +243,7 @@ normalize-attr-step-returns-2 t c =
     let told = c .before .before .before .before .before .before .before .before .before .before .before .before .before .before .before in
     let begin = step-begin t told in
     let a = begin .args in
-    step-of (a .reading) (a .place) (a .list .now) (a .pool .now) (a .command) (text-told t told) (begin .pre .1 .1 .0 .few) (c .before .len .given .1)
+    step-of (a .reading) (a .place) (a .list .now) (a .pool .now) (a .command) (text-told t told) (begin .pre .1 .1 .0 .few) (step-sound t told) (begin .pre .1 .1 .1 .0) (c .before .len .given .1)
     (c .before .before .before .before .before .before .before .normalize-attr-steps .ensures)
 
 normalize-attr-step-same-length-4 : (t : ℕ) → normalize-attr-step-lts.Need-same-length-4 (normalize-attr-step-claims t) (normalize-attr-step-at t)
@@ -246,7 +260,7 @@ normalize-attr-step-returns-3 t c =
     let told = c .before .before .before .before .before .before .before .before .before .before .before .before .before .before .before in
     let begin = step-begin t told in
     let a = begin .args in
-    step-of (a .reading) (a .place) (a .list .now) (a .pool .now) (a .command) (text-told t told) (begin .pre .1 .1 .0 .few) (c .before .number .given .1)
+    step-of (a .reading) (a .place) (a .list .now) (a .pool .now) (a .command) (text-told t told) (begin .pre .1 .1 .0 .few) (step-sound t told) (begin .pre .1 .1 .1 .0) (c .before .number .given .1)
     (c .before .before .before .before .before .before .before .normalize-attr-steps .ensures)
 
 abbrev normalize-attr-steps-Inv-loop : normalize-attr-steps-lts.InvT-loop
@@ -297,6 +311,15 @@ found-of t c = c .before .before .before .before .before
 -- the list is one of bytes
 table-bytes : (t : ℕ) (c : Turn t) (k : ℕ) → getD (begin-of t c .args .list .now) k 0 < 0x100
 table-bytes t c k = omega (arith, c .before .before .before .before .shared-slice-known2 .given k)
+
+-- what the settings and the table are
+table-sound : (t : ℕ) (c : Turn t)
+    → Sound (settingsOf (begin-of t c .args .reading) (begin-of t c .args .list .now) (begin-of t c .args .pool .now)) (begin-of t c .args .list .now)
+    (begin-of t c .args .pool .now)
+table-sound t c =
+    let begin = begin-of t c in
+    let a = begin .args in
+    by-sound (a .reading .inner) (a .reading .inguard) (a .list .now) (a .pool .now) (a .reading .limit) (table-bytes t c) (begin .pre .1 .0)
 
 -- what is asked at the loop's head
 lent-at : (t : ℕ) (c : Turn t) → Lent (levelOf (begin-of t c .args .reading) (begin-of t c .args .list .now) (begin-of t c .args .pool .now) (begin-of t c .args .text .now))
@@ -425,7 +448,7 @@ normalize-attr-steps-normalize-attr-step-requires t c κs =
     let begin = begin-of t turn in
     let a = begin .args in
     let o = at-opening (a .reading) (a .list .now) (a .pool .now) (a .text .now) (a .begun) (turn .loop .inv) (flat .normalize-flat .ensures)
-    (begin .pre .1 .1 .1 .1) (found .next .given .1) in
+    (begin .pre .1 .1 .1 .1) (found .next .given .1) (table-sound t turn) in
     let asked = begin .pre .1 .1 .0 in (
       omega (arith, begin .pre .0),
       (
@@ -451,7 +474,7 @@ normalize-attr-steps-add-keep t c =
     let begin = begin-of t turn in
     let a = begin .args in
     let o = at-opening (a .reading) (a .list .now) (a .pool .now) (a .text .now) (a .begun) (turn .loop .inv) (flat .normalize-flat .ensures)
-    (begin .pre .1 .1 .1 .1) (found .next .given .1) in
+    (begin .pre .1 .1 .1 .1) (found .next .given .1) (table-sound t turn) in
     omega (arith, o .room, o .few, begin .pre .1 .1 .0 .most)
 
 normalize-attr-steps-sub-keep : (t : ℕ) → normalize-attr-steps-lts.Need-sub-keep (normalize-attr-steps-claims t)
@@ -464,7 +487,7 @@ normalize-attr-steps-sub-keep t c =
     let begin = begin-of t turn in
     let a = begin .args in
     let counts = open-counts (a .reading) (a .list .now) (a .pool .now) (a .text .now) (a .begun) (turn .loop .inv) (flat .normalize-flat .ensures)
-    (begin .pre .1 .1 .1 .1) (found .next .given .1) (table-bytes t turn) (step .before .before .before .least .ensures) (step .normalize-attr-step .ensures)
+    (begin .pre .1 .1 .1 .1) (found .next .given .1) (table-sound t turn) (step .before .before .before .least .ensures) (step .normalize-attr-step .ensures)
     (c .before .before .after .given .1) in
     omega (arith, counts .1)
 
@@ -478,7 +501,7 @@ normalize-attr-steps-keep-requires t c κs =
     let begin = begin-of t turn in
     let a = begin .args in
     let o = at-opening (a .reading) (a .list .now) (a .pool .now) (a .text .now) (a .begun) (turn .loop .inv) (flat .normalize-flat .ensures)
-    (begin .pre .1 .1 .1 .1) (found .next .given .1) in (
+    (begin .pre .1 .1 .1 .1) (found .next .given .1) (table-sound t turn) in (
       (omega (arith, o .defines .fits, valid-short (a .list .now) (a .pool .now) (begin .pre .1 .0)), o .known),
       λ z. step .normalize-attr-step .ensures .words ∙ flat .normalize-flat .ensures .words ∙ turn .loop .inv .kept ∙ begin .pre .1 .1 .1 .0,
     )
@@ -493,9 +516,9 @@ normalize-attr-steps-add-len t c =
     let begin = begin-of t turn in
     let a = begin .args in
     let o = at-opening (a .reading) (a .list .now) (a .pool .now) (a .text .now) (a .begun) (turn .loop .inv) (flat .normalize-flat .ensures)
-    (begin .pre .1 .1 .1 .1) (found .next .given .1) in
+    (begin .pre .1 .1 .1 .1) (found .next .given .1) (table-sound t turn) in
     let counts = open-counts (a .reading) (a .list .now) (a .pool .now) (a .text .now) (a .begun) (turn .loop .inv) (flat .normalize-flat .ensures)
-    (begin .pre .1 .1 .1 .1) (found .next .given .1) (table-bytes t turn) (step .before .before .before .least .ensures) (step .normalize-attr-step .ensures)
+    (begin .pre .1 .1 .1 .1) (found .next .given .1) (table-sound t turn) (step .before .before .before .least .ensures) (step .normalize-attr-step .ensures)
     (c .before .before .before .before .before .before .after .given .1) in
     omega (arith, o .room, counts, begin .pre .1 .1 .0 .most)
 
@@ -509,9 +532,9 @@ normalize-attr-steps-loop-less-2 t c =
     let begin = begin-of t turn in
     let a = begin .args in
     let o = at-opening (a .reading) (a .list .now) (a .pool .now) (a .text .now) (a .begun) (turn .loop .inv) (flat .normalize-flat .ensures)
-    (begin .pre .1 .1 .1 .1) (found .next .given .1) in
+    (begin .pre .1 .1 .1 .1) (found .next .given .1) (table-sound t turn) in
     let counts = open-counts (a .reading) (a .list .now) (a .pool .now) (a .text .now) (a .begun) (turn .loop .inv) (flat .normalize-flat .ensures)
-    (begin .pre .1 .1 .1 .1) (found .next .given .1) (table-bytes t turn) (step .before .before .before .least .ensures) (step .normalize-attr-step .ensures)
+    (begin .pre .1 .1 .1 .1) (found .next .given .1) (table-sound t turn) (step .before .before .before .least .ensures) (step .normalize-attr-step .ensures)
     (c .before .before .before .before .before .before .after .given .1) in
     omega (arith, o .on, o .inside, counts .0)
 
@@ -525,7 +548,7 @@ normalize-attr-steps-loop-again-2 t c =
     let begin = begin-of t turn in
     let a = begin .args in
     goes-open (a .reading) (a .list .now) (a .pool .now) (a .text .now) (a .begun) (turn .loop .inv) (flat .normalize-flat .ensures)
-    (begin .pre .1 .1 .1 .1) (found .next .given .1) (table-bytes t turn) (step .before .before .before .least .ensures) (step .normalize-attr-step .ensures)
+    (begin .pre .1 .1 .1 .1) (found .next .given .1) (table-sound t turn) (step .before .before .before .least .ensures) (step .normalize-attr-step .ensures)
     (c .before .before .before .before .before .before .after .given .1) (c .before .before .keep .ensures)
     (omega arith)
 
@@ -550,7 +573,7 @@ normalize-attr-steps-same-length-6 t c =
     let begin = begin-of t turn in
     let a = begin .args in
     keeps-refused (a .reading) (a .list .now) (a .pool .now) (a .text .now) (a .begun) (turn .loop .inv) (flat .normalize-flat .ensures)
-    (begin .pre .1 .1 .1 .1) (found .next .given .1) (table-bytes t turn) (step .before .before .before .least .ensures) (step .normalize-attr-step .ensures)
+    (begin .pre .1 .1 .1 .1) (found .next .given .1) (table-sound t turn) (step .before .before .before .least .ensures) (step .normalize-attr-step .ensures)
     (c .before .number2 .given .1) .buffer
 
 normalize-attr-steps-returns-3 : (t : ℕ) → normalize-attr-steps-lts.Need-returns-3 (normalize-attr-steps-claims t)
@@ -563,7 +586,7 @@ normalize-attr-steps-returns-3 t c =
     let begin = begin-of t turn in
     let a = begin .args in
     keeps-refused (a .reading) (a .list .now) (a .pool .now) (a .text .now) (a .begun) (turn .loop .inv) (flat .normalize-flat .ensures)
-    (begin .pre .1 .1 .1 .1) (found .next .given .1) (table-bytes t turn) (step .before .before .before .least .ensures) (step .normalize-attr-step .ensures)
+    (begin .pre .1 .1 .1 .1) (found .next .given .1) (table-sound t turn) (step .before .before .before .least .ensures) (step .normalize-attr-step .ensures)
     (c .before .number2 .given .1)
 
 pub +normalize-attr-step+normalize-attr-steps-spec : {M : Type 1} → statement M

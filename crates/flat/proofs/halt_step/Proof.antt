@@ -8,7 +8,7 @@ use native.Mathlib.Omega.{arith}
 use Rattle.memory.proofs.Readings.{lent-within, lent-room, lent-trusts}
 use Rattle.flat.specs.Between.{Means}
 use Rattle.flat.specs.declared.Meaning.{Meaning}
-use Rattle.flat.proofs.Halting.{halt-blank, halt-plain, halt-char, halt-forbidden, halt-refused}
+use Rattle.flat.proofs.Halting.{halt-blank, halt-plain, plain-ascii, halt-char, halt-forbidden, halt-refused}
 use borrow.Author.Needs.{needs}
 use Rattle.flat.proofs.halt_step.Statement.{statement}
 use Rattle.flat.proofs.halt_step.Tie as tie
@@ -36,8 +36,8 @@ blank-width-requires c κs = search needs
 put-byte-requires : tie.Need-put-byte-requires
 put-byte-requires c κs = search needs
 
-add-t26 : tie.Need-add-t26
-add-t26 c =
+add-t27 : tie.Need-add-t27
+add-t27 c =
     let width = c .before .before .before .before in
     omega (arith, width .blank-width .ensures .inside, entry-blank width .pre .1 .0 .2)
 
@@ -55,8 +55,16 @@ returns c =
 quick-plain-requires : tie.Need-quick-plain-requires
 quick-plain-requires c κs = search needs
 
-put-byte-requires-2 : tie.Need-put-byte-requires-2
-put-byte-requires-2 c κs = search needs
+write-byte-requires : tie.Need-write-byte-requires
+write-byte-requires c κs =
+    let quick = c .before .before in
+    let start = entry-quick quick in
+    let a = start .args in
+    let lent = start .pre .1 .1 .1 in
+    let plain = quick .quick-plain .ensures (c .before .if2 .taken) (a .pool .now) (start .pre .0) (lent-trusts (a .reading) (a .list .now) (a .pool .now) (a .text .now) lent) in
+    let within = lent-within (a .reading) (a .list .now) (a .pool .now) (a .text .now) lent in
+    let room = lent-room (a .reading) (a .list .now) (a .pool .now) (a .text .now) lent in
+    (plain-ascii (a .text .now) (a .list .now) (a .pool .now) (a .place .at) (quick .quick-plain .result) plain, omega (arith, room, within, start .pre .1 .0 .1))
 
 add-t32 : tie.Need-add-t32
 add-t32 c = search needs
@@ -77,7 +85,7 @@ returns-2 c =
     let next : a .place .at + 3 + 1 ≡ a .place .at + 4 = omega arith in
     rw next at
     (halt-plain (a .reading) (a .text .now) (a .list .now) (a .pool .now) (a .place) (start .pre .1 .0 .0) (a .out .now) (a .seen .now)
-    (plain .name) (plain .bound) (c .before .before .put-byte2 .ensures))
+    (plain .name) (plain .bound) (c .before .before .write-byte .ensures))
 
 read-reference-requires : tie.Need-read-reference-requires
 read-reference-requires c κs = search needs
@@ -144,7 +152,7 @@ returns-5 c =
     let a = start .args in
     halt-char (a .reading) (a .text .now) (a .list .now) (a .pool .now) (a .place) (start .pre .1 .0 .0) (a .out .now) (a .seen .now)
     (means read (judged .before .before .c .given .1)) (rw (wrote .before .before .if3 .left) at (judged .is-forbidden .ensures .0))
-    (wrote .write-char .ensures .0) (wrote .write-char .ensures .1)
+    (wrote .write-char .ensures)
 
 same-length-8 : tie.Need-same-length-8
 same-length-8 c = search needs
@@ -173,11 +181,11 @@ halt-step-spec =
     shared-slice-read-if1
     blank-width-requires
     put-byte-requires
-    add-t26
+    add-t27
     same-length
     returns
     quick-plain-requires
-    put-byte-requires-2
+    write-byte-requires
     add-t32
     same-length-2
     same-length-3

@@ -106,11 +106,19 @@ enum-known-b c = search needs
 keep-plain-requires : tie.Need-keep-plain-requires
 keep-plain-requires c κs = search needs
 
-put-byte-requires : tie.Need-put-byte-requires
-put-byte-requires c κs = search needs
+write-byte-requires : tie.Need-write-byte-requires
+write-byte-requires c κs =
+    let at-byte = c .before .before .before .before .before .before in
+    let answer = at-byte .before .before in
+    let start = entry answer in
+    let a = start .args in
+    let lent = start .pre .1 .1 .1 in
+    let within = lent-within (a .reading) (a .list .now) (a .pool .now) (a .text .now) lent in
+    let room = lent-room (a .reading) (a .list .now) (a .pool .now) (a .text .now) lent in
+    (refers answer (at-byte .b .given .1) .0, omega (arith, room, within, start .pre .1 .0 .1))
 
-add-t42 : tie.Need-add-t42
-add-t42 c = search needs
+add-t43 : tie.Need-add-t43
+add-t43 c = search needs
 
 enum-told-2 : tie.Need-enum-told-2
 enum-told-2 c = search needs
@@ -127,7 +135,7 @@ returns c =
     let start = entry (asked told) in
     let a = start .args in
     c .before .before .before .before .text-step .ensures (a .text .now) (a .list .now) (a .pool .now)
-    (referred (a .reading) (a .text .now) (a .list .now) (a .pool .now) (a .place) (start .pre .1 .0 .0) (list-bytes (asked told)) (start .pre .1 .1 .0)
+    (referred (a .reading) (a .text .now) (a .list .now) (a .pool .now) (a .place) (start .pre .1 .0 .0) (list-bytes (asked told)) (start .pre .0) (start .pre .1 .1 .0)
     (refers (asked told) (told .before .command .given .1)))
 
 same-length-3 : tie.Need-same-length-3
@@ -156,7 +164,7 @@ returns-3 c =
     let a = start .args in
     let k = refers answer (at-byte .b .given .1) in
     halt-predefined (a .reading) (a .text .now) (a .list .now) (a .pool .now) (a .place) (start .pre .1 .0 .0) (a .out .now) (a .seen .now)
-    (start .pre .1 .1 .0) (k .1) (k .2) (c .before .before .put-byte .ensures) (kept .keep-plain .ensures)
+    (start .pre .1 .1 .0) (k .1) (k .2) (c .before .before .write-byte .ensures) (kept .keep-plain .ensures)
 
 same-length-6 : tie.Need-same-length-6
 same-length-6 c = search needs
@@ -191,8 +199,8 @@ named-step-spec =
     enum-told
     enum-known-b
     keep-plain-requires
-    put-byte-requires
-    add-t42
+    write-byte-requires
+    add-t43
     enum-told-2
     same-length
     same-length-2

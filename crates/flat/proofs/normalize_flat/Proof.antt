@@ -12,7 +12,7 @@ use Rattle.flat.specs.Between.{HaltKeeps}
 use Prim.Native.Nat.{ℕ, _+_, _-_, _≤_, _<_}
 use Rattle.memory.proofs.Levels.{placeOf}
 use lib.ListN.{length}
-use Rattle.flat.proofs.Going.{Going, going-start, going-barred, going-room, going-within, run-lent, going-end, going-opens, going-paused, going-stopped, going-sum, going-made, going-next}
+use Rattle.flat.proofs.Going.{Going, going-start, going-barred, going-room, going-within, run-lent, run-room, going-end, going-opens, going-paused, going-stopped, going-sum, going-made, going-next}
 use Rattle.flat.proofs.normalize_flat.Statement.{statement}
 use Rattle.flat.proofs.normalize_flat.Tie as tie
 
@@ -60,7 +60,7 @@ halt-of c = c .before .before .before .before .before .before .before
 
 -- the output after the run; the output and the memory after the halt
 abbrev out-ran : Ran → List ℕ
-out-ran c = c .write-run .last .1 .1 .1 .1 .0
+out-ran c = c .write-run .last .1 .1 .1 .1 .1 .0
 
 abbrev out-halted : Halt → List ℕ
 out-halted c = c .halt-step .last .1 .1 .1 .1 .1 .1 .1 .0
@@ -96,14 +96,14 @@ halt-kept : (c : Halt) {r : Halted} → c .halt-step .result ≡ r
     → HaltKeeps
     (levelOf (entry-of (turn-halted c) .args .reading) (entry-of (turn-halted c) .args .list .now) (entry-of (turn-halted c) .args .pool .now)
     (entry-of (turn-halted c) .args .text .now)) (entry-of (turn-halted c) .args .reading .base)
-    (placeOf (turn-halted c .loop .end) (turn-halted c .loop .len + (turn-halted c .loop .end - turn-halted c .loop .at))
+    (placeOf (turn-halted c .loop .end) (turn-halted c .loop .len + ran-of c .write-run .result)
     (turn-halted c .loop .made)) (out-ran (ran-of c)) (turn-halted c .loop .seen) (out-halted c) (seen-halted c) r
 halt-kept c q =
     let turn = turn-halted c in
     let a = entry-of turn .args in
     subst
     (HaltKeeps (levelOf (a .reading) (a .list .now) (a .pool .now) (a .text .now)) (a .reading .base)
-    (placeOf (turn .loop .end) (turn .loop .len + (turn .loop .end - turn .loop .at)) (turn .loop .made)) (out-ran (ran-of c)) (turn .loop .seen)
+    (placeOf (turn .loop .end) (turn .loop .len + ran-of c .write-run .result) (turn .loop .made)) (out-ran (ran-of c)) (turn .loop .seen)
     (out-halted c) (seen-halted c)) q (c .halt-step .ensures)
 
 -- neither buffer changes its length
@@ -113,7 +113,7 @@ words-kept c = c .halt-step .ensures .words ∙ turn-halted c .loop .inv .words
 buffer-kept : (c : Halt) → length (out-halted c) ≡ length (entry-of (turn-halted c) .args .out .now)
 buffer-kept c =
     let ran = ran-of c in
-    c .halt-step .ensures .buffer ∙ ran .write-run .ensures .buffer ∙ turn-of ran .loop .inv .buffer
+    c .halt-step .ensures .buffer ∙ ran .write-run .ensures .1 .buffer ∙ turn-of ran .loop .inv .buffer
 
 -- ---- the run
 
@@ -146,13 +146,19 @@ write-run-requires c κs =
     let smooth = turn .loop .inv .halt .smooth in
     (smooth .from, smooth .to, entry-of turn .pre .1 .0 .2, len-small turn)
 
-sub-len : tie.Need-sub-len Inv-loop μ-loop
-sub-len c = turn-of (c .before .before) .loop .inv .halt .smooth .from
-
 add-len : tie.Need-add-len Inv-loop μ-loop
 add-len c =
-    let turn = turn-of (c .before .before) in
-    omega (arith, len-small turn, entry-of turn .pre .1 .0, turn .loop .inv .halt .smooth .to)
+    let ran = c .before .before in
+    let turn = turn-of ran in
+    let start = entry-of turn in
+    let a = start .args in
+    let room =
+    run-room (a .reading) (a .text .now) (a .list .now) (a .pool .now) (a .place) (a .out .now) (a .seen .now) (turn .loop .inv) (start .pre .1 .0 .0)
+    (start .pre .1 .1 .1) (run-clean ran) (ran .write-run .ensures) in
+    let within =
+    going-within (a .reading) (a .text .now) (a .list .now) (a .pool .now) (a .place) (a .out .now) (a .seen .now) (turn .loop .inv) (start .pre .1 .0 .0)
+    (start .pre .1 .1 .1) in
+    omega (arith, room, within, start .pre .1 .0 .1)
 
 -- ---- the end of the text
 
@@ -162,7 +168,7 @@ same-length-3 c = turn-of (c .before .before .before) .loop .inv .words
 same-length-4 : tie.Need-same-length-4 Inv-loop μ-loop
 same-length-4 c =
     let ran = c .before .before .before in
-    ran .write-run .ensures .buffer ∙ turn-of ran .loop .inv .buffer
+    ran .write-run .ensures .1 .buffer ∙ turn-of ran .loop .inv .buffer
 
 returns-2 : tie.Need-returns-2 Inv-loop μ-loop
 returns-2 c =
@@ -310,7 +316,6 @@ normalize-flat-spec =
     same-length-2
     returns
     write-run-requires
-    sub-len
     add-len
     same-length-3
     same-length-4

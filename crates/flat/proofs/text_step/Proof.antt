@@ -6,9 +6,10 @@ use mathlib.Core.Path.{_≡_, sym, subst}
 use mathlib.Core.List.{List}
 use native.Mathlib.Omega.{arith}
 use lib.ListN.{length, take, drop}
-use Rattle.memory.specs.Levels.{HadKeeps, levelOf, Adds}
+use Rattle.memory.specs.Slots.{shaped}
+use Rattle.memory.specs.Levels.{HadKeeps, levelOf}
 use Rattle.memory.specs.declared.Had.{Had}
-use Rattle.flat.specs.Between.{HaltKeeps, Referred}
+use Rattle.flat.specs.Between.{Writes, HaltKeeps, Referred}
 use Rattle.flat.specs.declared.Halted.the-variants.{Opening}
 use Rattle.flat.proofs.Halting.{halt-limit, halt-again, halt-opens, halt-leaf}
 use borrow.Author.Needs.{needs}
@@ -128,8 +129,8 @@ returns-3 c = λ t list pool k.
     let a = start .args in
     let added =
     subst
-    (λ (x : List ℕ). Adds (blanksSpaced (take (length (a .value .now) - 0) (drop 0 (a .value .now)))) (a .place .len) x
-    (copy .write-run .last .1 .1 .1 .1 .0)) (untouched miss) (copy .write-run .ensures) in
+    (λ (x : List ℕ). Writes (shaped (a .reading .form) (blanksSpaced (take (length (a .value .now) - 0) (drop 0 (a .value .now))))) (a .place .len) x
+    (copy .write-run .last .1 .1 .1 .1 .1 .0) (copy .write-run .result)) (untouched miss) (copy .write-run .ensures) in
     halt-leaf (a .reading) t list pool (a .place) k (start .pre .0 .1) (a .out .now) (a .seen .now) (looked miss .before .before .before .if1 .left)
     (at-leaf .before .before .if2 .taken) (at-leaf .is-leaf .ensures (copy .before .before .if3 .taken)) added (c .before .before .before .keep .ensures)
 

@@ -5,9 +5,10 @@ use lib.ListN.{length-take}
 use lib.Seq.{length-take-le}
 use Rattle.text.specs.Version.{ruleOf}
 use Rattle.tokens.specs.Outcome.{Outcome}
+use Rattle.tokens.specs.Walking.{Ended}
 use Rattle.normalize.specs.Calls.{outcomeFor}
 use Rattle.attribute.proofs.Formed.{Filled, filled, formed-refused}
-use Rattle.normalize.proofs.Texts.{call-short, call-formed}
+use Rattle.normalize.proofs.Texts.{call-short, call-formed, ended-same, shown-plain}
 use borrow.Author.Needs.{needs}
 use Rattle.normalize.proofs.canonical_form.Statement.{statement}
 use Rattle.normalize.proofs.canonical_form.Tie as tie
@@ -24,12 +25,16 @@ outcome c =
     let a = entry c .args in
     outcomeFor (a .wanted) (a .list .now) (a .pool .now) (a .text .now)
 
+-- the value itself is written
+as-is : (c : tie.After-normalized) → Ended 18 (outcome c) (entry c .args .scratch .now) (c .normalized .last .1 .1 .1 .1 .1 .1 .0) (c .normalized .result)
+as-is c = ended-same 18 (entry c .args .scratch .now) (sym (shown-plain (outcome c))) (c .normalized .ensures)
+
 -- the scratch holds the value
-value-filled : (c : tie.After-filled) → Filled (outcome (walk c)) (entry (walk c) .args .scratch .now) (walk c .normalized .last .1 .1 .1 .1 .1 .0)
+value-filled : (c : tie.After-filled) → Filled (outcome (walk c)) (entry (walk c) .args .scratch .now) (walk c .normalized .last .1 .1 .1 .1 .1 .1 .0)
     (c .filled .given .0 .0) (c .filled .given .0 .1 .0)
 value-filled c =
     let walked = walk c .normalized in
-    filled (outcome (walk c)) (entry (walk c) .args .scratch .now) (walked .last .1 .1 .1 .1 .1 .0) (walked .ensures) (c .filled .given .1)
+    filled (outcome (walk c)) (entry (walk c) .args .scratch .now) (walked .last .1 .1 .1 .1 .1 .1 .0) (as-is (walk c)) (c .filled .given .1)
 
 normalized-requires : tie.Need-normalized-requires
 normalized-requires c κs = search needs
@@ -47,20 +52,20 @@ returns : tie.Need-returns
 returns c =
     let walked = c .before .before .before .before in
     let a = entry walked .args in
-    formed-refused (ruleOf (a .wanted .version)) (outcome walked) (a .scratch .now) (a .out .now) (walked .normalized .last .1 .1 .1 .1 .1 .0)
-    (walked .normalized .ensures) (c .enum-told .given .1)
+    formed-refused (ruleOf (a .wanted .version)) (outcome walked) (a .scratch .now) (a .out .now) (walked .normalized .last .1 .1 .1 .1 .1 .1 .0)
+    (as-is walked) (c .enum-told .given .1)
 
 slice-reshare-prefix-canonical-into : tie.Need-slice-reshare-prefix-canonical-into
 slice-reshare-prefix-canonical-into c =
     let f = value-filled (c .before) in
-    omega (arith, f .size, f .room, c .before .before .before .before .before .normalized .kept .1 .1 .1 .1 .1 .0)
+    omega (arith, f .size, f .room, c .before .before .before .before .before .normalized .kept .1 .1 .1 .1 .1 .1 .0)
 
 slice-aggregate-canonical-into : tie.Need-slice-aggregate-canonical-into
 slice-aggregate-canonical-into c =
     let f = value-filled (c .before .before) in
     let walked = c .before .before .before .before .before .before .normalized in
-    sym (length-take-le (c .before .before .filled .given .0 .0) (walked .last .1 .1 .1 .1 .1 .0)
-    (omega (arith, f .size, f .room, walked .kept .1 .1 .1 .1 .1 .0)))
+    sym (length-take-le (c .before .before .filled .given .0 .0) (walked .last .1 .1 .1 .1 .1 .1 .0)
+    (omega (arith, f .size, f .room, walked .kept .1 .1 .1 .1 .1 .1 .0)))
 
 canonical-into-requires : tie.Need-canonical-into-requires
 canonical-into-requires c κs =
@@ -70,8 +75,8 @@ canonical-into-requires c κs =
     let a = begin .args in
     let f = value-filled known in
     let bytes = walked .before .before .before .before .before .shared-slice-known2 in
-    let short = call-short (a .wanted) (a .list .now) (a .pool .now) (a .text .now) (f .whole) (λ k. omega (arith, bytes .given k)) (begin .pre .1 .0) (begin .pre .1 .1) in
-    omega (arith, length-take (known .filled .given .0 .0) (walked .normalized .last .1 .1 .1 .1 .1 .0), short, f .size)
+    let short = call-short (a .wanted) (a .list .now) (a .pool .now) (a .text .now) (f .whole) (λ k. omega (arith, bytes .given k)) (begin .pre .1 .0) (begin .pre .1 .1 .0) in
+    omega (arith, length-take (known .filled .given .0 .0) (walked .normalized .last .1 .1 .1 .1 .1 .1 .0), short, f .size)
 
 same-length-2 : tie.Need-same-length-2
 same-length-2 c = search needs

@@ -4,7 +4,7 @@ use Rattle.tokens.specs.Outcome.{Outcome}
 use Rattle.tokens.specs.Walking.{Ended}
 use Rattle.tokens.proofs.Finished.{ended-call}
 use Rattle.normalize.specs.Calls.{outcomeFor}
-use Rattle.normalize.proofs.Texts.{simple-value}
+use Rattle.normalize.proofs.Texts.{simple-value, ended-same, shown-plain}
 use borrow.Author.Needs.{needs}
 use Rattle.normalize.proofs.normalize_attribute_value.Statement.{statement}
 use Rattle.normalize.proofs.normalize_attribute_value.Tie as tie
@@ -35,7 +35,8 @@ same-length-2 c = search needs
 returns-2 : tie.Need-returns-2
 returns-2 c =
     let a = c .before .before .before .before .before .before .before .before .before .args in
-    ended-call (outcomeFor (a .wanted) (a .list .now) (a .pool .now) (a .text .now)) (a .out .now) (c .before .before .normalized .ensures)
+    let o = outcomeFor (a .wanted) (a .list .now) (a .pool .now) (a .text .now) in
+    ended-call o (a .out .now) (ended-same 19 (a .out .now) (sym (shown-plain o)) (c .before .before .normalized .ensures))
 
 pub normalize-attribute-value-spec : {M : Type 1} → statement M
 normalize-attribute-value-spec =

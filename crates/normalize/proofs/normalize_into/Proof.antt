@@ -2,7 +2,7 @@
 use mathlib.Core.Path.{sym}
 use native.Mathlib.Omega.{arith}
 use lib.Seq.{length-take-le}
-use Rattle.normalize.specs.Calls.{walkOf}
+use Rattle.normalize.specs.Calls.{formOf}
 use Rattle.normalize.proofs.Texts.{walks-refused, walks-short, walks-held, walks-written}
 use borrow.Author.Needs.{needs}
 use Rattle.normalize.proofs.normalize_into.Statement.{statement}
@@ -28,14 +28,14 @@ returns : tie.Need-returns
 returns c =
     let text = c .before .before .before in
     let a = entry text .args in
-    let o = walkOf (a .reading) (a .list .now) (a .pool .now) (a .text .now) in
+    let o = formOf (a .reading) (a .list .now) (a .pool .now) (a .text .now) in
     walks-refused (a .short) o (a .out .now) (text .normalize-text .ensures) (c .enum-told .given .1)
 
 returns-2 : tie.Need-returns-2
 returns-2 c =
     let text = c .before .before .before .before .before in
     let a = entry text .args in
-    let o = walkOf (a .reading) (a .list .now) (a .pool .now) (a .text .now) in
+    let o = formOf (a .reading) (a .list .now) (a .pool .now) (a .text .now) in
     walks-short (a .short) o (a .out .now) (text .normalize-text .ensures) (c .before .before .counted .given .1) (omega (arith, c .if1 .taken))
 
 array-share-prefix-held : tie.Need-array-share-prefix-held
@@ -59,7 +59,7 @@ returns-3 : tie.Need-returns-3
 returns-3 c =
     let text = c .before .before .before .before .before .before .before .before .before .before .before in
     let a = entry text .args in
-    let o = walkOf (a .reading) (a .list .now) (a .pool .now) (a .text .now) in
+    let o = formOf (a .reading) (a .list .now) (a .pool .now) (a .text .now) in
     walks-held (a .short) o (a .out .now) (text .normalize-text .ensures) (c .before .before .before .before .before .before .before .before .counted .given .1)
     (omega (arith, c .before .before .before .before .before .if2 .taken)) (omega (arith, c .before .before .before .before .before .before .if1 .left)) (c .before .before .put-held .ensures)
 
@@ -73,7 +73,7 @@ returns-4 : tie.Need-returns-4
 returns-4 c =
     let text = c .before .before .before .before .before .before .before .before .before .before in
     let a = entry text .args in
-    let o = walkOf (a .reading) (a .list .now) (a .pool .now) (a .text .now) in
+    let o = formOf (a .reading) (a .list .now) (a .pool .now) (a .text .now) in
     walks-written (a .short) o (a .out .now) (text .normalize-text .ensures) (c .before .before .before .before .before .before .before .counted .given .1)
     (omega (arith, c .before .before .before .before .before .if1 .left)) (c .before .before .normalize-text2 .ensures)
 

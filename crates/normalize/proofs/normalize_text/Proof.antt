@@ -23,7 +23,7 @@ normalize-flat-requires c κs =
       asked .0,
       (
         (walks .deep, walks .most, walks .short),
-        (asked .1 .1, start-lent (a .reading) (a .list .now) (a .pool .now) (a .text .now) (asked .1 .0 .0) (walks .short) (a .out .now)),
+        (asked .1 .1 .0, start-lent (a .reading) (a .list .now) (a .pool .now) (a .text .now) (asked .1 .0 .0) (asked .1 .1 .1) (walks .short) (a .out .now)),
       ),
     )
 
@@ -42,8 +42,8 @@ normalize-opened-requires c κs =
     let begin = entry flat in
     let a = begin .args in
     let asked = begin .pre in
-    let came = text-opens (a .reading) (a .list .now) (a .pool .now) (a .text .now) (asked .1 .0 .0) (flat .normalize-flat .ensures) (c .before .before .at .given .1) in
-    (asked .0, (asked .1 .0, on-lent (a .reading) (a .list .now) (a .pool .now) (a .text .now) (asked .1 .0 .0) (flat .normalize-flat .ensures) came (asked .1 .0 .1 .short)))
+    let came = text-opens (a .reading) (a .list .now) (a .pool .now) (a .text .now) (asked .1 .0 .0) (asked .1 .1 .1) (flat .normalize-flat .ensures) (c .before .before .at .given .1) in
+    (asked .0, (asked .1 .0, on-lent (a .reading) (a .list .now) (a .pool .now) (a .text .now) (asked .1 .0 .0) (asked .1 .1 .1) (flat .normalize-flat .ensures) came (asked .1 .0 .1 .short)))
 
 enum-known-at-2 : tie.Need-enum-known-at-2
 enum-known-at-2 c = search needs
@@ -54,8 +54,8 @@ normalize-opened-requires-2 c κs =
     let begin = entry flat in
     let a = begin .args in
     let asked = begin .pre in
-    let came = text-pauses (a .reading) (a .list .now) (a .pool .now) (a .text .now) (asked .1 .0 .0) (flat .normalize-flat .ensures) (c .before .before .at2 .given .1) in
-    (asked .0, (asked .1 .0, on-lent (a .reading) (a .list .now) (a .pool .now) (a .text .now) (asked .1 .0 .0) (flat .normalize-flat .ensures) came (asked .1 .0 .1 .short)))
+    let came = text-pauses (a .reading) (a .list .now) (a .pool .now) (a .text .now) (asked .1 .0 .0) (asked .1 .1 .1) (flat .normalize-flat .ensures) (c .before .before .at2 .given .1) in
+    (asked .0, (asked .1 .0, on-lent (a .reading) (a .list .now) (a .pool .now) (a .text .now) (asked .1 .0 .0) (asked .1 .1 .1) (flat .normalize-flat .ensures) came (asked .1 .0 .1 .short)))
 
 same-length : tie.Need-same-length
 same-length c = search needs
@@ -66,7 +66,7 @@ returns c =
     let begin = entry flat in
     let a = begin .args in
     let asked = begin .pre in
-    text-end (a .reading) (a .list .now) (a .pool .now) (a .text .now) (asked .1 .0 .0) (flat .normalize-flat .ensures) (c .before .len .given .1)
+    text-end (a .reading) (a .list .now) (a .pool .now) (a .text .now) (asked .1 .0 .0) (asked .1 .1 .1) (flat .normalize-flat .ensures) (c .before .len .given .1)
 
 same-length-2 : tie.Need-same-length-2
 same-length-2 c = search needs
@@ -77,7 +77,7 @@ returns-2 c =
     let begin = entry flat in
     let a = begin .args in
     let asked = begin .pre in
-    text-stopped (a .reading) (a .list .now) (a .pool .now) (a .text .now) (asked .1 .0 .0) (flat .normalize-flat .ensures) (c .before .number .given .1)
+    text-stopped (a .reading) (a .list .now) (a .pool .now) (a .text .now) (asked .1 .0 .0) (asked .1 .1 .1) (flat .normalize-flat .ensures) (c .before .number .given .1)
 
 same-length-3 : tie.Need-same-length-3
 same-length-3 c = search needs
@@ -88,8 +88,8 @@ returns-3 c =
     let begin = entry flat in
     let a = begin .args in
     let asked = begin .pre in
-    let came = text-opens (a .reading) (a .list .now) (a .pool .now) (a .text .now) (asked .1 .0 .0) (flat .normalize-flat .ensures) (c .before .before .before .before .before .at .given .1) in
-    on-walks (a .reading) (a .list .now) (a .pool .now) (a .text .now) (asked .1 .0 .0) (flat .normalize-flat .ensures) came (c .before .before .normalize-opened .ensures)
+    let came = text-opens (a .reading) (a .list .now) (a .pool .now) (a .text .now) (asked .1 .0 .0) (asked .1 .1 .1) (flat .normalize-flat .ensures) (c .before .before .before .before .before .at .given .1) in
+    on-walks (a .reading) (a .list .now) (a .pool .now) (a .text .now) (asked .1 .0 .0) (asked .1 .1 .1) (flat .normalize-flat .ensures) came (c .before .before .normalize-opened .ensures)
 
 same-length-4 : tie.Need-same-length-4
 same-length-4 c = search needs
@@ -100,8 +100,8 @@ returns-4 c =
     let begin = entry flat in
     let a = begin .args in
     let asked = begin .pre in
-    let came = text-pauses (a .reading) (a .list .now) (a .pool .now) (a .text .now) (asked .1 .0 .0) (flat .normalize-flat .ensures) (c .before .before .before .before .before .at2 .given .1) in
-    on-walks (a .reading) (a .list .now) (a .pool .now) (a .text .now) (asked .1 .0 .0) (flat .normalize-flat .ensures) came (c .before .before .normalize-opened2 .ensures)
+    let came = text-pauses (a .reading) (a .list .now) (a .pool .now) (a .text .now) (asked .1 .0 .0) (asked .1 .1 .1) (flat .normalize-flat .ensures) (c .before .before .before .before .before .at2 .given .1) in
+    on-walks (a .reading) (a .list .now) (a .pool .now) (a .text .now) (asked .1 .0 .0) (asked .1 .1 .1) (flat .normalize-flat .ensures) came (c .before .before .normalize-opened2 .ensures)
 
 pub normalize-text-spec : {M : Type 1} → statement M
 normalize-text-spec =

@@ -27,7 +27,7 @@ returns c =
     let read = bottom .before .before in
     let zero = read .before in
     let a = zero .before .before .before .before .before .before .args in
-    call-bottom (a .wanted) (a .list .now) (a .pool .now) (a .text .now) (read .reading-for .ensures) (a .short) (a .out .now) (zero .if1 .taken)
+    call-bottom (a .wanted) (a .list .now) (a .pool .now) (a .text .now) (a .form) (read .reading-for .ensures) (a .short) (a .out .now) (zero .if1 .taken)
     (bottom .normalize-bottom .ensures)
 
 first-halt-requires : tie.Need-first-halt-requires
@@ -44,7 +44,7 @@ normalize-into-requires c κs =
     let a = start .args in
     let asked = start .pre in
     let deep = halt .before .before .if1 .left in
-    (asked .0, read-asked (a .wanted) (a .list .now) (a .pool .now) (a .text .now) (read .reading-for2 .ensures) deep (asked .1 .1) (asked .1 .0) (halt .first-halt .ensures))
+    (asked .0, read-asked (a .wanted) (a .list .now) (a .pool .now) (a .text .now) (a .form) (read .reading-for2 .ensures) deep (asked .1 .1 .0) (asked .1 .0) (asked .1 .1 .1) (halt .first-halt .ensures))
 
 same-length-2 : tie.Need-same-length-2
 same-length-2 c = search needs
@@ -54,7 +54,7 @@ returns-2 c =
     let walk = c .before .before in
     let read = walk .before .before in
     let a = entry (read .before .before) .args in
-    call-read (a .wanted) (a .list .now) (a .pool .now) (a .text .now) (read .reading-for2 .ensures) (a .short) (a .out .now) (walk .normalize-into .ensures)
+    call-read (a .wanted) (a .list .now) (a .pool .now) (a .text .now) (a .form) (read .reading-for2 .ensures) (a .short) (a .out .now) (walk .normalize-into .ensures)
 
 outer-guard-requires : tie.Need-outer-guard-requires
 outer-guard-requires c κs = search needs
@@ -68,7 +68,7 @@ returns-3 c =
     let guard = fault .before in
     let halt = halt-of fault in
     let a = entry halt .args in
-    call-barred (a .wanted) (a .list .now) (a .pool .now) (a .text .now) (halt .before .before .if1 .left) (halt .first-halt .ensures) (guard .before .if2 .left)
+    call-barred (a .wanted) (a .list .now) (a .pool .now) (a .text .now) (a .form) (halt .before .before .if1 .left) (halt .first-halt .ensures) (guard .before .if2 .left)
     (guard .outer-guard .ensures) (fault .run-fault .ensures) (a .short) (a .out .now) (c .if3 .taken)
 
 spaced-whole-requires : tie.Need-spaced-whole-requires
@@ -85,7 +85,7 @@ returns-4 c =
     let guard = fault .before in
     let halt = halt-of fault in
     let a = entry halt .args in
-    call-spaced (a .wanted) (a .list .now) (a .pool .now) (a .text .now) (halt .before .before .if1 .left) (halt .first-halt .ensures) (guard .before .if2 .left)
+    call-spaced (a .wanted) (a .list .now) (a .pool .now) (a .text .now) (a .form) (halt .before .before .if1 .left) (halt .first-halt .ensures) (guard .before .if2 .left)
     (guard .outer-guard .ensures) (fault .run-fault .ensures) (a .short) (a .out .now) (test .if3 .left) (copy .spaced-whole .ensures)
 
 pub normalized-spec : {M : Type 1} → statement M
