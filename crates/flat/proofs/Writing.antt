@@ -1,21 +1,20 @@
--- Pieces written after a value: runs (`run-piece`, `run-none`, `run-empty`), what has the canonical form (`form-piece`, `form-none`,
--- `form-writes`), and a character's bytes in a buffer of their own (`held-char`). Assumes nothing.
+-- Pieces written after a value, as they are or in their canonical form (`writes-plain`, `writes-form`), where they fit and where they do not
+-- (`writes-piece`, `writes-none`), and runs (`run-length`, `run-empty`, `form-most`). Assumes nothing.
 use mathlib.Core.Path.{_≡_, refl, sym, ap, subst, _∙_}
 use mathlib.Core.Logic.{_≢_}
 use mathlib.Core.Bool.{Bool}
-use mathlib.Core.List.{List, [], _++_}
+use mathlib.Core.List.{List, []}
 use Prim.Native.Nat.{ℕ, _+_, _-_, _*_, _≤_, _<_}
 use native.Mathlib.Omega.{arith}
 use lib.Dec.{eqb}
 use lib.ListN.{length, take, drop, length-drop}
-use lib.Seq.{length-take-le, take-append-seam}
+use lib.Seq.{length-take-le}
 use borrow.Rule.Slice.PartMut.{midOf, putMid}
 use Rattle.text.specs.Call.{laid}
 use Rattle.output.proofs.Laid.{rest-part}
 use Rattle.eols.specs.Stops.{ruleFor}
 use Rattle.canonical.specs.Canonical.{canonical}
 use Rattle.canonical.proofs.Canonical.{canonical-length}
-use Rattle.charref.specs.CharRef.{encode}
 use Rattle.halts.specs.Halts.{blanksSpaced}
 use Rattle.halts.proofs.Spaces.{spaced-length}
 use Rattle.memory.specs.Slots.{shaped}
@@ -64,8 +63,3 @@ form-most newer run = omega (arith, canonical-length (ruleFor newer) (blanksSpac
 -- so there is room for it in the rest of the buffer
 pub rest-room : (len : ℕ) (old : List ℕ) {n : ℕ} → len + n ≤ length old → n ≤ length (midOf len (length old - len) old)
 rest-room len old {n} h = omega (arith, h, ap length (rest-part len old), length-drop len old)
-
--- ---- a character in a buffer of its own
-
-pub held-char : (c n : ℕ) (rest : List ℕ) → n ≡ length (encode c) → take n (encode c ++ rest) ≡ encode c
-held-char c n rest e = ap (λ (k : ℕ). take k (encode c ++ rest)) e ∙ take-append-seam (encode c) rest

@@ -119,9 +119,11 @@ fn write_char_form(c: u32, len: usize, newer: bool, out: &mut [u8]) -> usize
     requires { ⌜ (c ≤ 1114111) × (len ≤ 0x1000000000000) ⌝ }
     ensures { λ r. ⌜ (r ≡ length (canonical (ruleFor newer) (encode c))) × Adds (canonical (ruleFor newer) (encode c)) len (now (out .entry)) (now (out .exit)) ⌝ }
 {
-    let mut held = [0u8; 4];
-    let n = charref::encode_utf8(c, &mut held);
-    write_value(&held[..n], len, newer, out)
+    let n = canonical::char_length(c, newer);
+    if len + n <= out.len() {
+        canonical::write_char(c, newer, &mut out[len..]);
+    }
+    n
 }
 
 // A character above ASCII.
