@@ -73,7 +73,7 @@ unfolding levelChars
 run-shows false e = absurd (true≢false (sym e))
 run-shows true e = refl
 
-spaced-other : (b : ℕ) → Other b → spaced b ≡ b
+pub spaced-other : (b : ℕ) → Other b → spaced b ≡ b
 spaced-other b o = rw (o .no-tab, o .no-lf)
 
 -- a byte that neither level replaces

@@ -1,6 +1,7 @@
 // The canonical form of a normalized value: level 3, and under XML 1.1 also U+0085 and U+2028 as references. Runs between
 // those two go to the writer of level 3.
 ghost use mathlib.Core.Path.{_≡_};
+ghost use mathlib.Core.Bool.{true, false};
 ghost use mathlib.Core.List.{List, [], _∷_, _++_};
 ghost use Prim.Native.Nat.{ℕ, _+_, _≤_, _<_};
 ghost use lib.ListN.{length, drop};
@@ -15,7 +16,8 @@ ghost use Rattle.escape.specs.Escape.{full, attribute};
 ghost use Rattle.escape.specs.Scan.{levelChars, shown};
 ghost use Rattle.canonical.specs.Canonical.{canonical};
 ghost use Rattle.runs.specs.Specials.{special, Common};
-ghost use Rattle.canonical.specs.Runs.{specialReference};
+ghost use Rattle.output.specs.Runs.{Plain};
+ghost use Rattle.canonical.specs.Runs.{specialReference, changedBy, Unchanged};
 ghost use Rattle.canonical.specs.LastCharacter.{filledUp, inHand, handBytes, FormOf, Single, LastRaw, endsWith, lastNumbered, lastNamed};
 use escape::EscapeChars;
 use text::pattern;
@@ -168,6 +170,111 @@ pub fn write_spaced(run: &[u8], newer: bool, out: &mut [u8]) -> usize
 {
     write_form(run, newer, true, out)
 }
+
+// ---- a run that is its own form
+
+// Is the byte written otherwise, or may it begin what is? No branch: blocks of them run on vectors.
+fn is_changed(b: u8, newer: bool) -> bool
+    ensures { λ r. ⌜ r ≡ changedBy newer b ⌝ }
+{
+    (b == b'<')
+        | (b == b'>')
+        | (b == b'&')
+        | (b == b'\'')
+        | (b == b'"')
+        | (b == b'\r')
+        | (newer & ((b == 0xc2) | (b == 0xe2)))
+}
+
+// Is one of the 16 bytes from i on changed?
+fn any_changed_16(run: &[u8], i: usize, newer: bool) -> bool
+    requires { ⌜ i + 16 ≤ length (now run) ⌝ }
+    ensures { λ r. ⌜ (r ≡ false → Plain (changedBy newer) (now (run .entry)) i (i + 16)) ⌝ }
+{
+    let mut any = false;
+    for k in 0..16usize {
+        any = any | is_changed(run[i + k], newer);
+    }
+    any
+}
+
+fn any_changed_8(run: &[u8], i: usize, newer: bool) -> bool
+    requires { ⌜ i + 8 ≤ length (now run) ⌝ }
+    ensures { λ r. ⌜ (r ≡ false → Plain (changedBy newer) (now (run .entry)) i (i + 8)) ⌝ }
+{
+    let mut any = false;
+    for k in 0..8usize {
+        any = any | is_changed(run[i + k], newer);
+    }
+    any
+}
+
+// Is no byte of the run changed? By blocks of 16, the last of which may overlap with the one before it: one call of the block's
+// test, so that it is compiled into the loop.
+fn is_own_blocks(run: &[u8], newer: bool) -> bool
+    requires { ⌜ 16 ≤ length (now run) ⌝ }
+    ensures { λ r. ⌜ (r ≡ true → Unchanged newer (now (run .entry))) ⌝ }
+{
+    let last = run.len() - 16;
+    let mut i: usize = 0;
+    loop {
+        if any_changed_16(run, output::least(i, last), newer) {
+            return false;
+        }
+        if last <= i {
+            return true;
+        }
+        i += 16;
+    }
+}
+
+// The same by blocks of 8.
+fn is_own_eights(run: &[u8], newer: bool) -> bool
+    requires { ⌜ 8 ≤ length (now run) ⌝ }
+    ensures { λ r. ⌜ (r ≡ true → Unchanged newer (now (run .entry))) ⌝ }
+{
+    let last = run.len() - 8;
+    let mut i: usize = 0;
+    loop {
+        if any_changed_8(run, output::least(i, last), newer) {
+            return false;
+        }
+        if last <= i {
+            return true;
+        }
+        i += 8;
+    }
+}
+
+// And byte by byte.
+fn is_own_few(run: &[u8], newer: bool) -> bool
+    ensures { λ r. ⌜ (r ≡ true → Unchanged newer (now (run .entry))) ⌝ }
+{
+    let mut i: usize = 0;
+    while i < run.len() {
+        if is_changed(run[i], newer) {
+            return false;
+        }
+        i += 1;
+    }
+    true
+}
+
+// Is the run, its TAB and LF as spaces, its own canonical form? Under 1.1 no for any C2 and E2, whatever follows.
+pub fn is_own_form(run: &[u8], newer: bool) -> bool
+    ensures { λ r. ⌜ (r ≡ true → canonical (ruleFor newer) (blanksSpaced (now (run .entry))) ≡ blanksSpaced (now (run .entry))) ⌝ }
+{
+    let n = run.len();
+    if n < 8 {
+        return is_own_few(run, newer);
+    }
+    if n < 16 {
+        return is_own_eights(run, newer);
+    }
+    is_own_blocks(run, newer)
+}
+
+// ---- a character
 
 // The length of the canonical form of a character.
 pub fn char_length(c: u32, newer: bool) -> usize
