@@ -1,6 +1,6 @@
--- Pieces written after a value, as they are or in their canonical form (`writes-plain`, `writes-form`), where they fit and where they do not
--- (`writes-piece`, `writes-none`), and runs (`run-length`, `run-empty`, `form-most`). Assumes nothing.
-use mathlib.Core.Path.{_≡_, refl, sym, ap, subst, _∙_}
+-- Pieces written after a value, as they are or in their canonical form (`writes-plain`, `writes-form`, `writes-own`), where they fit and where
+-- they do not (`writes-piece`, `writes-none`), and runs (`run-empty`, `form-most`). Assumes nothing.
+use mathlib.Core.Path.{_≡_, refl, sym, ap, subst}
 use mathlib.Core.Logic.{_≢_}
 use mathlib.Core.Bool.{Bool}
 use mathlib.Core.List.{List, []}
@@ -8,7 +8,6 @@ use Prim.Native.Nat.{ℕ, _+_, _-_, _*_, _≤_, _<_}
 use native.Mathlib.Omega.{arith}
 use lib.Dec.{eqb}
 use lib.ListN.{length, take, drop, length-drop}
-use lib.Seq.{length-take-le}
 use borrow.Rule.Slice.PartMut.{midOf, putMid}
 use Rattle.text.specs.Call.{laid}
 use Rattle.output.proofs.Laid.{rest-part}
@@ -18,7 +17,6 @@ use Rattle.canonical.proofs.Canonical.{canonical-length}
 use Rattle.halts.specs.Halts.{blanksSpaced}
 use Rattle.halts.proofs.Spaces.{spaced-length}
 use Rattle.memory.specs.Slots.{shaped}
-use Rattle.memory.specs.Levels.{Adds}
 use Rattle.memory.proofs.Shaped.{shaped-none, shaped-plain, shaped-form}
 use Rattle.memory.proofs.Fitted.{adds-piece, adds-none, adds-nothing}
 use Rattle.flat.specs.Between.{Writes}
@@ -31,6 +29,10 @@ writes-plain e {more} {old} {new} {len} {size} w = subst (λ (x : List ℕ). Wri
 pub writes-form : {form : ℕ} → form ≢ 0 → (more : List ℕ) {old new : List ℕ} {len size : ℕ} → Writes (canonical (ruleFor (eqb form 2)) more) len old new size
     → Writes (shaped form more) len old new size
 writes-form n more {old} {new} {len} {size} w = subst (λ (x : List ℕ). Writes x len old new size) (sym (shaped-form n more)) w
+
+-- what is its own form
+pub writes-own : {form more old new : List ℕ} {len size : ℕ} → form ≡ more → Writes more len old new size → Writes form len old new size
+writes-own {old = old} {new} {len} {size} e w = subst (λ (x : List ℕ). Writes x len old new size) (sym e) w
 
 pub writes-nothing : (form len : ℕ) (old : List ℕ) → Writes (shaped form []) len old old 0
 writes-nothing form len old = subst (λ (x : List ℕ). Writes x len old old 0) (sym (shaped-none form)) (refl, adds-nothing len old)
@@ -46,17 +48,10 @@ writes-none more {len} {size} {old} n h = (n, adds-none more len old (omega (ari
 
 -- ---- runs
 
-module _ (t : List ℕ) (from to : ℕ) (h : from ≤ to) (g : to ≤ length t) where
-  abbrev run : List ℕ
-  run = blanksSpaced (take (to - from) (drop from t))
+pub run-empty : (t : List ℕ) (from to : ℕ) → to - from ≡ 0 → blanksSpaced (take (to - from) (drop from t)) ≡ []
+run-empty t from to k = ap (λ (n : ℕ). blanksSpaced (take n (drop from t))) k
 
-  pub run-length : to - from ≡ length run
-  run-length = sym (spaced-length (take (to - from) (drop from t)) ∙ length-take-le (to - from) (drop from t) (rw length-drop (omega (arith, h, g))))
-
-  pub run-empty : to - from ≡ 0 → run ≡ []
-  run-empty k = ap (λ (n : ℕ). blanksSpaced (take n (drop from t))) k
-
--- its form is at most six times as long
+-- the form of a run is at most six times as long
 pub form-most : (newer : Bool) (run : List ℕ) → length (canonical (ruleFor newer) (blanksSpaced run)) ≤ 6 * length run
 form-most newer run = omega (arith, canonical-length (ruleFor newer) (blanksSpaced run) .1, spaced-length run)
 

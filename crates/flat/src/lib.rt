@@ -81,11 +81,29 @@ pub fn write_value(value: &[u8], len: usize, newer: bool, out: &mut [u8]) -> usi
     n
 }
 
-// The canonical form of a run, its blanks as spaces. Where there are six bytes for each there is room: no count is needed.
+// A run, its blanks as spaces.
+fn write_spaced(run: &[u8], len: usize, out: &mut [u8]) -> usize
+    requires { ⌜ (length (now run) ≤ 16777216) × (len ≤ 0x1000000000000) ⌝ }
+    ensures { λ r. ⌜ Writes (blanksSpaced (now (run .entry))) len (now (out .entry)) (now (out .exit)) r ⌝ }
+{
+    let n = run.len();
+    if len + n <= out.len() {
+        halts::put_spaced(run, &mut out[len..]);
+    }
+    n
+}
+
+// Its canonical form. Most short runs are their own: a test and a copy; a long one is tested as it is copied. Where there are six bytes for
+// each there is room: no count is needed.
 pub fn write_form(run: &[u8], len: usize, newer: bool, out: &mut [u8]) -> usize
     requires { ⌜ (length (now run) ≤ 16777216) × (len ≤ 0x1000000000000) ⌝ }
     ensures { λ r. ⌜ (r ≡ length (canonical (ruleFor newer) (blanksSpaced (now (run .entry))))) × Adds (canonical (ruleFor newer) (blanksSpaced (now (run .entry)))) len (now (out .entry)) (now (out .exit)) ⌝ }
 {
+    if run.len() < 128 {
+        if canonical::is_own_form(run, newer) {
+            return write_spaced(run, len, out);
+        }
+    }
     if len + 6 * run.len() <= out.len() {
         return canonical::write_spaced(run, newer, &mut out[len..]);
     }
@@ -96,7 +114,7 @@ pub fn write_form(run: &[u8], len: usize, newer: bool, out: &mut [u8]) -> usize
     n
 }
 
-// A run, its blanks as spaces.
+// A part of a text as a run, in the form that is wanted.
 fn write_run(text: &[u8], from: usize, to: usize, len: usize, form: u8, out: &mut [u8]) -> usize
     requires { ⌜ (from ≤ to) × (to ≤ length (now text)) × (length (now text) ≤ 16777216) × (len ≤ 0x1000000000000) ⌝ }
     ensures { λ r. ⌜ Writes (shaped form (blanksSpaced (take (to - from) (drop from (now (text .entry)))))) len (now (out .entry)) (now (out .exit)) r ⌝ }
@@ -108,10 +126,7 @@ fn write_run(text: &[u8], from: usize, to: usize, len: usize, form: u8, out: &mu
     if form != 0 {
         return write_form(&text[from..to], len, form == 2, out);
     }
-    if len + n <= out.len() {
-        halts::put_spaced(&text[from..to], &mut out[len..]);
-    }
-    n
+    write_spaced(&text[from..to], len, out)
 }
 
 // The canonical form of a character.
