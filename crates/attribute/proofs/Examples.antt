@@ -9,7 +9,7 @@ use Rattle.text.specs.Call.{called}
 use Rattle.entity.specs.Binding.{binding}
 use Rattle.tokens.specs.Outcome.{Outcome, done, refused}
 use Rattle.attribute.specs.Walk.{normalize, reading, readingOf}
-use Rattle.attribute.specs.Form.{formed, formedInHand}
+use Rattle.attribute.specs.Form.{formedWhole, formed}
 
 -- e = `&lt;x`; amp = `X`
 abbrev list : List ℕ
@@ -93,13 +93,13 @@ not-past = (refl, refl, refl)
 -- the value `<`, whose form is `&lt;`: with room, with a short output, with a short scratch, and a refusal of the walk
 Forms : Rule → Type 0
 Forms r =
-    (formed r (done (60 ∷ []) 7) (1 ∷ 2 ∷ []) (1 ∷ 2 ∷ 3 ∷ 4 ∷ 5 ∷ []) ≡ called 0 (4 ∷ 7 ∷ []) ((60 ∷ 2 ∷ []) ∷ (38 ∷ 108 ∷ 116 ∷ 59 ∷ 5 ∷ []) ∷ []))
-    × (formed r (done (60 ∷ []) 7) (1 ∷ 2 ∷ []) (1 ∷ 2 ∷ []) ≡ called 19 (4 ∷ 0 ∷ []) ((60 ∷ 2 ∷ []) ∷ (1 ∷ 2 ∷ []) ∷ []))
-    × (formed r (done (60 ∷ []) 7) [] (1 ∷ 2 ∷ []) ≡ called 18 (1 ∷ 0 ∷ []) ([] ∷ (1 ∷ 2 ∷ []) ∷ []))
-    × (formed r (refused (60 ∷ []) 7 11 1 4) (1 ∷ 2 ∷ []) (1 ∷ 2 ∷ []) ≡ called 11 (1 ∷ 4 ∷ []) ((1 ∷ 2 ∷ []) ∷ (1 ∷ 2 ∷ []) ∷ []))
+    (formedWhole r (done (60 ∷ []) 7) (1 ∷ 2 ∷ []) (1 ∷ 2 ∷ 3 ∷ 4 ∷ 5 ∷ []) ≡ called 0 (4 ∷ 7 ∷ []) ((60 ∷ 2 ∷ []) ∷ (38 ∷ 108 ∷ 116 ∷ 59 ∷ 5 ∷ []) ∷ []))
+    × (formedWhole r (done (60 ∷ []) 7) (1 ∷ 2 ∷ []) (1 ∷ 2 ∷ []) ≡ called 19 (4 ∷ 0 ∷ []) ((60 ∷ 2 ∷ []) ∷ (1 ∷ 2 ∷ []) ∷ []))
+    × (formedWhole r (done (60 ∷ []) 7) [] (1 ∷ 2 ∷ []) ≡ called 18 (1 ∷ 0 ∷ []) ([] ∷ (1 ∷ 2 ∷ []) ∷ []))
+    × (formedWhole r (refused (60 ∷ []) 7 11 1 4) (1 ∷ 2 ∷ []) (1 ∷ 2 ∷ []) ≡ called 11 (1 ∷ 4 ∷ []) ((1 ∷ 2 ∷ []) ∷ (1 ∷ 2 ∷ []) ∷ []))
 
 forms : (r : Rule) → Forms r
-unfolding Forms formed
+unfolding Forms formedWhole
 forms xml10 = (refl, refl, refl, refl)
 forms xml11 = (refl, refl, refl, refl)
 
@@ -107,16 +107,16 @@ forms xml11 = (refl, refl, refl, refl)
 -- an empty value; `&` and then `;`
 Hands : Rule → Type 0
 Hands r =
-    (formedInHand r (done (97 ∷ 60 ∷ []) 7) (1 ∷ 2 ∷ 3 ∷ 4 ∷ 5 ∷ []) (1 ∷ 2 ∷ 3 ∷ 4 ∷ 5 ∷ 6 ∷ [])
+    (formed r (done (97 ∷ 60 ∷ []) 7) (1 ∷ 2 ∷ 3 ∷ 4 ∷ 5 ∷ []) (1 ∷ 2 ∷ 3 ∷ 4 ∷ 5 ∷ 6 ∷ [])
     ≡ called 0 (5 ∷ 7 ∷ []) ((60 ∷ 0 ∷ 0 ∷ 0 ∷ 5 ∷ []) ∷ (97 ∷ 38 ∷ 108 ∷ 116 ∷ 59 ∷ 6 ∷ []) ∷ []))
-    × (formedInHand r (done (97 ∷ 60 ∷ []) 7) (1 ∷ 2 ∷ 3 ∷ 4 ∷ []) (1 ∷ []) ≡ called 19 (5 ∷ 0 ∷ []) ((1 ∷ 2 ∷ 3 ∷ 4 ∷ []) ∷ (1 ∷ []) ∷ []))
-    × (formedInHand r (done [] 0) (1 ∷ 2 ∷ 3 ∷ []) (1 ∷ []) ≡ called 18 (4 ∷ 0 ∷ []) ((1 ∷ 2 ∷ 3 ∷ []) ∷ (1 ∷ []) ∷ []))
-    × (formedInHand r (refused [] 7 11 1 4) (1 ∷ 2 ∷ 3 ∷ []) (1 ∷ []) ≡ called 11 (1 ∷ 4 ∷ []) ((1 ∷ 2 ∷ 3 ∷ []) ∷ (1 ∷ []) ∷ []))
-    × (formedInHand r (done [] 2) (1 ∷ 2 ∷ 3 ∷ 4 ∷ []) (1 ∷ []) ≡ called 0 (0 ∷ 2 ∷ []) ((1 ∷ 2 ∷ 3 ∷ 4 ∷ []) ∷ (1 ∷ []) ∷ []))
-    × (formedInHand r (done (38 ∷ 59 ∷ []) 0) (1 ∷ 2 ∷ 3 ∷ 4 ∷ []) (1 ∷ 2 ∷ 3 ∷ 4 ∷ 5 ∷ 6 ∷ [])
+    × (formed r (done (97 ∷ 60 ∷ []) 7) (1 ∷ 2 ∷ 3 ∷ 4 ∷ []) (1 ∷ []) ≡ called 19 (5 ∷ 0 ∷ []) ((1 ∷ 2 ∷ 3 ∷ 4 ∷ []) ∷ (1 ∷ []) ∷ []))
+    × (formed r (done [] 0) (1 ∷ 2 ∷ 3 ∷ []) (1 ∷ []) ≡ called 18 (4 ∷ 0 ∷ []) ((1 ∷ 2 ∷ 3 ∷ []) ∷ (1 ∷ []) ∷ []))
+    × (formed r (refused [] 7 11 1 4) (1 ∷ 2 ∷ 3 ∷ []) (1 ∷ []) ≡ called 11 (1 ∷ 4 ∷ []) ((1 ∷ 2 ∷ 3 ∷ []) ∷ (1 ∷ []) ∷ []))
+    × (formed r (done [] 2) (1 ∷ 2 ∷ 3 ∷ 4 ∷ []) (1 ∷ []) ≡ called 0 (0 ∷ 2 ∷ []) ((1 ∷ 2 ∷ 3 ∷ 4 ∷ []) ∷ (1 ∷ []) ∷ []))
+    × (formed r (done (38 ∷ 59 ∷ []) 0) (1 ∷ 2 ∷ 3 ∷ 4 ∷ []) (1 ∷ 2 ∷ 3 ∷ 4 ∷ 5 ∷ 6 ∷ [])
     ≡ called 0 (6 ∷ 0 ∷ []) ((59 ∷ 0 ∷ 0 ∷ 0 ∷ []) ∷ (38 ∷ 97 ∷ 109 ∷ 112 ∷ 59 ∷ 59 ∷ []) ∷ []))
 
 hands : (r : Rule) → Hands r
-unfolding Hands formedInHand
+unfolding Hands formed
 hands xml10 = (refl, refl, refl, refl, refl, refl)
 hands xml11 = (refl, refl, refl, refl, refl, refl)

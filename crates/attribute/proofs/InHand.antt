@@ -2,7 +2,7 @@
 -- that holds the whole value. Assumes nothing.
 use mathlib.Core.Path.{_≡_, refl, sym, ap, ap₂, _∙_}
 use mathlib.Core.Bool.{Bool, true, false}
-use mathlib.Core.List.{List, [], _∷_}
+use mathlib.Core.List.{List, [], _∷_, _++_}
 use Prim.Native.Nat.{ℕ, _≤_, _<_}
 use native.Mathlib.Omega.{arith}
 use lib.Dec.{ltb}
@@ -11,10 +11,11 @@ use borrow.Author.Tests.{lt-ltb, le-ltb}
 use Rattle.text.specs.Bytes.{pick}
 use Rattle.text.specs.Version.{Rule}
 use Rattle.text.specs.Call.{Called, called, laid, finish}
+use Rattle.output.proofs.Laid.{laid-length, laid-rest}
 use Rattle.canonical.specs.Canonical.{canonical}
 use Rattle.canonical.specs.LastCharacter.{lastCharacter, filledUp, inHand}
 use Rattle.tokens.specs.Outcome.{Outcome, done, refused}
-use Rattle.attribute.specs.Form.{besides, formed, handed, formedInHand}
+use Rattle.attribute.specs.Form.{besides, formedWhole, handed, formed}
 
 -- ---- the scratch
 
@@ -30,25 +31,35 @@ hand-length value = four (lastCharacter value)
     four (a ∷ b ∷ c ∷ []) = refl
     four (a ∷ b ∷ c ∷ d ∷ l) = refl
 
+-- the scratch keeps its length
+pub handed-length : (value scratch : List ℕ) → 4 ≤ length scratch → length (handed value scratch) ≡ length scratch
+handed-length [] scratch h = refl
+handed-length (b ∷ bs) scratch h = laid-length (inHand (b ∷ bs)) scratch (omega (arith, hand-length (b ∷ bs), h))
+
+-- the same value again leaves it
+pub handed-again : (value scratch : List ℕ) → handed value (handed value scratch) ≡ handed value scratch
+handed-again [] scratch = refl
+handed-again (b ∷ bs) scratch = ap (λ (l : List ℕ). inHand (b ∷ bs) ++ l) (laid-rest (inHand (b ∷ bs)) scratch)
+
 -- ---- the answers
 
 module _ (r : Rule) (value : List ℕ) (openings : ℕ) (scratch out : List ℕ) where
   -- K7: 18 names 4 as the length needed, for an empty value too, and comes before 19
-  pub in-hand-short : length scratch < 4 → formedInHand r (done value openings) scratch out ≡ called 18 (4 ∷ 0 ∷ []) (scratch ∷ out ∷ [])
-  unfolding formedInHand
+  pub in-hand-short : length scratch < 4 → formed r (done value openings) scratch out ≡ called 18 (4 ∷ 0 ∷ []) (scratch ∷ out ∷ [])
+  unfolding formed
   in-hand-short h = rw (lt-ltb (length scratch) 4 h)
 
   module _ (enough : 4 ≤ length scratch) where
     -- K7: 19 leaves the scratch
     pub in-hand-no-room : length out < length (canonical r value)
-        → formedInHand r (done value openings) scratch out ≡ called 19 (length (canonical r value) ∷ 0 ∷ []) (scratch ∷ out ∷ [])
-    unfolding formedInHand finish
+        → formed r (done value openings) scratch out ≡ called 19 (length (canonical r value) ∷ 0 ∷ []) (scratch ∷ out ∷ [])
+    unfolding formed finish
     in-hand-no-room h = rw (le-ltb (length scratch) 4 enough, lt-ltb (length out) (length (canonical r value)) h)
 
     pub in-hand-done : length (canonical r value) ≤ length out
-        → formedInHand r (done value openings) scratch out
+        → formed r (done value openings) scratch out
         ≡ called 0 (length (canonical r value) ∷ openings ∷ []) (handed value scratch ∷ laid (canonical r value) out ∷ [])
-    unfolding formedInHand finish
+    unfolding formed finish
     in-hand-done h = rw (le-ltb (length scratch) 4 enough, le-ltb (length out) (length (canonical r value)) h)
 
 -- ---- the same form, openings and refusals
@@ -68,8 +79,8 @@ without-besides scratch (called number words buffers) = refl
 
 -- K7: the same form, openings and refusals as from a scratch that holds the whole value, each with room enough
 pub same-form : (r : Rule) (o : Outcome) (whole small out : List ℕ) → HoldsWhole o whole → 4 ≤ length small
-    → withoutScratch (formedInHand r o small out) ≡ withoutScratch (formed r o whole out)
-unfolding formedInHand formed
+    → withoutScratch (formed r o small out) ≡ withoutScratch (formedWhole r o whole out)
+unfolding formed formedWhole
 same-form r (done value openings) whole small out h k =
     rw (le-ltb (length small) 4 k, le-ltb (length whole) (length value) h)
     (without-besides (pick (ltb (length out) (length (canonical r value))) small (handed value small)) (finish (canonical r value) openings out)

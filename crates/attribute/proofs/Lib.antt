@@ -16,7 +16,6 @@ pub mod StrictValues
 pub mod StrictForms
 pub mod Outer
 pub mod Checked
-pub mod Formed
 pub mod Shifted
 mod Examples
 mod StrictExamples

@@ -14,13 +14,14 @@ use Rattle.tokens.specs.Outcome.{Outcome, done, refused}
 abbrev pub besides : List ℕ → Called → Called
 besides scratch (called number words buffers) = called number words (scratch ∷ buffers)
 
--- 18 where the scratch is shorter than the value; else it holds the value, its rest kept, and the form goes to the output, after 19 too
-unfoldable pub formed : Rule → Outcome → List ℕ → List ℕ → Called
+-- document 01: 18 where the scratch is shorter than the value; else it holds the value, its rest kept, and the form goes to the output, after
+-- 19 too. No call is asked for this; K7's form, openings and refusals are the same (proofs/InHand.antt)
+unfoldable pub formedWhole : Rule → Outcome → List ℕ → List ℕ → Called
 unfolding finish canonical
-formed r (done value openings) scratch out =
+formedWhole r (done value openings) scratch out =
     pick (ltb (length scratch) (length value)) (called 18 (length value ∷ 0 ∷ []) (scratch ∷ out ∷ []))
     (besides (laid value scratch) (finish (canonical r value) openings out))
-formed r (refused before openings number first second) scratch out = called number (first ∷ second ∷ []) (scratch ∷ out ∷ [])
+formedWhole r (refused before openings number first second) scratch out = called number (first ∷ second ∷ []) (scratch ∷ out ∷ [])
 
 -- K7: after success the first 4 bytes of the scratch are the last character of the value, its rest is kept; an empty value leaves all of it
 abbrev pub handed : List ℕ → List ℕ → List ℕ
@@ -28,9 +29,9 @@ handed [] scratch = scratch
 handed (b ∷ bs) scratch = laid (inHand (b ∷ bs)) scratch
 
 -- K7: 18 where the scratch is shorter than 4 bytes; then 19, which leaves it
-unfoldable pub formedInHand : Rule → Outcome → List ℕ → List ℕ → Called
+unfoldable pub formed : Rule → Outcome → List ℕ → List ℕ → Called
 unfolding finish canonical inHand
-formedInHand r (done value openings) scratch out =
+formed r (done value openings) scratch out =
     pick (ltb (length scratch) 4) (called 18 (4 ∷ 0 ∷ []) (scratch ∷ out ∷ []))
     (besides (pick (ltb (length out) (length (canonical r value))) scratch (handed value scratch)) (finish (canonical r value) openings out))
-formedInHand r (refused before openings number first second) scratch out = called number (first ∷ second ∷ []) (scratch ∷ out ∷ [])
+formed r (refused before openings number first second) scratch out = called number (first ∷ second ∷ []) (scratch ∷ out ∷ [])

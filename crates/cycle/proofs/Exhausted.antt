@@ -1,5 +1,5 @@
--- A text at depth 0: refused by 16 where there is any stop (`bottom-refused`, `ended-exhausted`), else its own value
--- (`bottom-written`, `ended-plain`). Assumes nothing.
+-- A text at depth 0: refused by 16 where there is any stop (`exhausted-any`, `bottom-refused`), else its own value
+-- (`exhausted-none`, `bottom-written`). Assumes nothing.
 use mathlib.Core.Path.{_≡_, refl, sym, ap, subst, _∙_}
 use mathlib.Core.Bool.{Bool, true, false, _||_, true≢false}
 use mathlib.Core.List.{List, [], _∷_}
@@ -10,13 +10,11 @@ use native.Mathlib.Nat.{zero-add}
 use lib.Dec.{eqb}
 use lib.ListN.{length, take, drop}
 use Rattle.text.specs.Call.{laid}
-use Rattle.text.specs.declared.Answer.{Answer}
-use Rattle.text.specs.declared.Answer.the-variants.{Refused}
 use Rattle.text.proofs.Bytes.{or-left, or-right}
 use Rattle.halts.specs.Halts.{anyStop, stopByte}
 use Rattle.tokens.specs.Tokens.{Token, copy, stop, barred, Head, head, Heads, tokenOf, skipOf, tokens}
-use Rattle.tokens.specs.Outcome.{Outcome, done, refused, prepend, run, answerIn, leftIn}
-use Rattle.tokens.specs.Walking.{Ended, stepOf}
+use Rattle.tokens.specs.Outcome.{Outcome, done, refused, prepend, run}
+use Rattle.tokens.specs.Walking.{stepOf}
 use Rattle.tokens.specs.declared.Step.{Step}
 use Rattle.tokens.specs.declared.Step.the-variants.{Next, Stopped}
 use Rattle.attribute.specs.Steps.{headsBy, faultBy, readBy}
@@ -35,9 +33,9 @@ use Rattle.flat.specs.Between.{Writes}
 use Rattle.cycle.specs.Cycle.{Bottom, BottomFault}
 
 -- refused by 16 after some bytes
-record Exhausts (o : Outcome) (openings : ℕ) : Type 0 where
-  before : List ℕ
-  is : o ≡ refused before openings 16 0 0
+pub record Exhausts (o : Outcome) (openings : ℕ) : Type 0 where
+  pub before : List ℕ
+  pub is : o ≡ refused before openings 16 0 0
 
 -- one token at depth 0, and then the rest
 first-stop : (x : Token) (ts : List Token) (n : ℕ) → IsStop x → Exhausts (run exhausted (x ∷ ts) n) n
@@ -174,22 +172,23 @@ module _ (how : ℕ) where
             other = λ q. absurd (d q);
           }
 
+  module _ (s : Settings) (t : List ℕ) (n : ℕ) where
+    pub exhausted-any : anyStop stops t ≡ true → Exhausts (walk s heads 0 t n) n
+    unfolding walk
+    exhausted-any e = walked-any 0 t n e
+
+    pub exhausted-none : anyStop stops t ≡ false → walk s heads 0 t n ≡ done t n
+    unfolding walk
+    exhausted-none e = walked-none 0 t n e
+
+  -- the step
   module _ (form : ℕ) (s : Settings) (t : List ℕ) (n : ℕ) where
     abbrev exhausts : Outcome
     exhausts = walk s heads 0 t n
 
-    exhausted-any : anyStop stops t ≡ true → Exhausts exhausts n
-    unfolding walk
-    exhausted-any e = walked-any 0 t n e
-
-    exhausted-none : anyStop stops t ≡ false → exhausts ≡ done t n
-    unfolding walk
-    exhausted-none e = walked-none 0 t n e
-
-    -- the step
     pub bottom-refused : (next : ℕ) (old : List ℕ) → anyStop stops t ≡ true → Bottom form exhausts next old old (Stopped 16 0 0)
     bottom-refused next old e =
-        let x = exhausted-any e in
+        let x = exhausted-any s t n e in
         record {
           answers = sym (ap (λ (y : Outcome). stepOf next (shapedIn form y)) (x .is));
           buffer = refl;
@@ -202,7 +201,7 @@ module _ (how : ℕ) where
     pub bottom-written : (next : ℕ) {old new : List ℕ} {size : ℕ} → anyStop stops t ≡ false → (size ≡ length (shaped form t)) × Fitted (shaped form t) old new
         → Bottom form exhausts next old new (Next next size n)
     bottom-written next {old} {new} {size} e w =
-        let x = exhausted-none e in
+        let x = exhausted-none s t n e in
         let f = w .1 in
         record {
           answers = ap (λ (k : ℕ). Next next k n) (w .0) ∙ sym (ap (λ (y : Outcome). stepOf next (shapedIn form y)) x);
@@ -212,16 +211,6 @@ module _ (how : ℕ) where
               let k : t ≡ value = cc in
               subst (λ (l : List ℕ). Fitted (shaped form l) old new) k f;
         }
-
-    -- the text of a call
-    pub ended-exhausted : (short : ℕ) (out : List ℕ) → anyStop stops t ≡ true → Ended short (shapedIn form exhausts) out out (Refused 16 0 0)
-    ended-exhausted short out e =
-        let x = exhausted-any e in
-        subst (λ (o : Outcome). Ended short (shapedIn form o) out out (Refused 16 0 0)) (sym (x .is)) (unfold answerIn leftIn in (refl, refl))
-
-    pub ended-plain : (short : ℕ) (out : List ℕ) {last : List ℕ} {r : Answer} → anyStop stops t ≡ false → Ended short (done (shaped form t) n) out last r
-        → Ended short (shapedIn form exhausts) out last r
-    ended-plain short out {last} {r} e k = subst (λ (o : Outcome). Ended short (shapedIn form o) out last r) (sym (exhausted-none e)) k
 
 -- ---- a text as it is, or its canonical form, at the start of a buffer
 

@@ -13,13 +13,14 @@ use Rattle.text.specs.Bytes.{pick}
 use Rattle.text.specs.Call.{Called, called, guarded, passed, laid, finish, lengthCheck, argumentCheck}
 use Rattle.text.specs.declared.Answer.{Answer}
 use Rattle.text.specs.declared.Answer.the-variants.{Done, Refused}
-use Rattle.output.proofs.Laid.{laid-length, laid-rest}
+use Rattle.output.proofs.Laid.{laid-length}
 use Rattle.escape.specs.Escape.{levelCheck, levelOf, levelSet, write}
 use Rattle.escape.proofs.Levels.{level-ascii}
 use Rattle.entity.specs.Table.{declarations}
 use Rattle.entity.proofs.Tables.{empty-valid}
 use Rattle.tokens.specs.Outcome.{Outcome, done, refused}
-use Rattle.attribute.specs.Form.{besides, formed}
+use Rattle.attribute.specs.Form.{besides, handed, formed}
+use Rattle.attribute.proofs.InHand.{handed-length, handed-again}
 use Rattle.govlezna.specs.Calls.{escapeCall, unescapeCall, walkCheck, walked, canonicalFormCall}
 use Rattle.demands.specs.Demands.{Asked, ruleFor, Accepted, formOf, DefinesNone, AskedAgain}
 use Rattle.demands.specs.CallDemands.{canonicalOf}
@@ -97,10 +98,10 @@ asked text version depth limit list pool = record { version = version; text = te
 abbrev again : ℕ → List ℕ → Asked
 again version form = asked form version 1 0 (0 ∷ []) []
 
--- 1 where it is too long, else itself; a scratch that holds the value keeps all its bytes
-canonical-form-again : (a : Asked) (value : List ℕ) (openings : ℕ) → Accepted a value openings → (scratch out : List ℕ) → length value ≤ length scratch
-    → canonicalOf (again (a .version) (formOf a value)) (laid value scratch) out
-    ≡ besides (laid value scratch) (readAs (formOf a value) (formOf a value) out)
+-- 1 where it is too long, else itself; a scratch that holds the last character of the value keeps all its bytes
+canonical-form-again : (a : Asked) (value : List ℕ) (openings : ℕ) → Accepted a value openings → (scratch out : List ℕ) → 4 ≤ length scratch
+    → canonicalOf (again (a .version) (formOf a value)) (handed value scratch) out
+    ≡ besides (handed value scratch) (readAs (formOf a value) (formOf a value) out)
 unfolding canonicalFormCall lengthCheck formed
 canonical-form-again a value openings p scratch out room = go (ltb 16777216 (length form)) refl
   where
@@ -108,7 +109,11 @@ canonical-form-again a value openings p scratch out room = go (ltb 16777216 (len
     form = formOf a value
 
     held : List ℕ
-    held = laid value scratch
+    held = handed value scratch
+
+    kept : (short : Bool) → pick short held (handed value held) ≡ held
+    kept true = refl
+    kept false = handed-again value scratch
 
     go : (t : Bool) → ltb 16777216 (length form) ≡ t
         → canonicalOf (again (a .version) form) held out ≡ besides held (guarded (pick t (Refused 1 (length form) 0) passed) (out ∷ []) (finish form 0 out))
@@ -127,9 +132,8 @@ canonical-form-again a value openings p scratch out room = go (ltb 16777216 (len
           free = empty-defines;
         } in
         let r = demand-3-again a value openings p (again (a .version) form) ready in
-        let same : laid value held ≡ held = ap (λ (l : List ℕ). value ++ l) (laid-rest value scratch) in
         canonical-accepted (again (a .version) form) value 0 (r .accepted) held out
-        ∙ rw (le-ltb (length held) (length value) (rw (laid-length value scratch room) room), same)
+        ∙ rw (le-ltb (length held) 4 (rw (handed-length value scratch room) room), kept (ltb (length out) (length form)))
 
 -- what a call leaves, with one buffer more behind its first
 abbrev secondOf : List ℕ → List (List ℕ) → List (List ℕ)
@@ -144,12 +148,12 @@ second-besides left first (called number words buffers) = refl
 
 -- both runs of an accepted value, where there is room for the first
 twice-accepted : (a : Asked) (value : List ℕ) (openings : ℕ) → Accepted a value openings → (scratch out last : List ℕ)
-    → length value ≤ length scratch → length (formOf a value) ≤ length out
+    → 4 ≤ length scratch → length (formOf a value) ≤ length out
     → canonicalTwice (a .text) (a .version) (a .depth) (a .limit) (a .list) (a .pool) scratch out last
-    ≡ besides (laid value scratch) (besides (laid (formOf a value) out) (readAs (formOf a value) (formOf a value) last))
+    ≡ besides (handed value scratch) (besides (laid (formOf a value) out) (readAs (formOf a value) (formOf a value) last))
 unfolding canonicalTwice formedTwice
 twice-accepted a value openings p scratch out last room space =
-    rw (taken-passes a (p .taken), p .reads, le-ltb (length scratch) (length value) room, le-ltb (length out) (length (formOf a value)) space)
+    rw (taken-passes a (p .taken), p .reads, le-ltb (length scratch) 4 room, le-ltb (length out) (length (formOf a value)) space)
 
 module _ (a : Asked) (scratch out last : List ℕ) {number : ℕ} {words held left : List ℕ} (e : called number words (held ∷ left ∷ []) ≡ canonicalOf a scratch out) where
   abbrev twice : Called
@@ -161,12 +165,12 @@ module _ (a : Asked) (scratch out last : List ℕ) {number : ℕ} {words held le
     where
       filled : (value : List ℕ) (openings : ℕ) (t u : Bool)
           → called number words (held ∷ left ∷ [])
-          ≡ pick t (called 18 (length value ∷ 0 ∷ []) (scratch ∷ out ∷ []))
-          (besides (laid value scratch) (pick u (called 19 (length (formOf a value) ∷ 0 ∷ []) (out ∷ []))
+          ≡ pick t (called 18 (4 ∷ 0 ∷ []) (scratch ∷ out ∷ []))
+          (besides (pick u scratch (handed value scratch)) (pick u (called 19 (length (formOf a value) ∷ 0 ∷ []) (out ∷ []))
           (called 0 (length (formOf a value) ∷ openings ∷ []) (laid (formOf a value) out ∷ []))))
           → called number words (held ∷ left ∷ last ∷ [])
-          ≡ pick t (called 18 (length value ∷ 0 ∷ []) (scratch ∷ out ∷ last ∷ []))
-          (besides (laid value scratch) (pick u (called 19 (length (formOf a value) ∷ 0 ∷ []) (out ∷ last ∷ []))
+          ≡ pick t (called 18 (4 ∷ 0 ∷ []) (scratch ∷ out ∷ last ∷ []))
+          (besides (pick u scratch (handed value scratch)) (pick u (called 19 (length (formOf a value) ∷ 0 ∷ []) (out ∷ last ∷ []))
           (besides (laid (formOf a value) out) (readAs (formOf a value) (formOf a value) last))))
       filled value openings true u q = ap (before last) q
       filled value openings false true q = ap (before last) q
@@ -174,7 +178,7 @@ module _ (a : Asked) (scratch out last : List ℕ) {number : ℕ} {words held le
 
       go : (c : Answer) (o : Outcome) → called number words (held ∷ left ∷ []) ≡ guarded c (scratch ∷ out ∷ []) (formed (ruleFor a) o scratch out)
           → called number words (held ∷ left ∷ last ∷ []) ≡ guarded c (scratch ∷ out ∷ last ∷ []) (formedTwice (ruleFor a) o scratch out last)
-      go (Done first second) (done value openings) q = filled value openings (ltb (length scratch) (length value)) (ltb (length out) (length (formOf a value))) q
+      go (Done first second) (done value openings) q = filled value openings (ltb (length scratch) 4) (ltb (length out) (length (formOf a value))) q
       go (Done first second) (refused before′ openings why first′ second′) q = ap (before last) q
       go (Refused why first second) o q = ap (before last) q
 
@@ -191,7 +195,7 @@ module _ (a : Asked) (scratch out last : List ℕ) {number : ℕ} {words held le
     form-left : left ≡ laid own out
     form-left = let b = formed-so .buffers-are in cc
 
-    form-held : held ≡ laid (formed-so .value) scratch
+    form-held : held ≡ handed (formed-so .value) scratch
     form-held = let b = formed-so .buffers-are in cc
 
     pub canonical-fits : getD words 0 0 ≤ length left
@@ -204,8 +208,8 @@ module _ (a : Asked) (scratch out last : List ℕ) {number : ℕ} {words held le
         let read = canonical-form-again a (formed-so .value) (formed-so .openings) (formed-so .accepted) scratch last (formed-so .room) in
         let u = q ∙ ap₂ (λ (t h : List ℕ). canonicalOf (again (a .version) t) h last) (first-bytes own out form-size form-left) form-held ∙ read in
         ap (second left) u
-        ∙ second-besides left (laid (formed-so .value) scratch) (readAs own own last)
-        ∙ ap (λ (l : List ℕ). besides (laid (formed-so .value) scratch) (besides l (readAs own own last))) form-left
+        ∙ second-besides left (handed (formed-so .value) scratch) (readAs own own last)
+        ∙ ap (λ (l : List ℕ). besides (handed (formed-so .value) scratch) (besides l (readAs own own last))) form-left
         ∙ sym (twice-accepted a (formed-so .value) (formed-so .openings) (formed-so .accepted) scratch out last (formed-so .room) (formed-so .space))
 
 -- a part of as many bytes as it is asked for

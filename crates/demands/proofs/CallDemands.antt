@@ -26,7 +26,8 @@ use Rattle.entity.proofs.Tables.{checked-table, empty-valid}
 use Rattle.tokens.specs.Outcome.{Outcome, done, refused, finished}
 use Rattle.canonical.specs.Canonical.{canonical}
 use Rattle.attribute.specs.Checks.{settingsCheck}
-use Rattle.attribute.specs.Form.{besides, formed}
+use Rattle.attribute.specs.Form.{besides, handed, formed}
+use Rattle.attribute.proofs.InHand.{in-hand-done}
 use Rattle.attribute.proofs.Checked.{checked-settings}
 use Rattle.govlezna.specs.Calls.{escapeCall, checkTableCall, unescapeCall, walkCheck, walked, normalizeAttributeValueCall, canonicalFormCall}
 use Rattle.demands.specs.Demands.{Asked, ruleFor, Taken, Accepted, formOf, AskedAgain}
@@ -310,12 +311,10 @@ normalize-roomy a value openings p out room = normalize-accepted a value opening
 
 -- With room enough, the canonical form of an accepted value answers 0, the form's length and the openings.
 pub canonical-roomy : (a : Asked) (value : List ℕ) (openings : ℕ) → Accepted a value openings → (scratch out : List ℕ)
-    → length value ≤ length scratch → length (formOf a value) ≤ length out
-    → canonicalOf a scratch out ≡ called 0 (length (formOf a value) ∷ openings ∷ []) (laid value scratch ∷ laid (formOf a value) out ∷ [])
-unfolding formed
+    → 4 ≤ length scratch → length (formOf a value) ≤ length out
+    → canonicalOf a scratch out ≡ called 0 (length (formOf a value) ∷ openings ∷ []) (handed value scratch ∷ laid (formOf a value) out ∷ [])
 canonical-roomy a value openings p scratch out room space =
-    canonical-accepted a value openings p scratch out
-    ∙ rw (le-ltb (length scratch) (length value) room, sym (finish-laid (formOf a value) openings out refl space refl))
+    canonical-accepted a value openings p scratch out ∙ in-hand-done (ruleFor a) value openings scratch out room space
 
 -- ---- and a call that answered 0 accepted
 
@@ -348,48 +347,42 @@ pub record Formed (a : Asked) (scratch out words : List ℕ) (buffers : List (Li
   pub value : List ℕ
   pub openings : ℕ
   pub accepted : Accepted a value openings
-  pub room : length value ≤ length scratch
+  pub room : 4 ≤ length scratch
   pub space : length (formOf a value) ≤ length out
   pub words-are : words ≡ length (formOf a value) ∷ openings ∷ []
-  pub buffers-are : buffers ≡ laid value scratch ∷ laid (formOf a value) out ∷ []
+  pub buffers-are : buffers ≡ handed value scratch ∷ laid (formOf a value) out ∷ []
 
--- the canonical form beside a scratch that holds the value
-record Beside (first words : List ℕ) (buffers : List (List ℕ)) (c : Called) : Type 0 where
-  rest : List (List ℕ)
-  own : c ≡ called 0 words rest
-  whole : buffers ≡ first ∷ rest
-
-besides-zero : (first : List ℕ) (c : Called) {words : List ℕ} {buffers : List (List ℕ)} → besides first c ≡ called 0 words buffers → Beside first words buffers c
-besides-zero first (called number words rest) e = record { rest = rest; own = cc; whole = cc }
-
--- Demand 1: where the canonical form answers 0, what it was asked passed all of 1 to 9, the scratch holds the value that the walk made
--- and the output its form.
+-- Demand 1: where the canonical form answers 0, what it was asked passed all of 1 to 9, the scratch holds the last character of the value that
+-- the walk made, and the output its form.
 pub canonical-answered : (a : Asked) (scratch out : List ℕ) {words : List ℕ} {buffers : List (List ℕ)} → canonicalOf a scratch out ≡ called 0 words buffers
     → Formed a scratch out words buffers
-unfolding canonicalFormCall formed
+unfolding canonicalFormCall formed finish
 canonical-answered a scratch out {words} {buffers} e =
     let p = guarded-zero (checkOf a) (scratch ∷ out ∷ []) (formed (ruleFor a) (walkedOf a) scratch out) (check-by a) e in
     go (walkedOf a) refl (taken-by a (p .checks)) (p .answers) (fails-reading Not0 walk-numbers (ruleFor a) (a .list) (a .pool) (a .limit) (a .depth) (a .text))
   where
-    written : (value : List ℕ) (made : ℕ) → walkedOf a ≡ done value made → Taken a → (b : Bool) → ltb (length scratch) (length value) ≡ b
-        → pick b (called 18 (length value ∷ 0 ∷ []) (scratch ∷ out ∷ [])) (besides (laid value scratch) (finish (formOf a value) made out)) ≡ called 0 words buffers
+    written : (value : List ℕ) (made : ℕ) → walkedOf a ≡ done value made → Taken a → (b : Bool) → ltb (length scratch) 4 ≡ b
+        → (short : Bool) → ltb (length out) (length (formOf a value)) ≡ short
+        → pick b (called 18 (4 ∷ 0 ∷ []) (scratch ∷ out ∷ []))
+        (besides (pick short scratch (handed value scratch))
+        (pick short (called 19 (length (formOf a value) ∷ 0 ∷ []) (out ∷ [])) (called 0 (length (formOf a value) ∷ made ∷ []) (laid (formOf a value) out ∷ []))))
+        ≡ called 0 words buffers
         → Formed a scratch out words buffers
-    written value made q t true h k = absurd (not0 18 (omega arith) cc)
-    written value made q t false h k =
-        let b = besides-zero (laid value scratch) (finish (formOf a value) made out) k in
-        let l = finish-zero (formOf a value) made out (b .own) in
+    written value made q t true h short g k = absurd (not0 18 (omega arith) cc)
+    written value made q t false h true g k = absurd (not0 19 (omega arith) cc)
+    written value made q t false h false g k =
         record {
           value = value;
           openings = made;
           accepted = record { taken = t; reads = q };
-          room = ltb-false (length scratch) (length value) h;
-          space = l .room;
-          words-are = l .words-are;
-          buffers-are = b .whole ∙ ap (λ (rest : List (List ℕ)). laid value scratch ∷ rest) (l .left-is);
+          room = ltb-false (length scratch) 4 h;
+          space = ltb-false (length out) (length (formOf a value)) g;
+          words-are = cc;
+          buffers-are = cc;
         }
 
     go : (o : Outcome) → walkedOf a ≡ o → Taken a → formed (ruleFor a) o scratch out ≡ called 0 words buffers → Fails Not0 o → Formed a scratch out words buffers
-    go (done value made) q t k f = written value made q t (ltb (length scratch) (length value)) refl k
+    go (done value made) q t k f = written value made q t (ltb (length scratch) 4) refl (ltb (length out) (length (formOf a value))) refl k
     go (refused before made why first second) q t k f = absurd (f cc)
 
 -- ---- demand 3
@@ -400,7 +393,7 @@ pub record Read (a : Asked) (x : Answered a) : Type 0 where
   pub size : x .formSize ≡ length (formOf a (valueOf a x))
   pub form : writtenOf a x ≡ formOf a (valueOf a x)
   pub same : x .formOpenings ≡ x .openings
-  pub scratch : x .held ≡ laid (valueOf a x) (x .scratch)
+  pub scratch : x .held ≡ handed (valueOf a x) (x .scratch)
 
 -- What the calls of an `Answered` left are the definitions' value and form, with the same openings.
 pub answered-reads : (a : Asked) (x : Answered a) → Read a x
@@ -419,14 +412,14 @@ answered-reads a x =
     let value : valueOf a x ≡ n .value = first-bytes (n .value) (x .out) long whole in
     let v : f .value ≡ valueOf a x = sym u ∙ sym value in
     let size : x .formSize ≡ length (formOf a (f .value)) = cc in
-    let held : x .held ≡ laid (f .value) (x .scratch) = cc in
+    let held : x .held ≡ handed (f .value) (x .scratch) = cc in
     let left : x .formLeft ≡ laid (formOf a (f .value)) (x .formOut) = cc in
     record {
       accepted = record { taken = n .accepted .taken; reads = n .accepted .reads ∙ ap₂ done (sym value) made };
       size = size ∙ ap (λ (t : List ℕ). length (formOf a t)) v;
       form = first-bytes (formOf a (f .value)) (x .formOut) size left ∙ ap (formOf a) v;
       same = cc;
-      scratch = held ∙ ap (λ (t : List ℕ). laid t (x .scratch)) v;
+      scratch = held ∙ ap (λ (t : List ℕ). handed t (x .scratch)) v;
     }
 
 -- demand 3's premise: an accepted value is answered by both calls where there is room; here in buffers of just the length needed
@@ -441,13 +434,13 @@ accepted-answered a value openings p out room =
         openings = openings;
         left = laid value out;
         normalizes = normalize-roomy a value openings p out room;
-        scratch = value;
+        scratch = 0 ∷ 0 ∷ 0 ∷ 0 ∷ [];
         formOut = form;
         formSize = length form;
         formOpenings = openings;
-        held = laid value value;
+        held = handed value (0 ∷ 0 ∷ 0 ∷ 0 ∷ []);
         formLeft = laid form form;
-        writes = canonical-roomy a value openings p value form (omega arith) (omega arith);
+        writes = canonical-roomy a value openings p (0 ∷ 0 ∷ 0 ∷ 0 ∷ []) form (omega arith) (omega arith);
       };
       words-are = refl;
       buffers-are = refl;
@@ -493,6 +486,6 @@ demand-3-calls-again a x b c =
     record {
       normalizes = normalize-roomy b (valueOf a x) 0 (r .accepted);
       writes = λ scratch out room space.
-          subst (λ (f : List ℕ). canonicalOf b scratch out ≡ called 0 (length f ∷ 0 ∷ []) (laid (valueOf a x) scratch ∷ laid f out ∷ [])) (r .itself)
+          subst (λ (f : List ℕ). canonicalOf b scratch out ≡ called 0 (length f ∷ 0 ∷ []) (handed (valueOf a x) scratch ∷ laid f out ∷ [])) (r .itself)
           (canonical-roomy b (valueOf a x) 0 (r .accepted) scratch out room (rw (r .itself) space));
     }

@@ -31,9 +31,9 @@ normalizes : normalizeOf value (7 ∷ 7 ∷ 7 ∷ []) ≡ called 0 (2 ∷ 1 ∷ 
 unfolding normalizeAttributeValueCall lengthCheck settingsCheck utf8Check utf8End tableCheck finished normalize readingOf
 normalizes = refl
 
--- its form is a space and `&#9;`; a byte behind it is kept, and one behind the value in the scratch
-writes : canonicalOf value (7 ∷ 7 ∷ 7 ∷ []) (7 ∷ 7 ∷ 7 ∷ 7 ∷ 7 ∷ 7 ∷ [])
-    ≡ called 0 (5 ∷ 1 ∷ []) ((32 ∷ 9 ∷ 7 ∷ []) ∷ (32 ∷ 38 ∷ 35 ∷ 57 ∷ 59 ∷ 7 ∷ []) ∷ [])
+-- its form is a space and `&#9;`; a byte behind it is kept, and one behind the 4 of the scratch
+writes : canonicalOf value (7 ∷ 7 ∷ 7 ∷ 7 ∷ 7 ∷ []) (7 ∷ 7 ∷ 7 ∷ 7 ∷ 7 ∷ 7 ∷ [])
+    ≡ called 0 (5 ∷ 1 ∷ []) ((9 ∷ 0 ∷ 0 ∷ 0 ∷ 7 ∷ []) ∷ (32 ∷ 38 ∷ 35 ∷ 57 ∷ 59 ∷ 7 ∷ []) ∷ [])
 unfolding canonicalFormCall lengthCheck settingsCheck utf8Check utf8End tableCheck formed normalize readingOf
 writes = refl
 
@@ -46,11 +46,11 @@ value-answered =
       openings = 1;
       left = 32 ∷ 9 ∷ 7 ∷ [];
       normalizes = normalizes;
-      scratch = 7 ∷ 7 ∷ 7 ∷ [];
+      scratch = 7 ∷ 7 ∷ 7 ∷ 7 ∷ 7 ∷ [];
       formOut = 7 ∷ 7 ∷ 7 ∷ 7 ∷ 7 ∷ 7 ∷ [];
       formSize = 5;
       formOpenings = 1;
-      held = 32 ∷ 9 ∷ 7 ∷ [];
+      held = 9 ∷ 0 ∷ 0 ∷ 0 ∷ 7 ∷ [];
       formLeft = 32 ∷ 38 ∷ 35 ∷ 57 ∷ 59 ∷ 7 ∷ [];
       writes = writes;
     }

@@ -27,9 +27,9 @@ use Rattle.tokens.specs.Outcome.{Outcome, done, refused, finished}
 use Rattle.unescape.specs.Unescape.{unescape}
 use Rattle.canonical.specs.Canonical.{canonical}
 use Rattle.attribute.specs.Checks.{settingsCheck}
-use Rattle.attribute.specs.Form.{besides, formed as formOutcome}
+use Rattle.attribute.specs.Form.{besides, handed, formed as formOutcome}
 use Rattle.govlezna.specs.Calls.{checkUtf8Call, parseNumberCall, escapeCall, normalizeEolsCall, trimCall, cursorLeft, cursorGuarded, cdataNextCall, checkTableCall, unescapeCall, walkCheck, walked, normalizeAttributeValueCall, canonicalFormCall, c14nAttributeCall, c14nTextCall}
-use Rattle.demands.specs.CallDemands.{listed, textNumbers, numberNumbers, writerNumbers, c14nNumbers, pieceNumbers, tableNumbers, unescapeNumbers, valueNumbers, formNumbers, Refuses, success, refusal, RefusesForm, formed, untouched, short, RefusesPiece, piece, stays}
+use Rattle.demands.specs.CallDemands.{listed, textNumbers, numberNumbers, writerNumbers, c14nNumbers, pieceNumbers, tableNumbers, unescapeNumbers, valueNumbers, formNumbers, Refuses, success, refusal, RefusesPiece, piece, stays}
 use Rattle.demands.proofs.Numbers.{By, Fails, TableNumbers, TextNumbers, WalkNumbers, by-then, by-length, by-utf8, by-version, by-level, by-settings, by-number, by-table, forbids-none, fails-unescape, fails-reading, finished-done}
 
 module _ (numbers : List ℕ) where
@@ -201,29 +201,26 @@ normalize-attribute-value-refuses text version depth limit list pool out =
           seventeen = refl;
         }
 
-finish-short : (value scratch form : List ℕ) (openings : ℕ) (out : List ℕ) → length value ≤ length scratch
-    → RefusesForm (done value openings) scratch out (besides (laid value scratch) (finish form openings out))
-unfolding finish
-finish-short value scratch form openings out room =
-    pick-both (λ (c : Called). RefusesForm (done value openings) scratch out (besides (laid value scratch) c)) (ltb (length out) (length form))
-    {a = called 19 (length form ∷ 0 ∷ []) (out ∷ [])} {b = called 0 (length form ∷ openings ∷ []) (laid form out ∷ [])}
-    (short value openings (length form ∷ 0 ∷ []) refl room) (formed (length form ∷ openings ∷ []) (laid value scratch ∷ laid form out ∷ []))
-
-formed-refuses : (r : Rule) (o : Outcome) (scratch out : List ℕ) → Fails (In formNumbers) o → RefusesForm o scratch out (formOutcome r o scratch out)
-unfolding formOutcome
-formed-refuses r (done value openings) scratch out h = go (ltb (length scratch) (length value)) refl
+formed-refuses : (r : Rule) (o : Outcome) (scratch out : List ℕ) → Fails (In formNumbers) o → Refuses formNumbers (scratch ∷ out ∷ []) (formOutcome r o scratch out)
+unfolding formOutcome finish
+formed-refuses r (done value openings) scratch out h = go (ltb (length scratch) 4) (ltb (length out) (length form))
   where
-    go : (b : Bool) → ltb (length scratch) (length value) ≡ b
-        → RefusesForm (done value openings) scratch out (pick b (called 18 (length value ∷ 0 ∷ []) (scratch ∷ out ∷ [])) (besides (laid value scratch) (finish (canonical r value) openings out)))
-    go true q = untouched 18 (length value ∷ 0 ∷ []) refl
-    go false q = finish-short value scratch (canonical r value) openings out (ltb-false (length scratch) (length value) q)
-formed-refuses r (refused before openings why first second) scratch out h = untouched why (first ∷ second ∷ []) h
+    form : List ℕ
+    form = canonical r value
 
--- Demand 1: the canonical form answers 0, or refuses by 1 to 19 and leaves the output's bytes untouched, and with 1 to 18 the scratch's;
--- with 19 the scratch holds the value that the walk made of this text.
+    go : (b short : Bool)
+        → Refuses formNumbers (scratch ∷ out ∷ [])
+        (pick b (called 18 (4 ∷ 0 ∷ []) (scratch ∷ out ∷ []))
+        (besides (pick short scratch (handed value scratch))
+        (pick short (called 19 (length form ∷ 0 ∷ []) (out ∷ [])) (called 0 (length form ∷ openings ∷ []) (laid form out ∷ [])))))
+    go true short = refusal 18 (4 ∷ 0 ∷ []) refl
+    go false true = refusal 19 (length form ∷ 0 ∷ []) refl
+    go false false = success (length form ∷ openings ∷ []) (handed value scratch ∷ laid form out ∷ [])
+formed-refuses r (refused before openings why first second) scratch out h = refusal why (first ∷ second ∷ []) h
+
+-- Demand 1: the canonical form answers 0, or refuses by 1 to 19 and leaves the output's bytes untouched, and the scratch's.
 pub canonical-form-refuses : (text : List ℕ) (version depth limit : ℕ) (list pool scratch out : List ℕ)
-    → RefusesForm (walked text version depth limit list pool) scratch out
-    (canonicalFormCall text version depth limit list pool scratch out)
+    → Refuses formNumbers (scratch ∷ out ∷ []) (canonicalFormCall text version depth limit list pool scratch out)
 unfolding canonicalFormCall
 canonical-form-refuses text version depth limit list pool scratch out =
     go (walkCheck text version depth limit list pool)
@@ -238,6 +235,6 @@ canonical-form-refuses text version depth limit list pool scratch out =
         }
 
     go : (c : Answer) → By (In formNumbers) c
-        → RefusesForm (walked text version depth limit list pool) scratch out (guarded c (scratch ∷ out ∷ []) (formOutcome (ruleOf version) (walked text version depth limit list pool) scratch out))
+        → Refuses formNumbers (scratch ∷ out ∷ []) (guarded c (scratch ∷ out ∷ []) (formOutcome (ruleOf version) (walked text version depth limit list pool) scratch out))
     go (Done first second) h = formed-refuses (ruleOf version) (walked text version depth limit list pool) scratch out (fails-walked formNumbers text version depth limit list pool of-walk)
-    go (Refused why first second) h = untouched why (first ∷ second ∷ []) h
+    go (Refused why first second) h = refusal why (first ∷ second ∷ []) h

@@ -207,7 +207,7 @@ seams v h = (escapes, references, numbers, handed, versioned v h)
 
 -- U+0085 under 1.0, implicit and explicit, with a byte to spare in both buffers
 form10 :
-    (canonicalFormCall (0xC2 ∷ 0x85 ∷ []) 0 1 0 (0 ∷ []) [] (7 ∷ 7 ∷ 7 ∷ []) (8 ∷ 8 ∷ 8 ∷ []) ≡ called 0 (2 ∷ 0 ∷ []) ((0xC2 ∷ 0x85 ∷ 7 ∷ []) ∷ (0xC2 ∷ 0x85 ∷ 8 ∷ []) ∷ []))
-    × (canonicalFormCall (0xC2 ∷ 0x85 ∷ []) 1 1 0 (0 ∷ []) [] (7 ∷ 7 ∷ 7 ∷ []) (8 ∷ 8 ∷ 8 ∷ []) ≡ called 0 (2 ∷ 0 ∷ []) ((0xC2 ∷ 0x85 ∷ 7 ∷ []) ∷ (0xC2 ∷ 0x85 ∷ 8 ∷ []) ∷ []))
+    (canonicalFormCall (0xC2 ∷ 0x85 ∷ []) 0 1 0 (0 ∷ []) [] (7 ∷ 7 ∷ 7 ∷ 7 ∷ 7 ∷ []) (8 ∷ 8 ∷ 8 ∷ []) ≡ called 0 (2 ∷ 0 ∷ []) ((0xC2 ∷ 0x85 ∷ 0 ∷ 0 ∷ 7 ∷ []) ∷ (0xC2 ∷ 0x85 ∷ 8 ∷ []) ∷ []))
+    × (canonicalFormCall (0xC2 ∷ 0x85 ∷ []) 1 1 0 (0 ∷ []) [] (7 ∷ 7 ∷ 7 ∷ 7 ∷ 7 ∷ []) (8 ∷ 8 ∷ 8 ∷ []) ≡ called 0 (2 ∷ 0 ∷ []) ((0xC2 ∷ 0x85 ∷ 0 ∷ 0 ∷ 7 ∷ []) ∷ (0xC2 ∷ 0x85 ∷ 8 ∷ []) ∷ []))
 unfolding canonicalFormCall lengthCheck settingsCheck utf8Check utf8End tableCheck formed normalize readingOf canonical
 form10 = (refl, refl)

@@ -9,7 +9,7 @@ use Rattle.text.specs.Call.{Called, called, guarded, laid, finish, lengthCheck,
 use Rattle.escape.specs.Escape.{levelCheck, levelOf, levelSet, write}
 use Rattle.tokens.specs.Outcome.{Outcome, done, refused}
 use Rattle.canonical.specs.Canonical.{canonical}
-use Rattle.attribute.specs.Form.{besides}
+use Rattle.attribute.specs.Form.{besides, handed}
 use Rattle.govlezna.specs.Calls.{walkCheck, walked}
 
 -- a form that is read into a buffer as `value`: 1 where the form is over 16,777,216 bytes, 19 where the buffer is too short
@@ -26,11 +26,11 @@ unfoldable pub escapedBack : List ℕ → ℕ → List ℕ → List ℕ → Call
 escapedBack text level out back =
     guarded (argumentCheck text (levelCheck level)) (out ∷ back ∷ []) (formThen (write (levelSet (levelOf level)) text) text out back)
 
--- demand 3: the canonical form, and the canonical form of that, which is itself; the scratch holds the value of both
+-- demand 3: the canonical form, and the canonical form of that, which is itself; the scratch holds the last character of the value of both
 unfoldable pub formedTwice : Rule → Outcome → List ℕ → List ℕ → List ℕ → Called
 formedTwice r (done value openings) scratch out again =
-    pick (ltb (length scratch) (length value)) (called 18 (length value ∷ 0 ∷ []) (scratch ∷ out ∷ again ∷ []))
-    (besides (laid value scratch) (formThen (canonical r value) (canonical r value) out again))
+    pick (ltb (length scratch) 4) (called 18 (4 ∷ 0 ∷ []) (scratch ∷ out ∷ again ∷ []))
+    (besides (pick (ltb (length out) (length (canonical r value))) scratch (handed value scratch)) (formThen (canonical r value) (canonical r value) out again))
 formedTwice r (refused before openings number first second) scratch out again = called number (first ∷ second ∷ []) (scratch ∷ out ∷ again ∷ [])
 
 unfoldable pub canonicalTwice : List ℕ → ℕ → ℕ → ℕ → List ℕ → List ℕ → List ℕ → List ℕ → List ℕ → Called

@@ -8,7 +8,7 @@ use lib.ListN.{length, take}
 use lib.Dec.{eqb}
 use Rattle.text.specs.Version.{knownVersion}
 use Rattle.text.specs.Call.{Called, called, laid}
-use Rattle.tokens.specs.Outcome.{Outcome, done}
+use Rattle.attribute.specs.Form.{handed}
 use Rattle.utils.specs.declared.Cursor.{Cursor}
 use Rattle.govlezna.specs.declared.CDataNext.{CDataNext}
 use Rattle.govlezna.specs.Calls.{checkTableCall, unescapeCall, normalizeAttributeValueCall, canonicalFormCall}
@@ -47,20 +47,12 @@ abbrev pub valueNumbers : List ℕ
 valueNumbers = 1 ∷ 2 ∷ 3 ∷ 4 ∷ 5 ∷ 6 ∷ 7 ∷ 8 ∷ 9 ∷ 10 ∷ 11 ∷ 12 ∷ 13 ∷ 14 ∷ 15 ∷ 16 ∷ 17 ∷ 19 ∷ 27 ∷ []
 
 abbrev pub formNumbers : List ℕ
-formNumbers = 1 ∷ 2 ∷ 3 ∷ 4 ∷ 5 ∷ 6 ∷ 7 ∷ 8 ∷ 9 ∷ 10 ∷ 11 ∷ 12 ∷ 13 ∷ 14 ∷ 15 ∷ 16 ∷ 17 ∷ 18 ∷ 27 ∷ []  -- and 19
+formNumbers = 1 ∷ 2 ∷ 3 ∷ 4 ∷ 5 ∷ 6 ∷ 7 ∷ 8 ∷ 9 ∷ 10 ∷ 11 ∷ 12 ∷ 13 ∷ 14 ∷ 15 ∷ 16 ∷ 17 ∷ 18 ∷ 19 ∷ 27 ∷ []
 
 -- demand 1: success, or a refusal by one of these numbers of documents 01 and 02 that leaves the lent buffers as they were at entry
 pub data Refuses (numbers : List ℕ) (entry : List (List ℕ)) : Called → Type 0 where
   success : (words : List ℕ) (buffers : List (List ℕ)) → Refuses numbers entry (called 0 words buffers)
   refusal : (number : ℕ) (words : List ℕ) → listed number numbers ≡ true → Refuses numbers entry (called number words entry)
-
--- demand 1, the canonical form: the output is left by every refusal, and the scratch by all but 19, after which its first bytes are the
--- value that the walk made of this text, the rest kept
-pub data RefusesForm (walk : Outcome) (scratch out : List ℕ) : Called → Type 0 where
-  formed : (words : List ℕ) (buffers : List (List ℕ)) → RefusesForm walk scratch out (called 0 words buffers)
-  untouched : (number : ℕ) (words : List ℕ) → listed number formNumbers ≡ true → RefusesForm walk scratch out (called number words (scratch ∷ out ∷ []))
-  short : (value : List ℕ) (openings : ℕ) (words : List ℕ) → walk ≡ done value openings → length value ≤ length scratch
-      → RefusesForm walk scratch out (called 19 words (laid value scratch ∷ out ∷ []))
 
 -- demand 1, CDATA: the cursor moves with a piece alone; 255, "no more", leaves it too
 pub data RefusesPiece (cursor : Cursor) : CDataNext → Type 0 where
@@ -138,5 +130,5 @@ pub record CallAgain (a : Asked) (x : Answered a) (b : Asked) : Type 0 where
 -- itself, byte for byte; the rest of each buffer is kept
 pub record CallRereads (value : List ℕ) (b : Asked) : Type 0 where
   pub normalizes : (out : List ℕ) → length value ≤ length out → normalizeOf b out ≡ called 0 (length value ∷ 0 ∷ []) (laid value out ∷ [])
-  pub writes : (scratch out : List ℕ) → length value ≤ length scratch → length (b .text) ≤ length out
-      → canonicalOf b scratch out ≡ called 0 (length (b .text) ∷ 0 ∷ []) (laid value scratch ∷ laid (b .text) out ∷ [])
+  pub writes : (scratch out : List ℕ) → 4 ≤ length scratch → length (b .text) ≤ length out
+      → canonicalOf b scratch out ≡ called 0 (length (b .text) ∷ 0 ∷ []) (handed value scratch ∷ laid (b .text) out ∷ [])

@@ -52,8 +52,8 @@ form depth scratch out = canonicalFormCall (38 ∷ 101 ∷ 59 ∷ []) 2 depth 9 
 
 forms :
     (form 0 (7 ∷ 8 ∷ []) (7 ∷ 8 ∷ []) ≡ called 16 (0 ∷ 0 ∷ []) ((7 ∷ 8 ∷ []) ∷ (7 ∷ 8 ∷ []) ∷ []))
-    × (form 2 [] (7 ∷ 8 ∷ []) ≡ called 18 (1 ∷ 0 ∷ []) ([] ∷ (7 ∷ 8 ∷ []) ∷ []))
-    × (form 2 (7 ∷ 8 ∷ []) (7 ∷ 8 ∷ []) ≡ called 19 (4 ∷ 0 ∷ []) ((60 ∷ 8 ∷ []) ∷ (7 ∷ 8 ∷ []) ∷ []))
-    × (form 2 (7 ∷ 8 ∷ []) (7 ∷ 7 ∷ 7 ∷ 7 ∷ 8 ∷ []) ≡ called 0 (4 ∷ 1 ∷ []) ((60 ∷ 8 ∷ []) ∷ (38 ∷ 108 ∷ 116 ∷ 59 ∷ 8 ∷ []) ∷ []))
+    × (form 2 (7 ∷ 7 ∷ 7 ∷ []) (7 ∷ 8 ∷ []) ≡ called 18 (4 ∷ 0 ∷ []) ((7 ∷ 7 ∷ 7 ∷ []) ∷ (7 ∷ 8 ∷ []) ∷ []))
+    × (form 2 (7 ∷ 7 ∷ 7 ∷ 7 ∷ []) (7 ∷ 8 ∷ []) ≡ called 19 (4 ∷ 0 ∷ []) ((7 ∷ 7 ∷ 7 ∷ 7 ∷ []) ∷ (7 ∷ 8 ∷ []) ∷ []))
+    × (form 2 (7 ∷ 7 ∷ 7 ∷ 7 ∷ 8 ∷ []) (7 ∷ 7 ∷ 7 ∷ 7 ∷ 8 ∷ []) ≡ called 0 (4 ∷ 1 ∷ []) ((60 ∷ 0 ∷ 0 ∷ 0 ∷ 8 ∷ []) ∷ (38 ∷ 108 ∷ 116 ∷ 59 ∷ 8 ∷ []) ∷ []))
 unfolding form canonicalFormCall lengthCheck settingsCheck utf8Check utf8End tableCheck formed normalize readingOf
 forms = (refl, refl, refl, refl)

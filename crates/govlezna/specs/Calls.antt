@@ -92,7 +92,8 @@ unfoldable pub normalizeAttributeValueCall : List ℕ → ℕ → ℕ → ℕ �
 normalizeAttributeValueCall text version depth limit list pool out =
     guarded (walkCheck text version depth limit list pool) (out ∷ []) (finished (walked text version depth limit list pool) out)
 
--- document 01, canonical form: 1 to 9, then 10 to 17, 27 (document 02, K9), 18 and 19, else the form, and the value in the scratch
+-- document 01, canonical form: 1 to 9, then 10 to 17, 27 (document 02, K9), 18 and 19, else the form, and the last character of the value in the
+-- scratch (document 02, K7)
 unfoldable pub canonicalFormCall : List ℕ → ℕ → ℕ → ℕ → List ℕ → List ℕ → List ℕ → List ℕ → Called
 canonicalFormCall text version depth limit list pool scratch out =
     guarded (walkCheck text version depth limit list pool) (scratch ∷ out ∷ []) (formed (ruleOf version) (walked text version depth limit list pool) scratch out)

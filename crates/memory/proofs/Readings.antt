@@ -28,7 +28,7 @@ use Rattle.entity.specs.Binding.{binding, GoodBound}
 use Rattle.entity.specs.Commands.{commandName, commandText, Defines}
 use Rattle.entity.proofs.Tables.{binding-short, binding-good}
 use Rattle.tokens.specs.Tokens.{named, stop, Head, Heads, head, tokenOf, skipOf}
-use Rattle.tokens.specs.Outcome.{refused, prepend, produced}
+use Rattle.tokens.specs.Outcome.{done, refused, prepend, produced}
 use Rattle.tokens.proofs.Openings.{openingsOf}
 use Rattle.tokens.specs.Walking.{NameEnd, headAt, nextAt, outcomeOf}
 use Rattle.tokens.proofs.Carried.{Moving}
@@ -96,6 +96,14 @@ module _ (inner guard : ℕ) (list pool : List ℕ) (limit : ℕ) where
   unfolding settingsBy
   by-brief bytes depth n t = by-most bytes inner guard depth n t
 
+  -- what is made of whole characters is whole characters
+  pub by-utf8 : ValidTable list pool → (how bar depth n made : ℕ) (t value : List ℕ) → WellFormed t
+      → walk (settingsBy inner guard list pool limit) (readBy how bar) depth t n ≡ done value made → WellFormed value
+  unfolding settingsBy
+  by-utf8 valid how bar depth n made t value w e =
+      walk-well-formed (settingsBy inner guard list pool limit) (legal-own guard) (binding-good list pool valid) (read-utf8 (legalBy guard) (legal-own guard) inner guard)
+      (readBy how bar) (read-utf8 (legalBy guard) (legal-own guard) how bar) depth t n value made w e
+
   -- with a valid table all that a level needs to know
   pub by-sound : ((k : ℕ) → getD list k 0 < 0x100) → ValidTable list pool → Sound (settingsBy inner guard list pool limit) list pool
   unfolding settingsBy
@@ -103,9 +111,7 @@ module _ (inner guard : ℕ) (list pool : List ℕ) (limit : ℕ) where
       record {
         brief = by-brief bytes;
         texts = λ c d. subst GoodBound (d .binds) (binding-good list pool valid (commandName list pool c));
-        values = λ depth n made t value w e.
-            walk-well-formed (settingsBy inner guard list pool limit) (legal-own guard) (binding-good list pool valid) (read-utf8 (legalBy guard) (legal-own guard) inner guard)
-            (readBy inner guard) (read-utf8 (legalBy guard) (legal-own guard) inner guard) depth t n value made w e;
+        values = λ depth n made t value w e. by-utf8 valid inner guard depth n made t value w e;
       }
 
   pub by-inner : settingsBy inner guard list pool limit .inner ≡ readBy inner guard

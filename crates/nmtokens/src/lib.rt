@@ -28,7 +28,16 @@ pub fn normalize_nmtokens(
     requires { ⌜ WellFormed (now text) ⌝ }
     ensures { λ r. ⌜ callOf r (now (scratch .exit) ∷ now (out .exit) ∷ []) ≡ collapsed (outcomeFor wanted (now (list .entry)) (now (pool .entry)) (now (text .entry))) (now (scratch .entry)) (now (out .entry)) ⌝ }
 {
-    let filled = normalize::normalized(text, wanted, 0, list, pool, refusals::NO_SCRATCH, scratch);
+    let filled = normalize::normalized(
+        text,
+        wanted,
+        0,
+        false,
+        list,
+        pool,
+        refusals::NO_SCRATCH,
+        scratch,
+    );
     let Answer::Done {
         first: len,
         second: openings,

@@ -1,2 +1,3 @@
 pub mod Held
 pub mod Texts
+pub mod Hand

@@ -1,7 +1,7 @@
 -- The walk over the text of a call: its first pass, without a memory (`start-lent`, `text-end`, `text-stopped`), and on from a text to open or
 -- a pause (`text-opens`, `text-pauses`, `opened-walks`); how a call ends that walks twice (`walks-refused`, `walks-short`, `walks-held`,
--- `walks-written`); and which walk a call asks for (`walk-for`, `call-bottom`, `call-spaced`, `call-barred`, `call-read`, `call-short`,
--- `call-formed`). Assumes nothing.
+-- `walks-written`), for want of a scratch too (`lacks-refused`, `lacks-counted`) and where its count was of the value alone (`sized-written`); and
+-- which walk a call asks for (`walk-for`, `call-bottom`, `call-spaced`, `call-barred`, `call-read`, `call-utf8`). Assumes nothing.
 use mathlib.Core.Path.{_≡_, refl, sym, ap, subst, _∙_}
 use mathlib.Core.Logic.{_≢_}
 use mathlib.Core.Bool.{Bool, true, false, not}
@@ -11,7 +11,7 @@ use native.Mathlib.Omega.{arith}
 use lib.Dec.{eqb, ltb}
 use lib.ListN.{length, getD, take, drop, replicate}
 use Rattle.text.specs.Bytes.{pick}
-use Rattle.text.specs.Call.{callOf, finish, laid}
+use Rattle.text.specs.Call.{laid}
 use Rattle.text.specs.Version.{Rule, ruleOf}
 use Rattle.text.specs.declared.Answer.{Answer}
 use Rattle.text.specs.declared.Answer.the-variants.{Done, Refused}
@@ -29,19 +29,16 @@ use Rattle.attribute.proofs.Single.{walk-run, walk-plain}
 use Rattle.attribute.proofs.Guards.{walk-clear, clear-of, read-barred}
 use Rattle.canonical.specs.Canonical.{canonical}
 use Rattle.halts.specs.Halts.{Smooth, HaltAt, blanksSpaced}
-use Rattle.entity.specs.Table.{marked}
+use Rattle.entity.specs.Table.{marked, ValidTable}
 use Rattle.tokens.specs.Tokens.{Head, Heads, tokenOf, skipOf}
-use Rattle.tokens.specs.Outcome.{Outcome, done, refused, prepend, followed, produced, answerIn, leftIn}
+use Rattle.tokens.specs.Outcome.{Outcome, done, refused, prepend, followed, produced, answerOf, answerIn, leftIn}
 use Rattle.tokens.specs.Walking.{outcomeOf, Walked, Ended}
-use Rattle.tokens.proofs.Openings.{openingsOf}
 use Rattle.tokens.proofs.Progress.{fromOn, run-at}
 use Rattle.tokens.proofs.Finished.{ended-refused, ended-short, ended-written, ended-held, whole-short, whole-written}
 use Rattle.attribute.specs.Heads.{attributeHead}
 use Rattle.attribute.specs.Walk.{Settings, walk, normalize, innerHead, reading, readingOf}
 use Rattle.attribute.specs.Strict.{guarded, strictly, readingBy}
 use Rattle.attribute.specs.Steps.{headsBy, faultBy, readBy, stopAnswer}
-use Rattle.attribute.specs.Form.{formed}
-use Rattle.attribute.proofs.Formed.{Filled, formed-written}
 use Rattle.attribute.proofs.Outer.{withOuter, walk-outer}
 use Rattle.memory.specs.Slots.{shaped, shapedIn}
 use Rattle.memory.specs.Levels.{settingsBy, settingsOf, Level, levelOf, left, Fitted, Came, Reaches, Finishes, Lent, FlatKeeps, StepsKeep}
@@ -49,16 +46,16 @@ use Rattle.memory.specs.declared.Reading.{Reading}
 use Rattle.memory.specs.declared.Place.{Place}
 use Rattle.memory.specs.declared.Reached.{Reached}
 use Rattle.memory.specs.declared.Reached.the-variants.{End, Opening, Paused, Stopped}
-use Rattle.memory.proofs.Shaped.{shaped-plain, shaped-form}
+use Rattle.memory.proofs.Shaped.{shaped-plain, shaped-form, shaped-most}
 use Rattle.memory.proofs.Keeping.{memory-start, memory-none}
 use Rattle.halts.proofs.Spaces.{spaced-length}
 use Rattle.memory.proofs.Stretches.{smooth-part, smooth-run, smooth-whole}
-use Rattle.memory.proofs.Readings.{by-most, by-within}
+use Rattle.memory.proofs.Readings.{by-utf8}
 use Rattle.memory.proofs.Levels.{placeOf, walk-left, came-start, came-memory}
 use Rattle.memory.proofs.Turns.{turn-end, turn-stopped}
 use Rattle.cycle.specs.Cycle.{Walkable}
 use Rattle.normalize.specs.declared.Wanted.{Wanted}
-use Rattle.normalize.specs.Calls.{readingFor, outcomeFor, walkOf, formOf, Walks, WalksOn}
+use Rattle.normalize.specs.Calls.{readingFor, outcomeFor, walkOf, formOf, plainly, writtenIn, Walks, WalksOn}
 
 -- ---- the walk
 
@@ -176,6 +173,76 @@ module _ (short : ℕ) (o : Outcome) (out : List ℕ) {old new : List ℕ} {a : 
     pub walks-written : {last : List ℕ} {b : Answer} → len ≤ length out → Walks o out last b → Ended short o out last b
     walks-written h v = ended-written short o out e (walks-bare w) h (walks-fits o v (v .answers ∙ sym (w .answers) ∙ e) h)
 
+-- ---- what a call answers where its walk has success
+
+pub ended-same : (short : ℕ) (out : List ℕ) {o p : Outcome} {last : List ℕ} {a : Answer} → o ≡ p → Ended short p out last a → Ended short o out last a
+ended-same short out {o} {p} {last} {a} e k = subst (λ (x : Outcome). Ended short x out last a) (sym e) k
+
+module _ (short : ℕ) (out : List ℕ) where
+  -- a refusal is answered as it is
+  pub ended-stopped : {o : Outcome} {before : List ℕ} {n number first second : ℕ} → o ≡ refused before n number first second
+      → Ended short o out out (Refused number first second)
+  unfolding answerIn leftIn
+  ended-stopped e = ended-same short out e (refl, refl)
+
+  module _ (form : ℕ) (lacks : Bool) where
+    -- 18, for want of a scratch
+    pub lacks-done : lacks ≡ true → (value : List ℕ) (made : ℕ) {b : Answer} → b ≡ Refused 18 4 0 → Ended short (writtenIn form lacks (done value made)) out out b
+    unfolding answerIn leftIn
+    lacks-done e value made q = rw e (q, refl)
+
+    -- else what is written
+    pub lacks-none : lacks ≡ false → (o : Outcome) {last : List ℕ} {a : Answer} → Ended short (shapedIn form o) out last a → Ended short (writtenIn form lacks o) out last a
+    lacks-none e (done value made) {last} {a} k =
+        subst (λ (t : Bool). Ended short (pick t (refused [] made 18 4 0) (done (shaped form value) made)) out last a) (sym e) k
+    lacks-none e (refused before made number first second) k = k
+
+    -- the walk that counted, the value in whatever form
+    module _ (counted : ℕ) (o : Outcome) {old new : List ℕ} {a : Answer} (w : Walks (shapedIn counted o) old new a) where
+      pub lacks-refused : {number first second : ℕ} → a ≡ Refused number first second → Ended short (writtenIn form lacks o) out out a
+      unfolding answerIn leftIn
+      lacks-refused {number} {first} {second} e = go o (w .answers)
+        where
+          go : (p : Outcome) → a ≡ answerOf (shapedIn counted p) → Ended short (writtenIn form lacks p) out out a
+          go (done value made) q =
+              let z : _≡_ {A = ℕ} 0 1 = cc in
+              absurd (omega (arith, z))
+          go (refused before made n f s) q = (q, refl)
+
+      pub lacks-counted : lacks ≡ true → {len made : ℕ} → a ≡ Done len made → {b : Answer} → b ≡ Refused 18 4 0 → Ended short (writtenIn form lacks o) out out b
+      lacks-counted t {len} {made} e {b} x = go o (sym e ∙ w .answers)
+        where
+          go : (p : Outcome) → Done len made ≡ answerOf (shapedIn counted p) → Ended short (writtenIn form lacks p) out out b
+          go (done value m) q = lacks-done t value m x
+          go (refused before m n f s) q =
+              let z : _≡_ {A = ℕ} 0 1 = cc in
+              absurd (omega (arith, z))
+
+-- the walk over the value itself, asked and answered
+module _ (r : Reading) {p : Reading} (is : p ≡ plainly r) where
+  pub plainly-asked : {t : List ℕ} {first : ℕ} → (r .base ≡ 0) × Walkable r t → HaltAt (eqb (r .how) 1) t 0 first → WellFormed t
+      → ((p .base ≡ 0) × Walkable p t) × (HaltAt (eqb (p .how) 1) t 0 first × WellFormed t)
+  plainly-asked {t} {first} w h utf8 =
+      let asked = w .1 in
+      subst (λ (x : Reading). ((x .base ≡ 0) × Walkable x t) × (HaltAt (eqb (x .how) 1) t 0 first × WellFormed t)) (sym is)
+      ((w .0, record { deep = asked .deep; most = asked .most; short = asked .short }), (h, utf8))
+
+  pub plainly-walked : (list pool t : List ℕ) {old new : List ℕ} {a : Answer} → Walks (formOf p list pool t) old new a → Walks (shapedIn 0 (walkOf r list pool t)) old new a
+  plainly-walked list pool t {old} {new} {a} w = subst (λ (x : Reading). Walks (formOf x list pool t) old new a) is w
+
+-- a form has at most six times the bytes of its value, so that there is room for it where there is so much
+pub sized-written : (short form : ℕ) (o : Outcome) (out : List ℕ) {old new last : List ℕ} {a b : Answer} {len made : ℕ} → Walks (shapedIn 0 o) old new a → a ≡ Done len made
+    → 6 * len ≤ length out → Walks (shapedIn form o) out last b → Ended short (shapedIn form o) out last b
+sized-written short form (done value m) out {old} {new} {last} {a} {b} {len} {made} w e h v =
+    let z : Done len made ≡ Done (length (shaped 0 value)) m = sym e ∙ w .answers in
+    let n : len ≡ length (shaped 0 value) = cc in
+    let most = shaped-most form value in
+    walks-written short (shapedIn form (done value m)) out v (v .answers) (omega (arith, n, ap length (shaped-plain refl value), most, h)) v
+sized-written short form (refused before m number first second) out {old} {new} {last} {a} {b} {len} {made} w e h v =
+    let z : Done len made ≡ Refused number first second = sym e ∙ w .answers in
+    let k : _≡_ {A = ℕ} 0 1 = cc in
+    absurd (omega (arith, k))
+
 -- ---- a text without halts
 
 module _ (short : ℕ) (t out : List ℕ) where
@@ -224,15 +291,8 @@ pub not-false : (x : Bool) → not x ≡ false → x ≡ true
 not-false true e = refl
 not-false false e = sym e
 
-pub ended-same : (short : ℕ) (out : List ℕ) {o p : Outcome} {last : List ℕ} {a : Answer} → o ≡ p → Ended short p out last a → Ended short o out last a
-ended-same short out {o} {p} {last} {a} e k = subst (λ (x : Outcome). Ended short x out last a) (sym e) k
-
-pub ended-26 : {o : Outcome} {before : List ℕ} {n at : ℕ} (short : ℕ) (out : List ℕ) → o ≡ refused before n 26 at 0 → Ended short o out out (Refused 26 at 0)
-unfolding answerIn leftIn
-ended-26 short out e = ended-same short out e (refl, refl)
-
 -- the value itself is written
-pub shown-plain : (o : Outcome) → shapedIn 0 o ≡ o
+pub shown-plain : (o : Outcome) → writtenIn 0 false o ≡ o
 shown-plain (done value made) = ap (λ (x : List ℕ). done x made) (shaped-plain refl value)
 shown-plain (refused before made number first second) = refl
 
@@ -313,7 +373,7 @@ module _ (w : Wanted) (list pool t : List ℕ) where
   by-how : {first : ℕ} → HaltAt newer t 0 first → HaltAt (eqb how 1) t 0 first
   by-how {first} h = subst (λ (x : Bool). HaltAt x t 0 first) (sym (flag newer)) h
 
-  module _ (form : ℕ) {r : Reading} (is : r ≡ readingFor w (marked list) form) where
+  module _ (form : ℕ) (lacks : Bool) {r : Reading} (is : r ≡ readingFor w (marked list) form) where
     -- what the walk over the text is asked
     pub read-asked : w .depth ≢ 0 → w .limit ≤ 1000000 → length t ≤ 16777216 → WellFormed t → {first : ℕ} → HaltAt newer t 0 first
         → ((r .base ≡ 0) × Walkable r t) × (HaltAt (eqb (r .how) 1) t 0 first × WellFormed t)
@@ -322,17 +382,17 @@ module _ (w : Wanted) (list pool t : List ℕ) where
         ((refl, record { deep = deep; most = most; short = short }), (by-how h, utf8))
 
     module _ (short : ℕ) (out : List ℕ) where
-      pub call-bottom : {last : List ℕ} {a : Answer} → w .depth ≡ 0 → ((s : Settings) → Ended short (shapedIn form (walk s (readBy (r .how) (r .guard)) 0 t 0)) out last a)
-          → Ended short (shapedIn form asked) out last a
+      pub call-bottom : {last : List ℕ} {a : Answer} → w .depth ≡ 0 → ((s : Settings) → Ended short (writtenIn form lacks (walk s (readBy (r .how) (r .guard)) 0 t 0)) out last a)
+          → Ended short (writtenIn form lacks asked) out last a
       call-bottom {last} {a} z e =
-          let bottom = subst (λ (x : Reading). (s : Settings) → Ended short (shapedIn form (walk s (readBy (x .how) (x .guard)) 0 t 0)) out last a) is e in
-          ended-same short out (ap (shapedIn form) (sym asked-is ∙ ap (λ (d : ℕ). walk s (readBy how guard) d t 0) z)) (bottom s)
+          let bottom = subst (λ (x : Reading). (s : Settings) → Ended short (writtenIn form lacks (walk s (readBy (x .how) (x .guard)) 0 t 0)) out last a) is e in
+          ended-same short out (ap (writtenIn form lacks) (sym asked-is ∙ ap (λ (d : ℕ). walk s (readBy how guard) d t 0) z)) (bottom s)
 
-      pub call-read : {last : List ℕ} {a : Answer} → Ended short (formOf r list pool t) out last a → Ended short (shapedIn form asked) out last a
-      call-read e = ended-same short out (sym (ap (λ (x : Reading). formOf x list pool t) is ∙ ap (shapedIn form) (walk-for form))) e
+      pub call-read : {last : List ℕ} {a : Answer} → Ended short (writtenIn (r .form) lacks (walkOf r list pool t)) out last a → Ended short (writtenIn form lacks asked) out last a
+      call-read e = ended-same short out (sym (ap (λ (x : Reading). writtenIn (x .form) lacks (walkOf x list pool t)) is ∙ ap (writtenIn form lacks) (walk-for form))) e
 
   -- a text without halts
-  module _ (form : ℕ) (deep : w .depth ≢ 0) {first : ℕ} (h : HaltAt newer t 0 first) (z : first ≡ length t) {g : ℕ} (is : g ≡ guard) {fault : ℕ}
+  module _ (form : ℕ) (lacks : Bool) (deep : w .depth ≢ 0) {first : ℕ} (h : HaltAt newer t 0 first) (z : first ≡ length t) {g : ℕ} (is : g ≡ guard) {fault : ℕ}
       (found : FirstFault (faultBy g) t 0 first fault) (short : ℕ) (out : List ℕ) where
     abbrev halt : HaltAt (eqb how 1) t 0 first
     halt = by-how h
@@ -341,14 +401,14 @@ module _ (w : Wanted) (list pool t : List ℕ) where
     f = subst (λ (x : ℕ). FirstFault (faultBy x) t 0 first fault) is found
 
     -- every character of it may stand
-    pub call-spaced : {last : List ℕ} {a : Answer} → fault ≡ first → Ended short (done (shaped form (blanksSpaced t)) 0) out last a → Ended short (shapedIn form asked) out last a
+    pub call-spaced : {last : List ℕ} {a : Answer} → fault ≡ first → Ended short (writtenIn form lacks (done (blanksSpaced t) 0)) out last a → Ended short (writtenIn form lacks asked) out last a
     call-spaced q e =
         let clean = subst (λ (k : ℕ). Clean (faultBy guard) t 0 k) (q ∙ z) (f .clean) in
         let smooth = subst (Smooth (eqb how 1) t 0) z (halt .smooth) in
-        ended-same short out (ap (shapedIn form) (sym asked-is ∙ smooth-whole s how guard (w .depth) deep t 0 smooth clean)) e
+        ended-same short out (ap (writtenIn form lacks) (sym asked-is ∙ smooth-whole s how guard (w .depth) deep t 0 smooth clean)) e
 
     -- or one may not: refusal 26
-    pub call-barred : fault ≢ first → Ended short (shapedIn form asked) out out (Refused 26 fault 0)
+    pub call-barred : fault ≢ first → Ended short (writtenIn form lacks asked) out out (Refused 26 fault 0)
     call-barred q =
         let inside : fault < length t = omega (arith, f .within, q, z) in
         let part = smooth-part (halt .smooth) (f .clean .from) (f .within) in
@@ -358,31 +418,19 @@ module _ (w : Wanted) (list pool t : List ℕ) where
         run-at heads answers t fault 0 inside
         ∙ ap (λ (d : Head). followed (outcomeOf answers (tokenOf d) 0) (λ m. fromOn heads answers t (fault + 1 + skipOf d) m))
         (read-barred t fault inside guard (headsBy how) (f .found (omega (arith, f .within, q)))) in
-        ended-26 short out
-        (ap (shapedIn form)
+        ended-stopped short out
+        (ap (writtenIn form lacks)
         (sym asked-is
         ∙ walk-run s heads (w .depth) t 0
         ∙ smooth-run s how guard (w .depth) deep t 0 part (f .clean)
         ∙ ap (prepend (blanksSpaced (take (fault - 0) t))) stopped))
 
-  -- so no sum overflows
-  pub call-short : {value : List ℕ} {made : ℕ} → asked ≡ done value made → ((k : ℕ) → getD list k 0 < 0x100) → length t ≤ 16777216 → w .limit ≤ 1000000
-      → length value ≤ 0x1000000000000
-  call-short {value} {made} e bytes h m =
+  -- it is UTF-8
+  pub call-utf8 : {value : List ℕ} {made : ℕ} → asked ≡ done value made → ValidTable list pool → WellFormed t → WellFormed value
+  call-utf8 {value} {made} e valid utf8 =
       let inner : ℕ = pick (marked list) 2 (pick newer 1 0) in
       let inguard : ℕ = pick (w .strict) (pick newer 3 1) 0 in
-      let o = walk-for 0 ∙ e in
-      let n : length value + 65535 * 0 ≤ length t + 65535 * made =
-      subst (λ (x : Outcome). length (produced x) + 65535 * 0 ≤ length t + 65535 * openingsOf x) o (by-most inner inguard list pool (w .limit) bytes how guard (w .depth) 0 t) in
-      let k : made ≤ w .limit = subst (λ (x : Outcome). openingsOf x ≤ w .limit) o (by-within inner inguard list pool (w .limit) (readBy how guard) (w .depth) t) in
-      omega (arith, n, k, h, m)
-
-  -- the canonical form of the value that the scratch holds
-  pub call-formed : {scratch last : List ℕ} {len made : ℕ} → Filled asked scratch last len made → (out new : List ℕ) (q : Answer)
-      → callOf q (new ∷ []) ≡ finish (canonical (ruleFor newer) (take len last)) made out → callOf q (last ∷ new ∷ []) ≡ formed (ruleOf (w .version)) asked scratch out
-  call-formed {scratch} {last} {len} {made} f out new q e =
-      formed-written f (ruleOf (w .version)) out new q
-      (subst (λ (rule : Rule). callOf q (new ∷ []) ≡ finish (canonical rule (take len last)) made out) (version-rule (w .version) newer refl) e)
+      by-utf8 inner inguard list pool (w .limit) valid how guard (w .depth) 0 made t value utf8 (walk-for 0 ∙ e)
 
   -- a text that stands for itself is its own value
   pub simple-value : Simple t → asked ≡ done t 0

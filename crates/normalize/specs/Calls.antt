@@ -8,11 +8,11 @@ use lib.ListN.{length}
 use Rattle.text.specs.Bytes.{pick}
 use Rattle.text.specs.Version.{ruleOf}
 use Rattle.text.specs.declared.Answer.{Answer}
-use Rattle.tokens.specs.Outcome.{Outcome, done, answerOf}
+use Rattle.tokens.specs.Outcome.{Outcome, done, refused, answerOf}
 use Rattle.attribute.specs.Steps.{readBy}
 use Rattle.attribute.specs.Walk.{walk, normalize}
 use Rattle.attribute.specs.Strict.{readingBy}
-use Rattle.memory.specs.Slots.{shapedIn}
+use Rattle.memory.specs.Slots.{shaped, shapedIn}
 use Rattle.memory.specs.Levels.{settingsOf, Level, left, Fitted, Came}
 use Rattle.memory.specs.declared.Reading.{Reading}
 use Rattle.memory.specs.declared.Place.{Place}
@@ -43,6 +43,16 @@ walkOf r list pool text = walk (settingsOf r list pool) (readBy (r .how) (r .gua
 -- with what is written of its value
 abbrev pub formOf : Reading → List ℕ → List ℕ → List ℕ → Outcome
 formOf r list pool text = shapedIn (r .form) (walkOf r list pool text)
+
+-- the same walk over the value itself
+abbrev pub plainly : Reading → Reading
+plainly r = record { how = r .how; inner = r .inner; guard = r .guard; inguard = r .inguard; depth = r .depth; limit = r .limit; form = 0; base = r .base }
+
+-- document 02, K7: what a call answers that has success in its walk: 18 where a scratch of 4 bytes is wanted and lacks, else what is written of
+-- the value
+abbrev pub writtenIn : ℕ → Bool → Outcome → Outcome
+writtenIn form lacks (done value openings) = pick lacks (refused [] openings 18 4 0) (done (shaped form value) openings)
+writtenIn form lacks (refused before openings number first second) = refused before openings number first second
 
 -- its answer, and in the buffer the value where all of it fits
 pub record Walks (o : Outcome) (old new : List ℕ) (r : Answer) : Type 0 where

@@ -1,29 +1,31 @@
 // The calls over attribute values, above the cycle of walker and step (crate cycle). Normalization and the canonical form have one code
 // path for both versions.
 ghost use mathlib.Core.Path.{_≡_};
-ghost use mathlib.Core.Bool.{true};
-ghost use mathlib.Core.List.{[], _∷_};
-ghost use Prim.Native.Nat.{_≤_};
-ghost use lib.Dec.{eqb};
+ghost use mathlib.Core.Logic.{_≢_};
+ghost use mathlib.Core.Bool.{true, false};
+ghost use mathlib.Core.List.{List, [], _∷_};
+ghost use Prim.Native.Nat.{ℕ, _≤_};
+ghost use lib.Dec.{eqb, ltb};
 ghost use lib.ListN.{length};
 ghost use Rattle.text.specs.Bytes.{pick};
-ghost use Rattle.text.specs.Call.{callOf, finish, laid};
-ghost use Rattle.text.specs.Version.{ruleOf};
+ghost use Rattle.text.specs.Call.{callOf, laid};
+ghost use Rattle.text.specs.Version.{Rule, ruleOf};
 ghost use Rattle.text.specs.Simple.{Simple};
 ghost use Rattle.text.specs.Utf8.{WellFormed};
 ghost use Rattle.eols.specs.Stops.{ruleFor};
 ghost use Rattle.canonical.specs.Canonical.{canonical};
+ghost use Rattle.canonical.specs.LastCharacter.{FormOf};
 ghost use Rattle.halts.specs.Halts.{HaltAt, blanksSpaced};
 ghost use Rattle.entity.specs.Table.{marked, ValidTable};
 ghost use Rattle.tokens.specs.Outcome.{done, finished};
 ghost use Rattle.tokens.specs.Walking.{Ended};
 ghost use Rattle.attribute.specs.Walk.{Settings, walk};
 ghost use Rattle.attribute.specs.Steps.{readBy};
-ghost use Rattle.attribute.specs.Form.{formed};
-ghost use Rattle.memory.specs.Slots.{shaped, shapedIn};
+ghost use Rattle.attribute.specs.Form.{formed, handed};
+ghost use Rattle.text.specs.declared.Answer.the-variants.{Refused as Refusal};
 ghost use Rattle.memory.specs.Levels.{levelOf, Lent};
 ghost use Rattle.cycle.specs.Cycle.{Walkable};
-ghost use Rattle.normalize.specs.Calls.{readingFor, outcomeFor, formOf, Walks, WalksOn};
+ghost use Rattle.normalize.specs.Calls.{readingFor, outcomeFor, walkOf, formOf, plainly, writtenIn, Walks, WalksOn};
 use memory::Place;
 use memory::Reached;
 use memory::Reading;
@@ -131,9 +133,79 @@ fn put_held(src: &[u8], out: &mut [u8])
     output::put_block(&src[last..], &mut out[last..]);
 }
 
-// The value goes to the start of `out`; a buffer that is too short is refused by the number given. Counts first, and holds a short
-// value meanwhile, so that a refusal leaves the buffer.
+// A scratch that is wanted is shorter than the 4 bytes for a character.
+fn no_scratch() -> Answer
+    ensures { λ r. ⌜ r ≡ Refusal 18 4 0 ⌝ }
+{
+    Answer::Refused {
+        number: refusals::NO_SCRATCH,
+        first: 4,
+        second: 0,
+    }
+}
+
+// What is written of the value goes to the start of `out`; a buffer that is too short is refused by the number given. Counts first, and
+// holds what is short meanwhile, so that a refusal leaves the buffer.
 fn normalize_into(
+    text: &[u8],
+    first: usize,
+    reading: Reading,
+    list: &[u8],
+    pool: &[u8],
+    lacks: bool,
+    short: u32,
+    out: &mut [u8],
+) -> Answer
+    requires { ⌜ ValidTable (now list) (now pool) ⌝ }
+    requires { ⌜ (reading .base ≡ 0) × Walkable reading (now text) ⌝ }
+    requires { ⌜ HaltAt (eqb (reading .how) 1) (now text) 0 first ⌝ }
+    requires { ⌜ WellFormed (now text) ⌝ }
+    ensures { λ r. ⌜ Ended short (writtenIn (reading .form) lacks (walkOf reading (now (list .entry)) (now (pool .entry)) (now (text .entry)))) (now (out .entry)) (now (out .exit)) r ⌝ }
+{
+    let mut held = [0u8; 128];
+    let counted = normalize_text(text, first, reading, list, pool, &mut held);
+    let Answer::Done {
+        first: len,
+        second: _,
+    } = counted
+    else {
+        return counted;
+    };
+    if lacks {
+        return no_scratch();
+    }
+    if (out.len() as u64) < len {
+        return Answer::Refused {
+            number: short,
+            first: len,
+            second: 0,
+        };
+    }
+    if len <= 128 {
+        put_held(&held[..len as usize], out);
+        return counted;
+    }
+    normalize_text(text, first, reading, list, pool, out)
+}
+
+// The same walk over the value itself.
+fn as_value(reading: Reading) -> Reading
+    ensures { λ r. ⌜ r ≡ plainly reading ⌝ }
+{
+    Reading {
+        how: reading.how,
+        inner: reading.inner,
+        guard: reading.guard,
+        inguard: reading.inguard,
+        depth: reading.depth,
+        limit: reading.limit,
+        form: 0,
+        base: reading.base,
+    }
+}
+
+// What is written, after a count of it.
+fn form_counted(
     text: &[u8],
     first: usize,
     reading: Reading,
@@ -148,8 +220,8 @@ fn normalize_into(
     requires { ⌜ WellFormed (now text) ⌝ }
     ensures { λ r. ⌜ Ended short (formOf reading (now (list .entry)) (now (pool .entry)) (now (text .entry))) (now (out .entry)) (now (out .exit)) r ⌝ }
 {
-    let mut held = [0u8; 128];
-    let counted = normalize_text(text, first, reading, list, pool, &mut held);
+    let mut none = [0u8; 1];
+    let counted = normalize_text(text, first, reading, list, pool, &mut none[..0]);
     let Answer::Done {
         first: len,
         second: _,
@@ -164,9 +236,42 @@ fn normalize_into(
             second: 0,
         };
     }
-    if len <= 128 {
-        put_held(&held[..len as usize], out);
+    normalize_text(text, first, reading, list, pool, out)
+}
+
+// The form of the value of a long text. The value is counted first, which is quicker; where the output has six times its length there is
+// room, and the form needs no count.
+fn form_into(
+    text: &[u8],
+    first: usize,
+    reading: Reading,
+    list: &[u8],
+    pool: &[u8],
+    lacks: bool,
+    short: u32,
+    out: &mut [u8],
+) -> Answer
+    requires { ⌜ ValidTable (now list) (now pool) ⌝ }
+    requires { ⌜ (reading .base ≡ 0) × Walkable reading (now text) ⌝ }
+    requires { ⌜ HaltAt (eqb (reading .how) 1) (now text) 0 first ⌝ }
+    requires { ⌜ WellFormed (now text) ⌝ }
+    ensures { λ r. ⌜ Ended short (writtenIn (reading .form) lacks (walkOf reading (now (list .entry)) (now (pool .entry)) (now (text .entry)))) (now (out .entry)) (now (out .exit)) r ⌝ }
+{
+    let mut none = [0u8; 1];
+    let plain = as_value(reading);
+    let counted = normalize_text(text, first, plain, list, pool, &mut none[..0]);
+    let Answer::Done {
+        first: len,
+        second: _,
+    } = counted
+    else {
         return counted;
+    };
+    if lacks {
+        return no_scratch();
+    }
+    if out.len() as u64 / 6 < len {
+        return form_counted(text, first, reading, list, pool, short, out);
     }
     normalize_text(text, first, reading, list, pool, out)
 }
@@ -218,9 +323,17 @@ fn form_spaced(text: &[u8], newer: bool, short: u32, out: &mut [u8]) -> Answer
 }
 
 // The text of a call at depth 0: refused where there is a fault or a stop, else its own value.
-fn normalize_bottom(text: &[u8], how: u8, guard: u8, form: u8, short: u32, out: &mut [u8]) -> Answer
+fn normalize_bottom(
+    text: &[u8],
+    how: u8,
+    guard: u8,
+    form: u8,
+    lacks: bool,
+    short: u32,
+    out: &mut [u8],
+) -> Answer
     requires { ⌜ length (now text) ≤ 16777216 ⌝ }
-    ensures { λ r. ⌜ ((s : Settings) → Ended short (shapedIn form (walk s (readBy how guard) 0 (now (text .entry)) 0)) (now (out .entry)) (now (out .exit)) r) ⌝ }
+    ensures { λ r. ⌜ ((s : Settings) → Ended short (writtenIn form lacks (walk s (readBy how guard) 0 (now (text .entry)) 0)) (now (out .entry)) (now (out .exit)) r) ⌝ }
 {
     let fault = cycle::bottom_fault(text, how, guard);
     if fault != text.len() {
@@ -237,6 +350,9 @@ fn normalize_bottom(text: &[u8], how: u8, guard: u8, form: u8, short: u32, out: 
             second: 0,
         };
     }
+    if lacks {
+        return no_scratch();
+    }
     if form != 0 {
         return form_copied(text, form == 2, short, out);
     }
@@ -244,10 +360,13 @@ fn normalize_bottom(text: &[u8], how: u8, guard: u8, form: u8, short: u32, out: 
 }
 
 // The text of a call without halts: its bytes, TAB and LF as spaces.
-fn spaced_whole(text: &[u8], form: u8, short: u32, out: &mut [u8]) -> Answer
+fn spaced_whole(text: &[u8], form: u8, lacks: bool, short: u32, out: &mut [u8]) -> Answer
     requires { ⌜ length (now text) ≤ 16777216 ⌝ }
-    ensures { λ r. ⌜ Ended short (done (shaped form (blanksSpaced (now (text .entry)))) 0) (now (out .entry)) (now (out .exit)) r ⌝ }
+    ensures { λ r. ⌜ Ended short (writtenIn form lacks (done (blanksSpaced (now (text .entry))) 0)) (now (out .entry)) (now (out .exit)) r ⌝ }
 {
+    if lacks {
+        return no_scratch();
+    }
     if form != 0 {
         return form_spaced(text, form == 2, short, out);
     }
@@ -304,12 +423,13 @@ fn reading_for(list: &[u8], wanted: Wanted, form: u8) -> Reading
     }
 }
 
-// The value of the text of a call, in a buffer that is refused by the number given where it is too short. What the walk is set to is made
-// only where it walks: most values have no halt.
+// What is written of the value of the text of a call. Where the walk has success it is refused for want of a scratch, or by the number given
+// for want of room. What the walk is set to is made only where it walks: most values have no halt.
 pub fn normalized(
     text: &[u8],
     wanted: Wanted,
     form: u8,
+    lacks: bool,
     list: &[u8],
     pool: &[u8],
     short: u32,
@@ -319,17 +439,20 @@ pub fn normalized(
     requires { ⌜ length (now text) ≤ 16777216 ⌝ }
     requires { ⌜ wanted .limit ≤ 1000000 ⌝ }
     requires { ⌜ WellFormed (now text) ⌝ }
-    ensures { λ r. ⌜ Ended short (shapedIn form (outcomeFor wanted (now (list .entry)) (now (pool .entry)) (now (text .entry)))) (now (out .entry)) (now (out .exit)) r ⌝ }
+    ensures { λ r. ⌜ Ended short (writtenIn form lacks (outcomeFor wanted (now (list .entry)) (now (pool .entry)) (now (text .entry)))) (now (out .entry)) (now (out .exit)) r ⌝ }
 {
     if wanted.depth == 0 {
         let used_up = reading_for(list, wanted, form);
-        return normalize_bottom(text, used_up.how, used_up.guard, form, short, out);
+        return normalize_bottom(text, used_up.how, used_up.guard, form, lacks, short, out);
     }
     let newer = 1 < wanted.version;
     let first = halts::first_halt(text, newer);
     if first != text.len() {
         let reading = reading_for(list, wanted, form);
-        return normalize_into(text, first, reading, list, pool, short, out);
+        if (form != 0) & (128 < text.len()) {
+            return form_into(text, first, reading, list, pool, lacks, short, out);
+        }
+        return normalize_into(text, first, reading, list, pool, lacks, short, out);
     }
     let fault = flat::run_fault(text, 0, first, outer_guard(wanted.strict, newer));
     if fault != first {
@@ -339,7 +462,7 @@ pub fn normalized(
             second: 0,
         };
     }
-    spaced_whole(text, form, short, out)
+    spaced_whole(text, form, lacks, short, out)
 }
 
 // The attribute value normalized. Success: the length written, the openings. A text of which it is known that it is simple is its own
@@ -362,32 +485,29 @@ pub fn normalize_attribute_value(
     if simple {
         return tokens::copied_whole(text, refusals::NO_ROOM, out);
     }
-    normalized(text, wanted, 0, list, pool, refusals::NO_ROOM, out)
+    normalized(text, wanted, 0, false, list, pool, refusals::NO_ROOM, out)
 }
 
-// The canonical form of a value that a scratch holds. Where the output has six times its length there is room: no count is needed.
-fn canonical_into(value: &[u8], newer: bool, openings: u64, out: &mut [u8]) -> Answer
-    requires { ⌜ length (now value) ≤ 0x1000000000000 ⌝ }
-    ensures { λ r. ⌜ callOf r (now (out .exit) ∷ []) ≡ finish (canonical (ruleFor newer) (now (value .entry))) openings (now (out .entry)) ⌝ }
+// The last character of the value, read off the end of its form, in the scratch's first 4 bytes; an empty one leaves them.
+fn put_last(form: &[u8], scratch: &mut [u8])
+    requires { ⌜ 4 ≤ length (now scratch) ⌝ }
+    requires { ⌜ (length (now form) ≢ 0 → FormOf (now form)) ⌝ }
+    ensures { λ _. ⌜ ((rule : Rule) (value : List ℕ) → WellFormed value → now (form .entry) ≡ canonical rule value → now (scratch .exit) ≡ handed value (now (scratch .entry))) ⌝ }
 {
-    if out.len() < 6 * value.len() {
-        let length = canonical::canonical_length(value, newer);
-        if out.len() < length {
-            return Answer::Refused {
-                number: refusals::NO_ROOM,
-                first: length as u64,
-                second: 0,
-            };
-        }
+    if form.len() == 0 {
+        return;
     }
-    let written = canonical::write_canonical(value, newer, out);
-    Answer::Done {
-        first: written as u64,
-        second: openings,
-    }
+    canonical::put_hand(form, scratch);
 }
 
-// The value goes to the scratch, its canonical form to the output. Success: the length written, the openings.
+// The form that the version asks for.
+fn form_for(version: u8) -> u8
+    ensures { λ r. ⌜ r ≡ pick (ltb 1 version) 2 1 ⌝ }
+{
+    if 1 < version { 2 } else { 1 }
+}
+
+// The canonical form of the value; its last character goes to the scratch. Success: the length written, the openings.
 pub fn canonical_form(
     text: &[u8],
     wanted: Wanted,
@@ -402,13 +522,25 @@ pub fn canonical_form(
     requires { ⌜ WellFormed (now text) ⌝ }
     ensures { λ r. ⌜ callOf r (now (scratch .exit) ∷ now (out .exit) ∷ []) ≡ formed (ruleOf (wanted .version)) (outcomeFor wanted (now (list .entry)) (now (pool .entry)) (now (text .entry))) (now (scratch .entry)) (now (out .entry)) ⌝ }
 {
-    let filled = normalized(text, wanted, 0, list, pool, refusals::NO_SCRATCH, scratch);
+    let lacks = scratch.len() < 4;
+    let form = form_for(wanted.version);
+    let written = normalized(
+        text,
+        wanted,
+        form,
+        lacks,
+        list,
+        pool,
+        refusals::NO_ROOM,
+        out,
+    );
     let Answer::Done {
         first: len,
-        second: openings,
-    } = filled
+        second: _,
+    } = written
     else {
-        return filled;
+        return written;
     };
-    canonical_into(&scratch[..len as usize], 1 < wanted.version, openings, out)
+    put_last(&out[..len as usize], scratch);
+    written
 }

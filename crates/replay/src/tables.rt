@@ -283,7 +283,8 @@ fn call_form(
     )
 }
 
-// Compares with `= NUMBER FIRST SECOND VALUE OUTPUT`. VALUE is what the scratch holds at its start.
+// Compares with `= NUMBER FIRST SECOND VALUE OUTPUT`. VALUE is what is written at the scratch's start: of a canonical form the
+// character in hand.
 fn compare_form(
     line: &[u8],
     number: u32,

@@ -198,7 +198,7 @@ k8-equal a b e x y = demand-3-calls-equal a b e (answered a x) (answered b y)
 module _ (a : Asked) (value : List ℕ) (openings : ℕ) (p : StrictlyAccepted a value openings) (b : Asked) (q : AskedAgain a value b) where
   -- K8: "strict re-reading of their forms goes as in demand 3"
   pub k8-again : Rereadable (ruleFor b) (b .text) → StrictCallRereads value b
-  unfolding normalizeAttributeValueStrictCall canonicalFormStrictCall finished formed
+  unfolding normalizeAttributeValueStrictCall canonicalFormStrictCall finished formed finish
   k8-again h =
       let again = strict-again a value openings p b q h in
       let taken = taken-passes b (again .accepted .taken) in
@@ -207,7 +207,7 @@ module _ (a : Asked) (value : List ℕ) (openings : ℕ) (p : StrictlyAccepted a
       record {
         normalizes = λ out room. rw (taken, reads, le-ltb (length out) (length value) room);
         writes = λ scratch out room space.
-            rw (taken, reads, le-ltb (length scratch) (length value) room, form, sym (finish-laid (b .text) 0 out refl space refl));
+            rw (taken, reads, le-ltb (length scratch) 4 room, form, le-ltb (length out) (length (b .text)) space);
       }
 
   -- K8: "save that under 2 a form holding a raw RestrictedChar gets 26"

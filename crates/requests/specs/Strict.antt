@@ -7,6 +7,7 @@ use mathlib.Core.Option.{Option}
 use mathlib.Core.List.{List, [], _∷_}
 use lib.Dec.{eqb}
 use lib.ListN.{length, take}
+use Rattle.attribute.specs.Form.{handed}
 use Rattle.text.specs.Call.{Called, called, laid}
 use Rattle.govlezna.specs.Calls.{normalizeAttributeValueStrictCall, canonicalFormStrictCall}
 use Rattle.entity.specs.Table.{marked}
@@ -61,8 +62,8 @@ StrictCallsEqualExactly a b x y =
 -- K8: strict re-reading "goes as in demand 3", with room enough; the rest of each buffer is kept
 pub record StrictCallRereads (value : List ℕ) (b : Asked) : Type 0 where
   pub normalizes : (out : List ℕ) → length value ≤ length out → strictNormalizeOf b out ≡ called 0 (length value ∷ 0 ∷ []) (laid value out ∷ [])
-  pub writes : (scratch out : List ℕ) → length value ≤ length scratch → length (b .text) ≤ length out
-      → strictCanonicalOf b scratch out ≡ called 0 (length (b .text) ∷ 0 ∷ []) (laid value scratch ∷ laid (b .text) out ∷ [])
+  pub writes : (scratch out : List ℕ) → 4 ≤ length scratch → length (b .text) ≤ length out
+      → strictCanonicalOf b scratch out ≡ called 0 (length (b .text) ∷ 0 ∷ []) (handed value scratch ∷ laid (b .text) out ∷ [])
 
 -- K8: "a form holding a raw RestrictedChar gets 26", and nothing is written
 pub record StrictCallRefuses (b : Asked) (offset : ℕ) : Type 0 where

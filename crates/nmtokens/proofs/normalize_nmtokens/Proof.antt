@@ -1,5 +1,7 @@
 -- `normalize_nmtokens` is refused as the walk into the scratch is; else the scratch holds the value, and the second stage goes to the output.
 use mathlib.Core.Path.{sym}
+use mathlib.Core.List.{List}
+use Prim.Native.Nat.{ℕ}
 use native.Mathlib.Omega.{arith}
 use lib.Seq.{length-take-le}
 use Rattle.tokens.specs.Outcome.{Outcome}
@@ -23,16 +25,19 @@ outcome c =
     let a = entry c .args in
     outcomeFor (a .wanted) (a .list .now) (a .pool .now) (a .text .now)
 
+-- the scratch after the walk
+abbrev scratch-left : tie.After-normalized → List ℕ
+scratch-left c = c .normalized .last .1 .1 .1 .1 .1 .1 .1 .0
+
 -- the value itself is written
-as-is : (c : tie.After-normalized) → Ended 18 (outcome c) (entry c .args .scratch .now) (c .normalized .last .1 .1 .1 .1 .1 .1 .0) (c .normalized .result)
+as-is : (c : tie.After-normalized) → Ended 18 (outcome c) (entry c .args .scratch .now) (scratch-left c) (c .normalized .result)
 as-is c = ended-same 18 (entry c .args .scratch .now) (sym (shown-plain (outcome c))) (c .normalized .ensures)
 
 -- the scratch holds the value
-value-filled : (c : tie.After-filled) → Filled (outcome (walk c)) (entry (walk c) .args .scratch .now) (walk c .normalized .last .1 .1 .1 .1 .1 .1 .0)
+value-filled : (c : tie.After-filled) → Filled (outcome (walk c)) (entry (walk c) .args .scratch .now) (scratch-left (walk c))
     (c .filled .given .0 .0) (c .filled .given .0 .1 .0)
 value-filled c =
-    let walked = walk c .normalized in
-    filled (outcome (walk c)) (entry (walk c) .args .scratch .now) (walked .last .1 .1 .1 .1 .1 .1 .0) (as-is (walk c)) (c .filled .given .1)
+    filled (outcome (walk c)) (entry (walk c) .args .scratch .now) (scratch-left (walk c)) (as-is (walk c)) (c .filled .given .1)
 
 normalized-requires : tie.Need-normalized-requires
 normalized-requires c κs = search needs
@@ -50,20 +55,19 @@ returns : tie.Need-returns
 returns c =
     let walked = c .before .before .before .before in
     let a = entry walked .args in
-    collapsed-refused (outcome walked) (a .scratch .now) (a .out .now) (walked .normalized .last .1 .1 .1 .1 .1 .1 .0)
+    collapsed-refused (outcome walked) (a .scratch .now) (a .out .now) (scratch-left walked)
     (as-is walked) (c .enum-told .given .1)
 
 slice-reshare-prefix-collapse-into : tie.Need-slice-reshare-prefix-collapse-into
 slice-reshare-prefix-collapse-into c =
     let f = value-filled (c .before) in
-    omega (arith, f .size, f .room, walk (c .before) .normalized .kept .1 .1 .1 .1 .1 .1 .0)
+    omega (arith, f .size, f .room, walk (c .before) .normalized .kept .1 .1 .1 .1 .1 .1 .1 .0)
 
 slice-aggregate-collapse-into : tie.Need-slice-aggregate-collapse-into
 slice-aggregate-collapse-into c =
     let known = c .before .before in
     let f = value-filled known in
-    let walked = walk known .normalized in
-    sym (length-take-le (known .filled .given .0 .0) (walked .last .1 .1 .1 .1 .1 .1 .0) (omega (arith, f .size, f .room, walked .kept .1 .1 .1 .1 .1 .1 .0)))
+    sym (length-take-le (known .filled .given .0 .0) (scratch-left (walk known)) (omega (arith, f .size, f .room, walk known .normalized .kept .1 .1 .1 .1 .1 .1 .1 .0)))
 
 collapse-into-requires : tie.Need-collapse-into-requires
 collapse-into-requires c κs = search needs
