@@ -9,3 +9,4 @@ mod UnusedExamples
 pub mod Register
 mod NmtokensMet
 pub mod C14n
+pub mod SmallScratch
