@@ -81,10 +81,11 @@ pub fn write_value(value: &[u8], len: usize, newer: bool, out: &mut [u8]) -> usi
     n
 }
 
-// A run, its blanks as spaces.
+// A run, its blanks as spaces. One that does not fit leaves the output.
 fn write_spaced(run: &[u8], len: usize, out: &mut [u8]) -> usize
     requires { ⌜ (length (now run) ≤ 16777216) × (len ≤ 0x1000000000000) ⌝ }
     ensures { λ r. ⌜ Writes (blanksSpaced (now (run .entry))) len (now (out .entry)) (now (out .exit)) r ⌝ }
+    ensures { λ r. ⌜ (length (now (out .entry)) < len + r → now (out .exit) ≡ now (out .entry)) ⌝ }
 {
     let n = run.len();
     if len + n <= out.len() {
@@ -97,7 +98,8 @@ fn write_spaced(run: &[u8], len: usize, out: &mut [u8]) -> usize
 // each there is room: no count is needed.
 pub fn write_form(run: &[u8], len: usize, newer: bool, out: &mut [u8]) -> usize
     requires { ⌜ (length (now run) ≤ 16777216) × (len ≤ 0x1000000000000) ⌝ }
-    ensures { λ r. ⌜ (r ≡ length (canonical (ruleFor newer) (blanksSpaced (now (run .entry))))) × Adds (canonical (ruleFor newer) (blanksSpaced (now (run .entry)))) len (now (out .entry)) (now (out .exit)) ⌝ }
+    ensures { λ r. ⌜ Writes (canonical (ruleFor newer) (blanksSpaced (now (run .entry)))) len (now (out .entry)) (now (out .exit)) r ⌝ }
+    ensures { λ r. ⌜ (length (now (out .entry)) < len + r → now (out .exit) ≡ now (out .entry)) ⌝ }
 {
     if run.len() < 128 {
         if canonical::is_own_form(run, newer) {

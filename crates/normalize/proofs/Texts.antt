@@ -47,6 +47,8 @@ use Rattle.memory.specs.declared.Place.{Place}
 use Rattle.memory.specs.declared.Reached.{Reached}
 use Rattle.memory.specs.declared.Reached.the-variants.{End, Opening, Paused, Stopped}
 use Rattle.memory.proofs.Shaped.{shaped-plain, shaped-form, shaped-most}
+use Rattle.memory.proofs.Fitted.{fitted-start}
+use Rattle.flat.specs.Between.{Writes}
 use Rattle.memory.proofs.Keeping.{memory-start, memory-none}
 use Rattle.halts.proofs.Spaces.{spaced-length}
 use Rattle.memory.proofs.Stretches.{smooth-part, smooth-run, smooth-whole}
@@ -246,31 +248,23 @@ sized-written short form (refused before m number first second) out {old} {new} 
 -- ---- a text without halts
 
 module _ (short : ℕ) (t out : List ℕ) where
-  -- as it is
-  module _ {form : ℕ} (plain : form ≡ 0) where
-    shown : {last : List ℕ} {a : Answer} (x : List ℕ) → Ended short (done x 0) out last a → Ended short (done (shaped form x) 0) out last a
-    shown {last} {a} x e = subst (λ (y : List ℕ). Ended short (done y 0) out last a) (sym (shaped-plain plain x)) e
+  pub spaced-short : length out < length t → Ended short (done (blanksSpaced t) 0) out out (Refused short (length t) 0)
+  spaced-short h =
+      let n = spaced-length t in
+      subst (λ (k : ℕ). Ended short (done (blanksSpaced t) 0) out out (Refused short k 0)) n (whole-short short (blanksSpaced t) out (omega (arith, n, h)))
 
-    pub copied-ended : {last : List ℕ} {a : Answer} → Ended short (done t 0) out last a → Ended short (done (shaped form t) 0) out last a
-    copied-ended e = shown t e
+  pub spaced-written : {last : List ℕ} → length t ≤ length out → last ≡ laid (blanksSpaced t) out → Ended short (done (blanksSpaced t) 0) out last (Done (length t) 0)
+  spaced-written {last} h e =
+      let n = spaced-length t in
+      subst (λ (k : ℕ). Ended short (done (blanksSpaced t) 0) out last (Done k 0)) n (whole-written short (blanksSpaced t) out (omega (arith, n, h)) e)
 
-    pub spaced-short : length out < length t → Ended short (done (shaped form (blanksSpaced t)) 0) out out (Refused short (length t) 0)
-    spaced-short h =
-        let n = spaced-length t in
-        shown (blanksSpaced t)
-        (subst (λ (k : ℕ). Ended short (done (blanksSpaced t) 0) out out (Refused short k 0)) n (whole-short short (blanksSpaced t) out (omega (arith, n, h))))
+-- it is written as it is, or in its canonical form
+module _ (short : ℕ) (out : List ℕ) {form : ℕ} {last : List ℕ} {a : Answer} (x : List ℕ) where
+  pub plain-ended : form ≡ 0 → Ended short (done x 0) out last a → Ended short (done (shaped form x) 0) out last a
+  plain-ended e k = subst (λ (y : List ℕ). Ended short (done y 0) out last a) (sym (shaped-plain e x)) k
 
-    pub spaced-written : {last : List ℕ} → length t ≤ length out → last ≡ laid (blanksSpaced t) out
-        → Ended short (done (shaped form (blanksSpaced t)) 0) out last (Done (length t) 0)
-    spaced-written {last} h e =
-        let n = spaced-length t in
-        shown (blanksSpaced t)
-        (subst (λ (k : ℕ). Ended short (done (blanksSpaced t) 0) out last (Done k 0)) n (whole-written short (blanksSpaced t) out (omega (arith, n, h)) e))
-
-  -- in its canonical form, of which it is told that it fits or not
-  pub form-ended : {form : ℕ} → form ≢ 0 → {last : List ℕ} {a : Answer} (x : List ℕ) → Ended short (done (canonical (ruleFor (eqb form 2)) x) 0) out last a
-      → Ended short (done (shaped form x) 0) out last a
-  form-ended n {last} {a} x e = subst (λ (y : List ℕ). Ended short (done y 0) out last a) (sym (shaped-form n x)) e
+  pub form-ended : form ≢ 0 → Ended short (done (canonical (ruleFor (eqb form 2)) x) 0) out last a → Ended short (done (shaped form x) 0) out last a
+  form-ended n k = subst (λ (y : List ℕ). Ended short (done y 0) out last a) (sym (shaped-form n x)) k
 
 pub form-short : (short : ℕ) (more out : List ℕ) {n : ℕ} → n ≡ length more → length out < n → Ended short (done more 0) out out (Refused short n 0)
 form-short short more out e h =
@@ -280,6 +274,17 @@ pub form-written : (short : ℕ) (more out : List ℕ) {n : ℕ} {last : List �
     → Ended short (done more 0) out last (Done n 0)
 form-written short more out {n} {last} e h q =
     subst (λ (k : ℕ). Ended short (done more 0) out last (Done k 0)) (sym e) (whole-written short more out h q)
+
+-- by a writer that leaves the buffer where it does not fit
+pub form-left : (short : ℕ) (more out : List ℕ) {n : ℕ} {last : List ℕ} → Writes more 0 out last n → (length out < 0 + n → last ≡ out) → length out < n
+    → Ended short (done more 0) out last (Refused short n 0)
+form-left short more out {n} {last} w k h =
+    subst (λ (l : List ℕ). Ended short (done more 0) out l (Refused short n 0)) (sym (k (omega (arith, h)))) (form-short short more out (w .0) h)
+
+pub form-laid : (short : ℕ) (more out : List ℕ) {n : ℕ} {last : List ℕ} → Writes more 0 out last n → n ≤ length out → Ended short (done more 0) out last (Done n 0)
+form-laid short more out w h =
+    let fits : length more ≤ length out = omega (arith, w .0, h) in
+    form-written short more out (w .0) fits (w .1 .fits [] out refl (fitted-start out) .holds fits)
 
 -- ---- the walk that a call asks for
 

@@ -300,24 +300,41 @@ fn form_copied(text: &[u8], newer: bool, short: u32, out: &mut [u8]) -> Answer
     }
 }
 
-// The same of a text with TAB and LF as spaces.
+// The bytes of a text, TAB and LF as spaces.
+fn spaced_plain(text: &[u8], short: u32, out: &mut [u8]) -> Answer
+    requires { ⌜ length (now text) ≤ 16777216 ⌝ }
+    ensures { λ r. ⌜ Ended short (done (blanksSpaced (now (text .entry))) 0) (now (out .entry)) (now (out .exit)) r ⌝ }
+{
+    let n = text.len();
+    if out.len() < n {
+        return Answer::Refused {
+            number: short,
+            first: n as u64,
+            second: 0,
+        };
+    }
+    halts::put_spaced(text, out);
+    Answer::Done {
+        first: n as u64,
+        second: 0,
+    }
+}
+
+// Their canonical form.
 fn form_spaced(text: &[u8], newer: bool, short: u32, out: &mut [u8]) -> Answer
     requires { ⌜ length (now text) ≤ 16777216 ⌝ }
     ensures { λ r. ⌜ Ended short (done (canonical (ruleFor newer) (blanksSpaced (now (text .entry)))) 0) (now (out .entry)) (now (out .exit)) r ⌝ }
 {
-    if out.len() < 6 * text.len() {
-        let length = canonical::spaced_length(text, newer);
-        if out.len() < length {
-            return Answer::Refused {
-                number: short,
-                first: length as u64,
-                second: 0,
-            };
-        }
+    let length = flat::write_form(text, 0, newer, out);
+    if out.len() < length {
+        return Answer::Refused {
+            number: short,
+            first: length as u64,
+            second: 0,
+        };
     }
-    let written = canonical::write_spaced(text, newer, out);
     Answer::Done {
-        first: written as u64,
+        first: length as u64,
         second: 0,
     }
 }
@@ -359,7 +376,7 @@ fn normalize_bottom(
     tokens::copied_whole(text, short, out)
 }
 
-// The text of a call without halts: its bytes, TAB and LF as spaces.
+// What is written of the text of a call without halts.
 fn spaced_whole(text: &[u8], form: u8, lacks: bool, short: u32, out: &mut [u8]) -> Answer
     requires { ⌜ length (now text) ≤ 16777216 ⌝ }
     ensures { λ r. ⌜ Ended short (writtenIn form lacks (done (blanksSpaced (now (text .entry))) 0)) (now (out .entry)) (now (out .exit)) r ⌝ }
@@ -370,19 +387,7 @@ fn spaced_whole(text: &[u8], form: u8, lacks: bool, short: u32, out: &mut [u8]) 
     if form != 0 {
         return form_spaced(text, form == 2, short, out);
     }
-    let n = text.len();
-    if out.len() < n {
-        return Answer::Refused {
-            number: short,
-            first: n as u64,
-            second: 0,
-        };
-    }
-    halts::put_spaced(text, out);
-    Answer::Done {
-        first: n as u64,
-        second: 0,
-    }
+    spaced_plain(text, short, out)
 }
 
 // What may stand in the value itself, and in a text of the table: all, or what the version lets stand there.

@@ -1,5 +1,6 @@
 -- A run that is its own form is copied (`writes-own`). Else the form is laid whole where it fits (`writes-piece`), or nothing is
 -- (`writes-none`); where there are six bytes for each byte of the run it fits (`form-most`).
+use mathlib.Core.Path.{refl}
 use native.Mathlib.Omega.{arith}
 use Rattle.eols.specs.Stops.{ruleFor}
 use Rattle.canonical.specs.Canonical.{canonical}
@@ -22,7 +23,8 @@ returns : tie.Need-returns
 returns c =
     let wrote = c .before .before in
     let at-own = wrote .before .before in
-    writes-own (at-own .before .is-own-form .ensures (at-own .if2 .taken)) (wrote .write-spaced .ensures)
+    let copied = wrote .write-spaced .ensures in
+    (writes-own (at-own .before .is-own-form .ensures (at-own .if2 .taken)) (copied .0), copied .1)
 
 mul-if3 : tie.Need-mul-if3
 mul-if3 c = search needs
@@ -54,7 +56,10 @@ returns-2 c =
     let at-room = wrote .before .before in
     let a = at-room .before .before .before .before .args in
     let e = wrote .write-spaced2 .ensures in
-    writes-piece (canonical (ruleFor (a .newer)) (blanksSpaced (a .run .now))) (e .0) (omega (arith, form-most (a .newer) (a .run .now), at-room .if3 .taken, e .0)) (e .1)
+    let most = form-most (a .newer) (a .run .now) in (
+      writes-piece (canonical (ruleFor (a .newer)) (blanksSpaced (a .run .now))) (e .0) (omega (arith, most, at-room .if3 .taken, e .0)) (e .1),
+      λ h. absurd (omega (arith, h, most, at-room .if3 .taken, e .0)),
+    )
 
 spaced-length-requires : tie.Need-spaced-length-requires
 spaced-length-requires c κs = search needs
@@ -88,13 +93,16 @@ returns-3 c =
     let wrote = c .before .before in
     let sized = wrote .before .before .before in
     let a = sized .before .before .before .before .before .args in
-    writes-piece (canonical (ruleFor (a .newer)) (blanksSpaced (a .run .now))) (sized .spaced-length .ensures) (wrote .before .before .if4 .taken) (wrote .write-spaced3 .ensures .1)
+    let room = wrote .before .before .if4 .taken in (
+      writes-piece (canonical (ruleFor (a .newer)) (blanksSpaced (a .run .now))) (sized .spaced-length .ensures) room (wrote .write-spaced3 .ensures .1),
+      λ h. absurd (omega (arith, h, room)),
+    )
 
 returns-4 : tie.Need-returns-4
 returns-4 c =
     let sized = c .before in
     let a = sized .before .before .before .before .before .args in
-    writes-none (canonical (ruleFor (a .newer)) (blanksSpaced (a .run .now))) (sized .spaced-length .ensures) (c .if4 .left)
+    (writes-none (canonical (ruleFor (a .newer)) (blanksSpaced (a .run .now))) (sized .spaced-length .ensures) (c .if4 .left), λ h. refl)
 
 pub write-form-spec : {M : Type 1} → statement M
 write-form-spec =

@@ -40,7 +40,7 @@ returns-2 c =
     let wrote = c .before .before in
     let at-form = wrote .before .before .before in
     let a = at-form .before .before .before .before .args in
-    writes-form (at-form .if2 .taken) (blanksSpaced (take (a .to - a .from) (drop (a .from) (a .text .now)))) (wrote .write-form .ensures)
+    writes-form (at-form .if2 .taken) (blanksSpaced (take (a .to - a .from) (drop (a .from) (a .text .now)))) (wrote .write-form .ensures .0)
 
 sub-write-spaced : tie.Need-sub-write-spaced
 sub-write-spaced c = search needs
@@ -60,7 +60,7 @@ same-length-2 c = search needs
 returns-3 : tie.Need-returns-3
 returns-3 c =
     let wrote = c .before .before in
-    writes-plain (wrote .before .before .before .if2 .left) (wrote .write-spaced .ensures)
+    writes-plain (wrote .before .before .before .if2 .left) (wrote .write-spaced .ensures .0)
 
 pub write-run-spec : {M : Type 1} → statement M
 write-run-spec =

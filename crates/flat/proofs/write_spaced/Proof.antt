@@ -1,5 +1,6 @@
 -- The run is laid whole where it fits (`writes-piece`), else nothing is (`writes-none`); it is as long as it was (`spaced-length`).
-use mathlib.Core.Path.{sym}
+use mathlib.Core.Path.{refl, sym}
+use native.Mathlib.Omega.{arith}
 use Rattle.halts.specs.Halts.{blanksSpaced}
 use Rattle.halts.proofs.Spaces.{spaced-length}
 use Rattle.flat.proofs.Writing.{writes-piece, writes-none}
@@ -29,13 +30,15 @@ returns : tie.Need-returns
 returns c =
     let wrote = c .before .before in
     let at-room = wrote .before .before in
-    let a = at-room .before .before .before .args in
-    writes-piece (blanksSpaced (a .run .now)) (sym (spaced-length (a .run .now))) (at-room .if1 .taken) (wrote .put-spaced .ensures)
+    let a = at-room .before .before .before .args in (
+      writes-piece (blanksSpaced (a .run .now)) (sym (spaced-length (a .run .now))) (at-room .if1 .taken) (wrote .put-spaced .ensures),
+      λ h. absurd (omega (arith, h, at-room .if1 .taken)),
+    )
 
 returns-2 : tie.Need-returns-2
 returns-2 c =
     let a = c .before .before .before .args in
-    writes-none (blanksSpaced (a .run .now)) (sym (spaced-length (a .run .now))) (c .if1 .left)
+    (writes-none (blanksSpaced (a .run .now)) (sym (spaced-length (a .run .now))) (c .if1 .left), λ h. refl)
 
 pub write-spaced-spec : {M : Type 1} → statement M
 write-spaced-spec =

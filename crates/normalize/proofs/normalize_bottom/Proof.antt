@@ -6,7 +6,7 @@ use Rattle.attribute.specs.Walk.{Settings, walk}
 use Rattle.attribute.specs.Steps.{readBy}
 use Rattle.cycle.proofs.Exhausted.{exhausted-any, exhausted-none}
 use Rattle.normalize.specs.Calls.{writtenIn}
-use Rattle.normalize.proofs.Texts.{ended-same, ended-stopped, lacks-done, lacks-none, form-ended, copied-ended}
+use Rattle.normalize.proofs.Texts.{ended-same, ended-stopped, lacks-done, lacks-none, form-ended, plain-ended}
 use borrow.Author.Needs.{needs}
 use Rattle.normalize.proofs.normalize_bottom.Statement.{statement}
 use Rattle.normalize.proofs.normalize_bottom.Tie as tie
@@ -69,7 +69,7 @@ returns-4 c =
     let a = entry (test .before .before .before) .args in
     λ s. ended-same (a .short) (a .out .now) (ap (writtenIn (a .form) (a .lacks)) (own-value test s))
     (lacks-none (a .short) (a .out .now) (a .form) (a .lacks) (asked .before .if3 .left) (done (a .text .now) 0)
-    (form-ended (a .short) (a .text .now) (a .out .now) (asked .if4 .taken) (a .text .now) (made .form-copied .ensures)))
+    (form-ended (a .short) (a .out .now) (a .text .now) (asked .if4 .taken) (made .form-copied .ensures)))
 
 copied-whole-requires : tie.Need-copied-whole-requires
 copied-whole-requires c κs = tt
@@ -85,7 +85,7 @@ returns-5 c =
     let a = entry (test .before .before .before) .args in
     λ s. ended-same (a .short) (a .out .now) (ap (writtenIn (a .form) (a .lacks)) (own-value test s))
     (lacks-none (a .short) (a .out .now) (a .form) (a .lacks) (asked .before .if3 .left) (done (a .text .now) 0)
-    (copied-ended (a .short) (a .text .now) (a .out .now) (asked .if4 .left) (made .copied-whole .ensures)))
+    (plain-ended (a .short) (a .out .now) (a .text .now) (asked .if4 .left) (made .copied-whole .ensures)))
 
 pub normalize-bottom-spec : {M : Type 1} → statement M
 normalize-bottom-spec =

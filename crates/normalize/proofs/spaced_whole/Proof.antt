@@ -1,13 +1,10 @@
--- `spaced_whole` is refused where a scratch lacks (`lacks-done`); else it writes as many bytes as the text has, where the buffer has room for
--- them, or the form (`form-ended`).
-use native.Mathlib.Omega.{arith}
+-- `spaced_whole` is refused where a scratch lacks (`lacks-done`); else it writes the text as it is (`plain-ended`), or its form (`form-ended`).
 use Rattle.halts.specs.Halts.{blanksSpaced}
 use Rattle.tokens.specs.Outcome.{done}
-use Rattle.normalize.proofs.Texts.{lacks-done, lacks-none, spaced-short, spaced-written, form-ended}
+use Rattle.normalize.proofs.Texts.{lacks-done, lacks-none, plain-ended, form-ended}
 use borrow.Author.Needs.{needs}
 use Rattle.normalize.proofs.spaced_whole.Statement.{statement}
 use Rattle.normalize.proofs.spaced_whole.Tie as tie
-use Rattle.normalize.proofs.spaced_whole.Lts as lts
 
 no-scratch-requires : tie.Need-no-scratch-requires
 no-scratch-requires c κs = search needs
@@ -28,28 +25,24 @@ returns-2 c =
     let made = c .before .before in
     let test = made .before .before in
     let a = test .before .before .before .before .args in
-    lacks-none (a .short) (a .out .now) (a .form) (a .lacks) (test .before .if1 .left) (done (blanksSpaced (a .text .now)) 0)
-    (form-ended (a .short) (a .text .now) (a .out .now) (test .if2 .taken) (blanksSpaced (a .text .now)) (made .form-spaced .ensures))
+    let value = blanksSpaced (a .text .now) in
+    lacks-none (a .short) (a .out .now) (a .form) (a .lacks) (test .before .if1 .left) (done value 0)
+    (form-ended (a .short) (a .out .now) value (test .if2 .taken) (made .form-spaced .ensures))
 
-returns-3 : tie.Need-returns-3
-returns-3 c =
-    let a = c .before .before .before .before .before .args in
-    lacks-none (a .short) (a .out .now) (a .form) (a .lacks) (c .before .before .if1 .left) (done (blanksSpaced (a .text .now)) 0)
-    (spaced-short (a .short) (a .text .now) (a .out .now) (c .before .if2 .left) (omega (arith, c .if3 .taken)))
-
-put-spaced-requires : tie.Need-put-spaced-requires
-put-spaced-requires c κs = search needs
+spaced-plain-requires : tie.Need-spaced-plain-requires
+spaced-plain-requires c κs = search needs
 
 same-length-2 : tie.Need-same-length-2
 same-length-2 c = search needs
 
-returns-4 : tie.Need-returns-4
-returns-4 c =
-    let put = c .before .before in
-    let test = put .before .before in
-    let a = test .before .before .before .before .before .args in
-    lacks-none (a .short) (a .out .now) (a .form) (a .lacks) (test .before .before .if1 .left) (done (blanksSpaced (a .text .now)) 0)
-    (spaced-written (a .short) (a .text .now) (a .out .now) (test .before .if2 .left) (omega (arith, test .if3 .left)) (put .put-spaced .ensures))
+returns-3 : tie.Need-returns-3
+returns-3 c =
+    let made = c .before .before in
+    let test = made .before .before in
+    let a = test .before .before .before .before .args in
+    let value = blanksSpaced (a .text .now) in
+    lacks-none (a .short) (a .out .now) (a .form) (a .lacks) (test .before .if1 .left) (done value 0)
+    (plain-ended (a .short) (a .out .now) value (test .if2 .left) (made .spaced-plain .ensures))
 
 pub spaced-whole-spec : {M : Type 1} → statement M
 spaced-whole-spec =
@@ -60,7 +53,6 @@ spaced-whole-spec =
     form-spaced-requires
     same-length
     returns-2
-    returns-3
-    put-spaced-requires
+    spaced-plain-requires
     same-length-2
-    returns-4)
+    returns-3)
