@@ -3,10 +3,12 @@
 
 #include <stdlib.h>
 
+/* The scratch is for a list of tokens: a canonical form needs 4 bytes, however long it is. */
 static uint32_t call(const struct request *q, uint8_t *scratch, size_t scratch_length, uint8_t *out, size_t length,
                      uint64_t answer[2])
 {
     const struct arguments *a = q->arguments;
+    uint8_t hand[4];
     switch (a->command) {
     case ESCAPE:
         return govlezna_escape(q->text, q->text_length, a->level, out, length, answer);
@@ -20,8 +22,8 @@ static uint32_t call(const struct request *q, uint8_t *scratch, size_t scratch_l
             length, answer);
     case CANONICAL:
         return (a->strict ? govlezna_canonical_form_strict : govlezna_canonical_form)(
-            q->text, q->text_length, a->version, a->depth, a->limit, q->list, q->list_length, q->pool, q->pool_length,
-            scratch, scratch_length, out, length, answer);
+            q->text, q->text_length, a->version, a->depth, a->limit, q->list, q->list_length, q->pool, q->pool_length, hand,
+            sizeof hand, out, length, answer);
     case NMTOKENS:
         return govlezna_normalize_nmtokens(q->text, q->text_length, a->version, a->depth, a->limit, q->list, q->list_length,
                                            q->pool, q->pool_length, scratch, scratch_length, out, length, answer);

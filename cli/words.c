@@ -23,7 +23,7 @@ static const struct {
     { GOVLEZNA_ILLEGAL_CHARACTER, "the character number 0" },
     { GOVLEZNA_TOO_DEEP, "the depth is used up" },
     { GOVLEZNA_TOO_MANY_OPENINGS, "the opening limit is used up" },
-    { GOVLEZNA_NO_SCRATCH, "the scratch is shorter than the value" },
+    { GOVLEZNA_NO_SCRATCH, "the scratch is too short" },
     { GOVLEZNA_NO_ROOM, "the output is shorter than the result" },
     { GOVLEZNA_CURSOR_OUTSIDE, "the cursor is past the text's end or inside a character" },
     { GOVLEZNA_FORBIDDEN_REFERENCE, "a reference to a character that this version of XML does not allow" },

@@ -49,23 +49,24 @@ private:
     }
 };
 
-// XML 1.0, depth 8, limit 100. The first call tells how much scratch is needed, the second how long the form is.
+// XML 1.0, depth 8, limit 100. The first call tells how long the form is.
 std::string canonical_form(std::string_view text, const Table &table, std::uint64_t &openings)
 {
     const std::string list = table.list + '\0';
-    std::string scratch, out;
+    std::string out;
+    std::uint8_t scratch[4];
     std::uint64_t answer[2];
     for (;;) {
         std::uint32_t number = govlezna_canonical_form(bytes(text), text.size(), 0, 8, 100, bytes(list), list.size(),
-                                                       bytes(table.pool), table.pool.size(), room(scratch),
-                                                       scratch.size(), room(out), out.size(), answer);
+                                                       bytes(table.pool), table.pool.size(), scratch,
+                                                       sizeof scratch, room(out), out.size(), answer);
         if (number == 0) {
             openings = answer[1];
             return out;
         }
-        if (number != GOVLEZNA_NO_SCRATCH && number != GOVLEZNA_NO_ROOM)
+        if (number != GOVLEZNA_NO_ROOM)
             throw Refusal(number, answer);
-        (number == GOVLEZNA_NO_SCRATCH ? scratch : out).resize(answer[0]);
+        out.resize(answer[0]);
     }
 }
 

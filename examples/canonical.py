@@ -6,7 +6,7 @@ import ctypes
 import struct
 import sys
 
-NO_SCRATCH, NO_ROOM, NO_MORE = 18, 19, 255
+NO_ROOM, NO_MORE = 19, 255
 
 Answer = ctypes.c_uint64 * 2
 
@@ -42,21 +42,19 @@ def entity_table(definitions):
 
 
 def canonical_form(text, table, version=0, depth=8, limit=100):
-    """The form and the openings. The first call tells how much scratch is needed, the second how long the form is."""
+    """The form and the openings. The first call tells how long the form is."""
     text = text.encode()
     commands, pool = table
     lent = text, len(text), version, depth, limit, commands, len(commands), pool, len(pool)
-    length = {NO_SCRATCH: 0, NO_ROOM: 0}
-    answer = Answer()
+    scratch, length, answer = ctypes.create_string_buffer(4), 0, Answer()
     while True:
-        scratch = ctypes.create_string_buffer(length[NO_SCRATCH] + 1)
-        out = ctypes.create_string_buffer(length[NO_ROOM] + 1)
-        number = library.govlezna_canonical_form(*lent, scratch, length[NO_SCRATCH], out, length[NO_ROOM], answer)
+        out = ctypes.create_string_buffer(length + 1)
+        number = library.govlezna_canonical_form(*lent, scratch, len(scratch), out, length, answer)
         if number == 0:
             return out.raw[: answer[0]].decode(), answer[1]
-        if number not in length:
+        if number != NO_ROOM:
             raise Refusal(number, answer)
-        length[number] = answer[0]
+        length = answer[0]
 
 
 def cdata(text):

@@ -34,7 +34,6 @@ extern "C" {
     ) -> u32;
 }
 
-const NO_SCRATCH: u32 = 18;
 const NO_ROOM: u32 = 19;
 const NO_MORE: u32 = 255;
 
@@ -65,11 +64,10 @@ impl Table {
     }
 }
 
-/// XML 1.0, depth 8, limit 100: the form and the openings. The first call tells how much scratch is needed, the second
-/// how long the form is.
+/// XML 1.0, depth 8, limit 100: the form and the openings. The first call tells how long the form is.
 fn canonical_form(text: &str, table: &Table) -> Result<(String, u64), Refusal> {
     let list: Vec<u8> = table.list.iter().copied().chain([0]).collect();
-    let (mut scratch, mut out) = (Vec::new(), Vec::new());
+    let (mut scratch, mut out) = ([0; 4], Vec::new());
     loop {
         let mut answer = [0; 2];
         // Each pointer goes with its own length, and the three that are written to overlap nothing.
@@ -93,7 +91,6 @@ fn canonical_form(text: &str, table: &Table) -> Result<(String, u64), Refusal> {
         };
         match number {
             0 => return Ok((String::from_utf8(out).expect("forms are UTF-8"), answer[1])),
-            NO_SCRATCH => scratch.resize(answer[0] as usize, 0),
             NO_ROOM => out.resize(answer[0] as usize, 0),
             _ => return Err(Refusal { number, answer }),
         }

@@ -130,7 +130,7 @@ static void unescape(const char *text, const struct table *t)
 static void read_value(const char *text, uint64_t depth, uint64_t limit, const struct table *t)
 {
     uint64_t answer[2];
-    uint8_t scratch[64], out[64];
+    uint8_t scratch[4], out[64];
     uint32_t number = govlezna_normalize_attribute_value(bytes(text), strlen(text), 0, depth, limit, t->list,
                                                          t->list_length, t->pool, t->pool_length, out, sizeof out, answer);
     show_text("normalize", number, answer, out);

@@ -5,8 +5,7 @@
  * the refusal. Both words of `answer` are written by every call: on success what the call says below, on a refusal its
  * first and second; a word that nothing is said of is 0. On success the first bytes of an output are the result and the
  * rest keep their bytes. A refusal writes nothing but the answer words; the one exception is GOVLEZNA_NO_ROOM of
- * govlezna_canonical_form, govlezna_canonical_form_strict and govlezna_normalize_nmtokens, whose scratch then holds the
- * value.
+ * govlezna_normalize_nmtokens, whose scratch then holds the value.
  *
  * To learn how long a result is, call with an output of length 0: GOVLEZNA_NO_ROOM gives the length needed, and success
  * means that the result is empty.
@@ -59,7 +58,7 @@ extern "C" {
 #define GOVLEZNA_ILLEGAL_CHARACTER 15   /* the value 0 */
 #define GOVLEZNA_TOO_DEEP 16            /* depth used up */
 #define GOVLEZNA_TOO_MANY_OPENINGS 17   /* opening limit used up: first is the offset of & */
-#define GOVLEZNA_NO_SCRATCH 18          /* scratch shorter than the value: first is the length needed */
+#define GOVLEZNA_NO_SCRATCH 18          /* scratch too short: first is the length needed */
 #define GOVLEZNA_NO_ROOM 19             /* output shorter than the result: first is the length needed */
 #define GOVLEZNA_CURSOR_OUTSIDE 20      /* cursor or offset past the end or inside a character: first is it */
 #define GOVLEZNA_FORBIDDEN_REFERENCE 25 /* strict calls: a reference names a character that the version does not allow */
@@ -243,14 +242,15 @@ uint32_t govlezna_normalize_attribute_value(const uint8_t *text, size_t text_len
  * form is itself.
  *
  * `list`, `pool`: the table; for none the list { 0 } of length 1, and NULL with length 0.
- * Success: answer[0] is the length of the form, answer[1] the number of openings. The first bytes of the scratch are the
- * normalized value; the rest of `scratch` and of `out` keep their bytes.
+ * `scratch`: 4 bytes, however long the value.
+ * Success: answer[0] is the length of the form, answer[1] the number of openings. The first 4 bytes of the scratch are
+ * the last character of the normalized value (not of the form), filled up with zero bytes; where the value is empty they
+ * are as before. The rest of `scratch` and of `out` keep their bytes.
  * Refusals, in this order: those of govlezna_normalize_attribute_value without its last; NO_SCRATCH (scratch shorter
- * than the value; answer[0]: the length needed); NO_ROOM (answer[0]: the length needed). None writes to `out`, and of
- * them NO_ROOM alone to the scratch: it holds the value, as after success.
- * Time: as govlezna_normalize_attribute_value, and then as govlezna_escape over the value.
- * Example: with the settings above `&e;` TAB `&#9;` gives `sail &#9;`, openings 1, and the scratch begins with the
- * value.
+ * than 4 bytes, though the value be empty; answer[0]: 4); NO_ROOM (answer[0]: the length needed). None writes to `out`
+ * or to `scratch`.
+ * Time: as govlezna_normalize_attribute_value; what is written is escaped on the way.
+ * Example: with the settings above `&e;` TAB `&#9;` gives `sail &#9;`, openings 1, and the scratch begins with 9, 0, 0, 0.
  */
 uint32_t govlezna_canonical_form(const uint8_t *text, size_t text_length, uint8_t version, uint64_t depth,
                                  uint64_t limit, const uint8_t *list, size_t list_length, const uint8_t *pool,
@@ -290,7 +290,7 @@ uint32_t govlezna_normalize_attribute_value_strict(const uint8_t *text, size_t t
  * Success: as govlezna_canonical_form.
  * Refusals, in this order: those of govlezna_normalize_attribute_value_strict without its last; NO_SCRATCH; NO_ROOM, as
  * in govlezna_canonical_form.
- * Time: as govlezna_normalize_attribute_value_strict, and then as govlezna_escape over the value.
+ * Time: as govlezna_normalize_attribute_value_strict; what is written is escaped on the way.
  * Example: version 2, depth 1, limit 0, no table: `<&#1;` gives `&lt;` and U+0001, which itself is refused by
  * FORBIDDEN_CHARACTER, first 4.
  */

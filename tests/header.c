@@ -7,7 +7,9 @@
 
 static int wrong;
 static uint64_t answer[2];
-static uint8_t out[64], scratch[64];
+static uint8_t out[64], scratch[64], hand[5];
+
+enum { UNTOUCHED = 0xFF };
 
 static const uint8_t list[] = { 1, 0, 0, 0, 0, 1, 1, 0, 0, 0, 4, 0, 0 }, empty[] = { 0 };
 static const uint8_t marked[] = { 3, 1, 0, 0, 0, 0, 1, 1, 0, 0, 0, 4, 0, 0 }, twice_marked[] = { 3, 3, 0 };
@@ -34,6 +36,15 @@ static void expect_bytes(int line, const uint8_t *got, const char *text)
         return;
     wrong = 1;
     printf("line %d: other bytes than %s\n", line, text);
+}
+
+/* The first 4 bytes of a canonical form's scratch; the rest is as it was. */
+static void expect_hand(int line, const char expected[4])
+{
+    if (memcmp(hand, expected, 4) == 0 && hand[4] == UNTOUCHED)
+        return;
+    wrong = 1;
+    printf("line %d: another character in hand\n", line);
 }
 
 static void expect_register(int line, const uint8_t *got, const uint8_t *buffer, uint64_t used, uint64_t length)
@@ -86,7 +97,8 @@ static uint32_t strictly(const char *text, uint8_t version)
 
 static uint32_t strict_form(const char *text)
 {
-    return govlezna_canonical_form_strict(bytes(text), strlen(text), 2, 1, 0, empty, 1, NULL, 0, scratch, sizeof scratch, out,
+    memset(hand, UNTOUCHED, sizeof hand);
+    return govlezna_canonical_form_strict(bytes(text), strlen(text), 2, 1, 0, empty, 1, NULL, 0, hand, sizeof hand, out,
                                           sizeof out, answer);
 }
 
@@ -98,7 +110,7 @@ static void strict_calls(void)
     expect(__LINE__, strictly("a&#1;", 0), GOVLEZNA_FORBIDDEN_REFERENCE, 0, 0);
     expect(__LINE__, strict_form("<&#1;"), 0, 5, 0);
     expect_bytes(__LINE__, out, "&lt;\1");
-    expect_bytes(__LINE__, scratch, "<\1");
+    expect_hand(__LINE__, "\1\0\0");
     expect(__LINE__, strict_form("&lt;\1"), GOVLEZNA_FORBIDDEN_CHARACTER, 4, 0);
 }
 
@@ -116,6 +128,32 @@ static void canonical_xml(void)
     expect(__LINE__, govlezna_unescape(scratch, 15, empty, 1, NULL, 0, out, sizeof out, answer), 0, 5, 0);
     expect_bytes(__LINE__, out, "<a>\t\r");
     expect(__LINE__, govlezna_c14n_text(bytes("<"), 1, NULL, 0, answer), GOVLEZNA_NO_ROOM, 4, 0);
+}
+
+static uint32_t form(const char *text, size_t hand_length, size_t out_length)
+{
+    memset(hand, UNTOUCHED, sizeof hand);
+    return govlezna_canonical_form(bytes(text), strlen(text), 2, 1, 0, empty, 1, NULL, 0, hand, hand_length, out, out_length,
+                                   answer);
+}
+
+/* The last character of the value, not of the form; a refusal and an empty value leave the scratch. */
+static void hands(void)
+{
+    static const char kept[4] = { (char)UNTOUCHED, (char)UNTOUCHED, (char)UNTOUCHED, (char)UNTOUCHED };
+    expect(__LINE__, form("\xC2\xBD", 4, sizeof out), 0, 2, 0);
+    expect_hand(__LINE__, "\xC2\xBD\0");
+    expect(__LINE__, form("&#x85;", sizeof hand, sizeof out), 0, 6, 0);
+    expect_hand(__LINE__, "\xC2\x85\0");
+    expect(__LINE__, form("&amp;;", 4, sizeof out), 0, 6, 0);
+    expect_hand(__LINE__, ";\0\0");
+    expect(__LINE__, form("", 4, 0), 0, 0, 0);
+    expect_hand(__LINE__, kept);
+    expect(__LINE__, form("", 3, 0), GOVLEZNA_NO_SCRATCH, 4, 0);
+    expect_hand(__LINE__, kept);
+    expect(__LINE__, form("&x;", 3, 0), GOVLEZNA_UNRECOGNIZED_ENTITY, 1, 2);
+    expect(__LINE__, form("<", 4, 3), GOVLEZNA_NO_ROOM, 4, 0);
+    expect_hand(__LINE__, kept);
 }
 
 static uint32_t list_tokens(const char *text)
@@ -184,12 +222,14 @@ static void examples(void)
     strict_calls();
     tokens();
     registers();
+    memset(hand, UNTOUCHED, sizeof hand);
     expect(__LINE__,
-           govlezna_canonical_form(bytes(text), strlen(text), 0, 2, 10, list, sizeof list, pool, sizeof pool, scratch,
-                                   sizeof scratch, out, sizeof out, answer),
+           govlezna_canonical_form(bytes(text), strlen(text), 0, 2, 10, list, sizeof list, pool, sizeof pool, hand,
+                                   sizeof hand, out, sizeof out, answer),
            0, 9, 1);
     expect_bytes(__LINE__, out, "sail &#9;");
-    expect_bytes(__LINE__, scratch, "sail \t");
+    expect_hand(__LINE__, "\t\0\0");
+    hands();
 }
 
 static void no_table(void)

@@ -31,7 +31,7 @@ struct job {
 };
 
 static const uint8_t text[] = { '&', 'a', '0', ';' };
-static uint8_t scratch[ROOM], out[ROOM];
+static uint8_t hand[4], scratch[ROOM], out[ROOM];
 
 static void put_number(uint8_t *to, size_t width, size_t value)
 {
@@ -79,7 +79,7 @@ static uint32_t normalize(const struct job *job, uint64_t answer[2])
 static uint32_t canonical(const struct job *job, uint64_t answer[2])
 {
     return govlezna_canonical_form(text, sizeof text, job->version, DEPTH, 1000000, job->chain.list, sizeof job->chain.list,
-                                   job->chain.pool, job->chain.pool_length, scratch, ROOM, out, ROOM, answer);
+                                   job->chain.pool, job->chain.pool_length, hand, sizeof hand, out, ROOM, answer);
 }
 
 static uint32_t normalize_strictly(const struct job *job, uint64_t answer[2])
@@ -92,8 +92,8 @@ static uint32_t normalize_strictly(const struct job *job, uint64_t answer[2])
 static uint32_t canonical_strictly(const struct job *job, uint64_t answer[2])
 {
     return govlezna_canonical_form_strict(text, sizeof text, job->version, DEPTH, 1000000, job->chain.list,
-                                          sizeof job->chain.list, job->chain.pool, job->chain.pool_length, scratch, ROOM, out,
-                                          ROOM, answer);
+                                          sizeof job->chain.list, job->chain.pool, job->chain.pool_length, hand,
+                                          sizeof hand, out, ROOM, answer);
 }
 
 static uint32_t nmtokens(const struct job *job, uint64_t answer[2])
