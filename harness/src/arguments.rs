@@ -15,6 +15,8 @@ pub const MOST_SPARE: usize = 40;
 /// The longest text at 6 bytes for each of its own, and what is spare.
 pub const LONGEST_OUTPUT: usize = 6 * LONGEST_TEXT + MOST_SPARE;
 pub const LONGEST_SCRATCH: usize = LONGEST_TEXT + MOST_SPARE;
+/// The scratch of a canonical form holds the character in hand (K7).
+pub const HAND: usize = 4;
 /// A register with one entry of a form that is longer than a text may be.
 pub const LONGEST_REGISTER: usize = LONGEST_TEXT + 100;
 /// Buffers start at every address modulo this.
@@ -54,7 +56,7 @@ pub enum Place {
     Itself,
 }
 
-/// How long the output is, beside the result, or the scratch, beside the value.
+/// How long the output is, beside the result, or the scratch, beside what the call needs of it.
 #[derive(Clone, Copy, PartialEq, Eq)]
 pub enum Room {
     Exact,
@@ -64,6 +66,8 @@ pub enum Room {
     Null,
     /// So many bytes longer.
     Spare(usize),
+    /// So many bytes, whatever is needed.
+    Of(usize),
 }
 
 pub const ROOMS: [Room; 4] = [Room::Exact, Room::Short, Room::Null, Room::Spare(9)];
@@ -76,6 +80,7 @@ impl Room {
             Room::Short => needed.saturating_sub(1),
             Room::Null => 0,
             Room::Spare(more) => needed + more,
+            Room::Of(length) => length,
         }
     }
 }

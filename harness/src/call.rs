@@ -17,8 +17,8 @@ pub struct Call {
     pub reading: Option<Expected>,
     /// Wrong readings of what the Rust knows nothing of, with what that is: the documents' rows have to catch each.
     pub misreadings: &'static [(&'static str, Misreadings)],
-    /// Rows of document 01 that `expected` has to agree with.
-    pub documented: &'static [Documented],
+    /// Rows of the documents that `expected` has to agree with: those that it shares with others, and its own.
+    pub documented: &'static [&'static [Documented]],
     /// The inputs that a reader would ask about first; the stored results are made of them too.
     pub seams: Family,
     /// Those that it shares with others, and its own.
@@ -66,6 +66,10 @@ pub type Misreading = fn(&Arguments, Expected) -> Answer;
 pub type Misreadings = &'static [(&'static str, Misreading)];
 
 impl Call {
+    pub fn rows(&self) -> impl Iterator<Item = &'static Documented> {
+        self.documented.iter().copied().flatten()
+    }
+
     pub fn has(&self, parameter: Parameter) -> bool {
         self.parameters.contains(&parameter)
     }

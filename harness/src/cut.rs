@@ -70,7 +70,7 @@ pub fn cut_for(call: &Call, bytes: &[u8], each: &mut dyn FnMut(Arguments, usize)
         limit: limit_of(limit),
         table: Table { list: &list, pool },
         room: room_of(room),
-        scratch: room_of(scratch),
+        scratch: scratch_of(scratch),
         cursor,
         offset: lent_offset,
         ..Arguments::text(text)
@@ -150,6 +150,14 @@ fn room_of(byte: u8) -> Room {
         1 => Room::Short,
         2 => Room::Null,
         _ => Room::Spare(usize::from(byte) % MOST_SPARE),
+    }
+}
+
+/// Also of few bytes, whatever is needed.
+fn scratch_of(byte: u8) -> Room {
+    match byte % 8 {
+        3 => Room::Of(usize::from(byte / 8) % 6),
+        _ => room_of(byte),
     }
 }
 

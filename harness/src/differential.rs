@@ -34,7 +34,7 @@ fn compare_call(call: &Call, seed: u64, end: Instant) -> bool {
     let mut comparison = Comparison::new(call, &library, reading);
     let mut random = Random::new(seed);
     comparison.try_all(call.seams, &mut random);
-    for row in call.documented {
+    for row in call.rows() {
         row.give(&mut |arguments| comparison.compare(&arguments));
     }
     corpus::each(call, &mut |arguments| comparison.compare(&arguments));

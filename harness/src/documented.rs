@@ -2,7 +2,7 @@
 //! say of single cases: what the comparison expects of the library has to agree with them.
 
 use crate::answer::{refusal, Answer};
-use crate::arguments::{Arguments, Sink};
+use crate::arguments::{Arguments, Room, Sink};
 use crate::draft::{Draft, Entity};
 use crate::register::Held;
 
@@ -12,6 +12,8 @@ pub struct Documented {
     choice: u8,
     depth: u64,
     limit: u64,
+    room: Room,
+    scratch: Room,
     outcome: Outcome,
 }
 
@@ -29,7 +31,9 @@ enum Given {
 pub enum Outcome {
     /// The result, and the second answer word.
     Made(&'static str, u64),
-    /// The number and both answer words.
+    /// A canonical form, the second answer word, and what is written at the scratch's start.
+    Formed(&'static str, u64, &'static [u8]),
+    /// The number and both answer words; a scratch is left.
     Answered(u32, u64, u64),
     /// The same, and a register's buffer and its used length after the call.
     Left(u32, u64, u64, &'static [u8], u64),
@@ -42,6 +46,8 @@ pub const fn row(text: &'static str, choice: u8, outcome: Outcome) -> Documented
         choice,
         depth: 1,
         limit: 0,
+        room: Room::Exact,
+        scratch: Room::Exact,
         outcome,
     }
 }
@@ -52,6 +58,18 @@ pub const fn within(depth: u64, limit: u64, row: Documented) -> Documented {
         limit,
         ..row
     }
+}
+
+/// With an output of so many bytes.
+pub const fn in_room(length: usize, row: Documented) -> Documented {
+    let room = Room::Of(length);
+    Documented { room, ..row }
+}
+
+/// With a scratch of so many bytes.
+pub const fn in_scratch(length: usize, row: Documented) -> Documented {
+    let scratch = Room::Of(length);
+    Documented { scratch, ..row }
 }
 
 pub const fn with(entities: &'static [Entity<'static>], row: Documented) -> Documented {
@@ -110,6 +128,8 @@ impl Documented {
             choice: self.choice,
             depth: self.depth,
             limit: self.limit,
+            room: self.room,
+            scratch: self.scratch,
             table: draft.table(),
             ..Arguments::text(self.text.as_bytes())
         });
@@ -124,7 +144,14 @@ impl Documented {
             Outcome::Made(result, second) => {
                 found == (0, result.len() as u64, second) && answer.written == result.as_bytes()
             }
-            Outcome::Answered(number, first, second) => found == (number, first, second),
+            Outcome::Formed(form, second, hand) => {
+                found == (0, form.len() as u64, second)
+                    && answer.written == form.as_bytes()
+                    && answer.scratch == hand
+            }
+            Outcome::Answered(number, first, second) => {
+                found == (number, first, second) && answer.scratch.is_empty()
+            }
             Outcome::Left(number, first, second, buffer, used) => {
                 found == (number, first, second)
                     && answer.register.buffer == buffer

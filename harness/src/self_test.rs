@@ -12,7 +12,7 @@ use crate::unused;
 pub fn run(calls: &[&Call]) -> bool {
     let (mut tried, mut missed, mut rows) = (0, 0, 0);
     for call in calls {
-        rows += call.documented.len();
+        rows += call.rows().count();
         missed += differing_rows(call) + unused::differing_rows(call);
         let reading = call.reading.as_ref().map(|reading| reading as &Reading);
         if is_caught(call, &itself(call.run), reading, &[]) {
@@ -47,8 +47,7 @@ pub fn run(calls: &[&Call]) -> bool {
         for (what, misreadings) in call.misreadings {
             for &(name, misreading) in *misreadings {
                 let wrong = |arguments: &Arguments| misreading(arguments, real);
-                let mut rows = call.documented.iter();
-                let caught = rows.any(|row| row.differs(wrong).is_some());
+                let caught = call.rows().any(|row| row.differs(wrong).is_some());
                 judge(&format!("reading {what}: {name}"), caught);
             }
         }
@@ -72,7 +71,7 @@ fn itself(run: Run) -> impl Fn(&Lent) -> u32 {
 /// How many of the documents' rows are answered otherwise.
 fn differing_rows(call: &Call) -> usize {
     let mut differing = 0;
-    for row in call.documented {
+    for row in call.rows() {
         if let Some(answer) = row.differs(call.expected) {
             println!("{}: {:?}: expected is {answer:?}", call.name, row.text);
             differing += 1;

@@ -39,7 +39,7 @@ pub fn write(calls: &[&Call], out: &mut dyn Write) -> Result<()> {
             }
         };
         (call.seams)(&mut Random::new(DEFAULT_SEED), &mut store);
-        call.documented.iter().for_each(|row| row.give(&mut store));
+        call.rows().for_each(|row| row.give(&mut store));
         corpus::each(call, &mut store);
         for line in lines {
             writeln!(out, "{line}")?;

@@ -1,12 +1,13 @@
-//! Wrong libraries for a scratch that takes the normalized value.
+//! Wrong libraries for a scratch, whatever a call writes there.
 
 use crate::call::Faults;
-use crate::faults::parts::bytes;
 use crate::lent::{Lent, Run};
 
 pub const SCRATCH: Faults = &[
-    ("the value's first byte changed", changed_first_of_value),
-    ("the byte after the value changed", changed_after_value),
+    (
+        "the byte after what is written to the scratch changed",
+        changed_after_written,
+    ),
     (
         "the byte after the scratch changed",
         changed_scratch_guard::<0>,
@@ -19,7 +20,6 @@ pub const SCRATCH: Faults = &[
         "the scratch's last byte changed on a refusal",
         scratched_on_refusal,
     ),
-    ("the scratch kept with 19", kept_scratch),
     ("19 before 18", late_18),
     (
         "a scratch of just the length refused",
@@ -27,9 +27,9 @@ pub const SCRATCH: Faults = &[
     ),
 ];
 
-/// How long the value is, which the scratch holds after a success and after 19.
-pub unsafe fn value_length(lent: &Lent, real: Run) -> usize {
-    // With an empty scratch, 18 says how long the value is.
+/// How long the scratch has to be: so many bytes of it are written, if any.
+pub unsafe fn needed_scratch(lent: &Lent, real: Run) -> usize {
+    // With an empty scratch, 18 says it.
     let mut answer = [0; 2];
     let number = real(&Lent {
         scratch_length: 0,
@@ -42,17 +42,9 @@ pub unsafe fn value_length(lent: &Lent, real: Run) -> usize {
     }
 }
 
-unsafe fn changed_first_of_value(lent: &Lent, real: Run) -> u32 {
+unsafe fn changed_after_written(lent: &Lent, real: Run) -> u32 {
     let number = real(lent);
-    if matches!(number, 0 | 19) && value_length(lent, real) > 0 {
-        *lent.scratch ^= 1;
-    }
-    number
-}
-
-unsafe fn changed_after_value(lent: &Lent, real: Run) -> u32 {
-    let number = real(lent);
-    let length = value_length(lent, real);
+    let length = needed_scratch(lent, real);
     if matches!(number, 0 | 19) && length < lent.scratch_length {
         *lent.scratch.add(length) ^= 1;
     }
@@ -71,19 +63,11 @@ unsafe fn changed_scratch_guard<const OFFSET: isize>(lent: &Lent, real: Run) -> 
     number
 }
 
+/// With any but 19, after which the scratch of a list of tokens holds the value.
 unsafe fn scratched_on_refusal(lent: &Lent, real: Run) -> u32 {
     let number = real(lent);
     if !matches!(number, 0 | 19) && lent.scratch_length > 0 {
         *lent.scratch.add(lent.scratch_length - 1) ^= 1;
-    }
-    number
-}
-
-unsafe fn kept_scratch(lent: &Lent, real: Run) -> u32 {
-    let before = bytes(lent.scratch, lent.scratch_length).to_vec();
-    let number = real(lent);
-    if number == 19 {
-        lent.scratch.copy_from(before.as_ptr(), before.len());
     }
     number
 }
@@ -94,9 +78,11 @@ unsafe fn late_18(lent: &Lent, real: Run) -> u32 {
         return number;
     }
     let mut scratch = vec![0; *lent.answer as usize];
+    let mut out = vec![0; lent.out_length];
     let in_room = real(&Lent {
         scratch: scratch.as_mut_ptr(),
         scratch_length: scratch.len(),
+        out: out.as_mut_ptr(),
         ..*lent
     });
     match in_room {
@@ -108,7 +94,7 @@ unsafe fn late_18(lent: &Lent, real: Run) -> u32 {
 unsafe fn refused_exact_scratch(lent: &Lent, real: Run) -> u32 {
     let number = real(lent);
     match number {
-        0 if value_length(lent, real) == lent.scratch_length => 18,
+        0 if needed_scratch(lent, real) == lent.scratch_length => 18,
         _ => number,
     }
 }

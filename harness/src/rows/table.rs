@@ -1,7 +1,7 @@
 //! Rows of calls with a table. The Rust's side has its definitions read already, and looks names up in them one after the other;
 //! ours checks its table each time.
 
-use crate::arguments::{DEEPEST, MOST_OPENINGS};
+use crate::arguments::{DEEPEST, HAND, MOST_OPENINGS};
 use crate::draft::Draft;
 use crate::lent::Lent;
 use crate::rust::escape::EscapeError;
@@ -33,7 +33,7 @@ pub trait Ours: Fn(&Lent) -> u32 + Copy + 'static {}
 
 impl<F: Fn(&Lent) -> u32 + Copy + 'static> Ours for F {}
 
-/// The output, and the scratch, have so many bytes.
+/// The output has so many bytes, the scratch those that a canonical form needs.
 pub fn ours(
     run: impl Ours,
     text: &'static [u8],
@@ -41,7 +41,7 @@ pub fn ours(
     table: Table<'static>,
     room: usize,
 ) -> impl Once {
-    let (scratch, out) = (vec![0; room].leak(), vec![0; room].leak());
+    let (scratch, out) = (vec![0; HAND].leak(), vec![0; room].leak());
     move |words: &mut [u64; 2]| {
         let lent = Lent {
             text: text.as_ptr(),

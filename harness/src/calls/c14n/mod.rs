@@ -49,10 +49,10 @@ pub const ATTRIBUTE: Call = Call {
     expected: answer::attribute,
     reading: None,
     misreadings: &[],
-    documented: &[
+    documented: &[&[
         row("&<\"\t\n\r", 0, Made("&amp;&lt;&quot;&#x9;&#xA;&#xD;", 0)),
         row(">' ", 0, Made(">' ", 0)),
-    ],
+    ]],
     seams: woven::seams::<C14n>,
     families: &[&[sizes::limits, inputs::longest_results], C14n::WOVEN],
     random: woven::random::<C14n>,
@@ -74,10 +74,10 @@ pub const TEXT: Call = Call {
     name: "c14n_text",
     run: run_text,
     expected: answer::text,
-    documented: &[
+    documented: &[&[
         row("&<>\r", 0, Made("&amp;&lt;&gt;&#xD;", 0)),
         row("\t\n\"'", 0, Made("\t\n\"'", 0)),
-    ],
+    ]],
     stored: "",
     faults: &[faults::WRITER, &[("written as an attribute", as_attribute)]],
     timed: || {

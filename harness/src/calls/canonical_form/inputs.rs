@@ -1,6 +1,6 @@
 //! Values for canonical forms, and what demand 3 says of any two of them.
 
-use super::answer::{canonical_form, strict_canonical_form};
+use super::answer::{canonical_form, in_hand, strict_canonical_form};
 use crate::answer::Answer;
 use crate::arguments::{Arguments, Room, Sink, DEEPEST, MOST_OPENINGS, ROOMS};
 use crate::draft::Draft;
@@ -11,6 +11,7 @@ use crate::inputs::strict::Strict;
 use crate::inputs::tables::random_draft;
 use crate::inputs::text::{woven, Mix, MIXES};
 use crate::inputs::woven::Subject;
+use crate::oracle::entities;
 use crate::random::Random;
 
 /// Which of the two calls writes the forms.
@@ -21,7 +22,7 @@ enum By {
 }
 
 impl By {
-    /// With room enough for value and form.
+    /// With room enough.
     fn in_room(self, arguments: Arguments) -> Answer {
         let arguments = Arguments {
             room: Room::Exact,
@@ -32,6 +33,15 @@ impl By {
             By::Lenient => canonical_form(&arguments),
             By::Strict => strict_canonical_form(&arguments),
         }
+    }
+
+    /// The value alone.
+    fn value(self, arguments: &Arguments) -> Vec<u8> {
+        let made = match self {
+            By::Lenient => entities::normalized(arguments),
+            By::Strict => entities::strictly_normalized(arguments),
+        };
+        made.map_or(vec![], |made| made.bytes)
     }
 
     fn some_character(self, random: &mut Random, choice: u8) -> char {
@@ -66,9 +76,11 @@ fn reread_by<S: Subject>(by: By, random: &mut Random, sink: &mut Sink) {
         let mut accepted = None;
         S::one(random, Arguments::text(&text), &mut |arguments| {
             let answer = by.in_room(arguments);
-            accepted = (answer.number == 0).then_some((arguments.choice, answer));
+            if answer.number == 0 {
+                accepted = Some((arguments.choice, by.value(&arguments), answer));
+            }
         });
-        let Some((choice, answer)) = accepted else {
+        let Some((choice, value, answer)) = accepted else {
             continue;
         };
         let draft = draft_without_the_four(random);
@@ -95,7 +107,7 @@ fn reread_by<S: Subject>(by: By, random: &mut Random, sink: &mut Sink) {
             continue;
         }
         assert_eq!((again.number, again.second), (0, 0), "a form is accepted");
-        assert!(again.scratch == answer.scratch && again.written == answer.written);
+        assert!(by.value(&arguments) == value && again.written == answer.written);
     }
 }
 
@@ -166,7 +178,8 @@ fn given(random: &mut Random, by: By, choice: u8, value: &[char], sink: &mut Sin
     };
     let answer = by.in_room(arguments);
     let value: String = value.iter().collect();
-    assert!(answer.number == 0 && answer.scratch == value.as_bytes());
+    assert!(answer.number == 0 && answer.scratch == in_hand(value.as_bytes()));
+    assert!(by.value(&arguments) == value.as_bytes());
     sink(arguments);
     answer.written
 }
@@ -214,7 +227,32 @@ pub fn seams(random: &mut Random, sink: &mut Sink) {
     }
 }
 
-/// Values far longer than their texts, in scratch and output that are just long enough or not.
+/// Last characters of one to four bytes, as they are, by a reference and in a text of the table; values that end in a `;` of their own; an
+/// empty value, and refusals of the walk: with scratches of up to 5 bytes, and outputs that are long enough or not.
+pub fn hands(_: &mut Random, sink: &mut Sink) {
+    const TEXTS: [&str; 22] = [
+        "", "a", "½", "€", "😀", "a<", "&#9;", "&#10;", "&#13;", "\t", "&gt;", "a\"", "'", "&amp;",
+        "&amp;;", "&lt;;", "lt;", "&#x85;", "&#x2028;", "&e;", "&x;", "a&",
+    ];
+    let draft = Draft::of(&[("e", "b\u{2028}½\t<;")]);
+    for choice in [0, 2] {
+        for text in TEXTS {
+            for scratch in 0..=5 {
+                for room in ROOMS {
+                    sink(Arguments {
+                        choice,
+                        scratch: Room::Of(scratch),
+                        room,
+                        table: draft.table(),
+                        ..Arguments::text(text.as_bytes())
+                    });
+                }
+            }
+        }
+    }
+}
+
+/// Values far longer than their texts, with each scratch, in outputs that are just long enough or not.
 pub fn long_values(random: &mut Random, sink: &mut Sink) {
     for length in [1000, 4096, 65_535] {
         let replacement = woven(random, Mix::Mixed, &[b"<", b"\""], 3, length);

@@ -1,13 +1,13 @@
 //! `govlezna_canonical_form` and `govlezna_canonical_form_strict`.
 
 mod answer;
+mod documented;
 mod faults;
 pub mod inputs;
 mod rows;
 
 use crate::call::Call;
 use crate::call::Parameter::{Choice, Depth, Limit, Output, Scratch, Table, Text};
-use crate::documented::{marked, row, with, within, Outcome::Answered, Outcome::Made};
 use crate::faults::{
     external, marked as marked_faults, memory::MEMORY, strict as strict_faults, table::LOOKUP,
     walk::WALK,
@@ -70,49 +70,12 @@ pub const CALL: Call = Call {
     expected: answer::canonical_form,
     reading: Some(answer::reading),
     misreadings: &[("of marked lists", marked_faults::WALK_READINGS)],
-    documented: &[
-        row("a&#x85;b", 2, Made("a&#133;b", 0)),
-        row("a&#x85;b", 0, Made("a\u{85}b", 0)),
-        with(&[("e", None)], row("<&e;", 0, Answered(27, 1, 0))),
-        with(&[("amp", None)], row("&amp;", 2, Made("&amp;", 0))),
-        with(
-            &[("gt", None), ("e", Some("&gt;"))],
-            within(2, 1, row("&e;", 0, Answered(27, 0, 0))),
-        ),
-        with(
-            &[("e", Some("\u{85}\r\n"))],
-            within(2, 1, row("&e;", 2, Made("  ", 1))),
-        ),
-        marked(
-            &[("e", Some("\u{85}\r\n"))],
-            within(2, 1, row("&e;", 2, Made("&#133;  ", 1))),
-        ),
-        marked(
-            &[("e", Some("\u{85}\r\n"))],
-            within(2, 1, row("&e;", 0, Made("\u{85}  ", 1))),
-        ),
-        marked(
-            &[("e", Some("½\u{2028}<"))],
-            within(1, 1, row("\t&e;", 2, Made(" ½&#8232;&lt;", 1))),
-        ),
-        marked(
-            &[("e", Some("½\u{2028}\t"))],
-            within(1, 1, row("&e;", 2, Answered(16, 0, 0))),
-        ),
-        marked(
-            &[("e", Some("\r\u{85}"))],
-            within(2, 1, row("&e;", 2, Made(" &#133;", 1))),
-        ),
-        marked(
-            &[("e", Some("&f;")), ("f", Some("\r\n"))],
-            within(3, 2, row("&e;", 0, Made("  ", 2))),
-        ),
-        marked(&[], row("\r\n\r\u{85}", 2, Made("  ", 0))),
-    ],
+    documented: &[documented::ROWS, documented::HANDS],
     seams: inputs::seams,
     families: &[
         attribute::FAMILIES,
         &[
+            inputs::hands,
             inputs::long_values,
             entities::damaged_tables,
             inputs::reread,
@@ -127,8 +90,8 @@ pub const CALL: Call = Call {
     ],
     random: woven::random::<Attribute>,
     stored: "\
-canonical_form TEXT VERSION DEPTH LIMIT LIST POOL SCRATCH ROOM = NUMBER FIRST SECOND VALUE OUTPUT, and so for _strict,
-# with SCRATCH for the scratch's length and VALUE for what it holds at its start after the call.",
+canonical_form TEXT VERSION DEPTH LIMIT LIST POOL SCRATCH ROOM = NUMBER FIRST SECOND HAND OUTPUT, and so for _strict,
+# with SCRATCH for the scratch's length and HAND for what is written at its start.",
     faults: &[
         LOOKUP,
         WALK,
@@ -139,6 +102,7 @@ canonical_form TEXT VERSION DEPTH LIMIT LIST POOL SCRATCH ROOM = NUMBER FIRST SE
         marked_faults::TABLE,
         marked_faults::LOOKUP,
         marked_faults::WALK,
+        faults::IN_HAND,
         faults::FORM,
         &[("the strict rule", strictly)],
     ],
@@ -155,13 +119,14 @@ pub const STRICT: Call = Call {
     expected: answer::strict_canonical_form,
     reading: Some(answer::strict_reading),
     misreadings: &[("by the strict rule", strict_faults::READINGS)],
-    documented: strict_rows::ROWS,
+    documented: &[strict_rows::ROWS, documented::HANDS],
     seams: woven::seams::<Strict>,
     families: &[
         &[woven::seams::<Attribute>],
         attribute::FAMILIES,
         strict::FAMILIES,
         &[
+            inputs::hands,
             inputs::long_values,
             entities::damaged_tables,
             inputs::strict_reread,
@@ -178,6 +143,7 @@ pub const STRICT: Call = Call {
         MEMORY,
         external::WALK,
         marked_faults::WALK,
+        faults::IN_HAND,
         faults::FORM,
     ],
     // SAFETY: everything that is lent is of the length stated.

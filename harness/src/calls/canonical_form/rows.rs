@@ -1,19 +1,34 @@
 //! The Rust's walk and writer beside ours.
 
+use crate::arguments::{HAND, LONGEST_TEXT};
 use crate::counting;
+use crate::draft::Draft;
 use crate::rows::attribute::{self, long_values, short_values};
 use crate::rows::attribute::{rust_normalize, rust_normalize_strictly};
-use crate::rows::table::{Ours, TableRule};
+use crate::rows::table::{ours, Ours, TableRule, Tables};
 use crate::rust::escape::{escape_attribute, EscapeError};
 use crate::table::Definition;
-use crate::timing::{self, Made};
+use crate::timing::{self, aligned, letters_with, writing_row, Made};
 
 const CALLS: [&str; 2] = ["canonical_form, 1.0", "canonical_form, 1.1"];
 
 const STRICT_CALLS: [&str; 2] = ["canonical_form_strict, 1.0", "canonical_form_strict, 1.1"];
 
 pub fn timed(run: impl Ours) -> Vec<timing::Row> {
-    attribute::timed(CALLS, (run, rust_canonical))
+    let mut rows = attribute::timed(CALLS, (run, rust_canonical));
+    rows.push(longest(run));
+    rows
+}
+
+/// The longest text. The row tells the memory: beside the text the caller sets its form and 4 bytes aside (K7).
+fn longest(run: impl Ours) -> timing::Row {
+    let text = aligned(&letters_with(&["\t", "&lt;"], 100, LONGEST_TEXT));
+    let tables = Tables::new(Draft::of(&[]));
+    let make = move |text| rust_canonical(text, 0, tables.read).unwrap();
+    let room = make(std::str::from_utf8(text).unwrap()).0.len();
+    let input = format!("sparse; lent beside it: {room} bytes of form, {HAND} of scratch").leak();
+    let ours = ours(run, text, 0, tables.lent, room);
+    writing_row(CALLS[0], input, text, ours, make)
 }
 
 pub fn counted(rows: &mut Vec<counting::Row>, run: impl Ours) {

@@ -42,7 +42,7 @@ pub const CALL: Call = Call {
     expected: answer,
     reading: None,
     misreadings: &[],
-    documented: DOCUMENTED,
+    documented: &[DOCUMENTED],
     seams: inputs::seams,
     families: &[&[
         tables::limits,

@@ -41,10 +41,10 @@ pub const CALL: Call = Call {
     expected: answer::escape,
     reading: None,
     misreadings: &[],
-    documented: &[
+    documented: &[&[
         row("a<b\t", 3, Made("a&lt;b&#9;", 0)),
         row(">'", 2, Made(">'", 0)),
-    ],
+    ]],
     seams: woven::seams::<Escape>,
     families: &[
         &[

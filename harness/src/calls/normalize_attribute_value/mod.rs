@@ -69,7 +69,7 @@ pub const CALL: Call = Call {
     expected: answer,
     reading: Some(reading),
     misreadings: &[("of marked lists", marked::WALK_READINGS)],
-    documented: documented::ROWS,
+    documented: &[documented::ROWS],
     seams: woven::seams::<Attribute>,
     families: &[
         attribute::FAMILIES,
@@ -105,7 +105,7 @@ pub const STRICT: Call = Call {
     expected: |arguments| finished(arguments, rust::strictly_normalized(arguments)),
     reading: Some(|arguments| finished(arguments, reading::normalized(arguments, Rule::Strict))),
     misreadings: &[("by the strict rule", strict_faults::READINGS)],
-    documented: strict_rows::ROWS,
+    documented: &[strict_rows::ROWS],
     seams: woven::seams::<Strict>,
     families: &[
         &[woven::seams::<Attribute>],

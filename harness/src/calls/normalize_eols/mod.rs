@@ -45,10 +45,10 @@ pub const CALL: Call = Call {
     expected: answer,
     reading: None,
     misreadings: &[],
-    documented: &[
+    documented: &[&[
         row("\r\r\n", 0, Made("\n\n", 0)),
         row("\r\u{85}", 2, Made("\n", 0)),
-    ],
+    ]],
     seams: woven::seams::<Eols>,
     families: &[
         &[sizes::limits, rooms::unknown_choices],

@@ -2,7 +2,7 @@
 
 use crate::call::Faults;
 use crate::faults::parts::bytes;
-use crate::faults::scratch::value_length;
+use crate::faults::scratch::needed_scratch;
 use crate::lent::{Lent, Run};
 
 pub const STAGE: Faults = &[
@@ -17,6 +17,8 @@ pub const STAGE: Faults = &[
 
 /// Beside those of every scratch.
 pub const BOTH_STAGES: Faults = &[
+    ("the value's first byte changed", changed_first_of_value),
+    ("the scratch kept with 19", kept_scratch),
     ("the result in the scratch", result_in_scratch),
     ("the result's length with 18", shorter_18),
 ];
@@ -29,7 +31,7 @@ unsafe fn value(lent: &Lent) -> &[u8] {
 /// A longer result: there is no room for it where the output is just long enough.
 unsafe fn longer_where(lent: &Lent, real: Run, is_longer: impl Fn(&[u8]) -> bool) -> u32 {
     let number = real(lent);
-    let length = value_length(lent, real);
+    let length = needed_scratch(lent, real);
     if number != 0 || length > lent.scratch_length || !is_longer(&value(lent)[..length]) {
         return number;
     }
@@ -87,11 +89,28 @@ unsafe fn no_openings(lent: &Lent, real: Run) -> u32 {
 /// Room for the value is asked for, where the result is shorter.
 unsafe fn refused_exact_output(lent: &Lent, real: Run) -> u32 {
     let number = real(lent);
-    let length = value_length(lent, real);
+    let length = needed_scratch(lent, real);
     match number {
         0 if lent.out_length < length => 19,
         _ => number,
     }
+}
+
+unsafe fn changed_first_of_value(lent: &Lent, real: Run) -> u32 {
+    let number = real(lent);
+    if matches!(number, 0 | 19) && needed_scratch(lent, real) > 0 {
+        *lent.scratch ^= 1;
+    }
+    number
+}
+
+unsafe fn kept_scratch(lent: &Lent, real: Run) -> u32 {
+    let before = bytes(lent.scratch, lent.scratch_length).to_vec();
+    let number = real(lent);
+    if number == 19 {
+        lent.scratch.copy_from(before.as_ptr(), before.len());
+    }
+    number
 }
 
 /// Both stages in the scratch.

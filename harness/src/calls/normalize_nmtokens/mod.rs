@@ -58,7 +58,7 @@ pub const CALL: Call = Call {
     expected: answer::normalize_nmtokens,
     reading: Some(answer::reading),
     misreadings: &[],
-    documented: documented::ROWS,
+    documented: &[documented::ROWS],
     seams: woven::seams::<Tokens>,
     families: &[
         attribute::FAMILIES,
@@ -75,7 +75,8 @@ pub const CALL: Call = Call {
     ],
     random: woven::random::<Tokens>,
     stored: "\
-normalize_nmtokens TEXT VERSION DEPTH LIMIT LIST POOL SCRATCH ROOM = NUMBER FIRST SECOND VALUE OUTPUT, as for canonical_form.",
+normalize_nmtokens TEXT VERSION DEPTH LIMIT LIST POOL SCRATCH ROOM = NUMBER FIRST SECOND VALUE OUTPUT, with VALUE for what is written at the
+# scratch's start.",
     faults: &[
         faults::STAGE,
         faults::BOTH_STAGES,

@@ -2,8 +2,9 @@
 
 use crate::draft::Draft;
 use crate::inputs::sizes::MEBIBYTE;
+use crate::lent::Lent;
 use crate::rows::attribute::rust_normalize;
-use crate::rows::table::{table_row, Ours, References, Tables};
+use crate::rows::table::{table_row, Ours, References, Tables, GROWTH};
 use crate::rust::escape::EscapeError;
 use crate::table::Definition;
 use crate::timing::{letters_with, Made, Row};
@@ -18,6 +19,7 @@ const INPUTS: [References; 5] = [
 ];
 
 pub fn timed(run: impl Ours) -> Vec<Row> {
+    let run = in_scratch(run);
     let tables = Tables::new(Draft::of(&[("a", "panel7")]));
     let mut rows = vec![];
     for (call, version) in CALLS.into_iter().zip([0, 2]) {
@@ -36,6 +38,19 @@ pub fn timed(run: impl Ours) -> Vec<Row> {
         }
     }
     rows
+}
+
+/// With a scratch for the longest value here.
+fn in_scratch(run: impl Ours) -> impl Ours {
+    const LONGEST: usize = GROWTH * MEBIBYTE;
+    let scratch = vec![0; LONGEST].leak().as_mut_ptr();
+    move |lent: &Lent| {
+        run(&Lent {
+            scratch,
+            scratch_length: LONGEST,
+            ..*lent
+        })
+    }
 }
 
 /// What is joined is made in new memory once, of the value's length at most.

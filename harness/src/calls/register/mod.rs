@@ -90,7 +90,7 @@ const fn call(
     name: &'static str,
     run: Run,
     expected: Expected,
-    documented: &'static [Documented],
+    documented: &'static [&'static [Documented]],
 ) -> Call {
     Call {
         name,
@@ -116,7 +116,7 @@ pub const ADD: Call = Call {
     faults: &[faults::DAMAGE, faults::ADD],
     // SAFETY: everything that is lent is of the length stated.
     timed: || rows::added(|lent| unsafe { run_add(lent) }),
-    ..call("register_add", run_add, answer::add, documented::ADD)
+    ..call("register_add", run_add, answer::add, &[documented::ADD])
 };
 
 pub const WITHDRAW: Call = Call {
@@ -125,7 +125,7 @@ pub const WITHDRAW: Call = Call {
         "register_withdraw",
         run_withdraw,
         answer::withdraw,
-        documented::WITHDRAW,
+        &[documented::WITHDRAW],
     )
 };
 
@@ -139,6 +139,6 @@ pub const COUNT: Call = Call {
         "register_count",
         run_count,
         answer::count,
-        documented::COUNT,
+        &[documented::COUNT],
     )
 };

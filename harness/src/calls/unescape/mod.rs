@@ -48,7 +48,7 @@ pub const CALL: Call = Call {
     expected: answer::unescape,
     reading: Some(answer::reading),
     misreadings: &[("of marked lists", marked_faults::UNESCAPE_READINGS)],
-    documented: DOCUMENTED,
+    documented: &[DOCUMENTED],
     seams: woven::seams::<Unescape>,
     families: &[&[
         sizes::limits,
