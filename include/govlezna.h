@@ -247,8 +247,8 @@ uint32_t govlezna_normalize_attribute_value(const uint8_t *text, size_t text_len
  * the last character of the normalized value (not of the form), filled up with zero bytes; where the value is empty they
  * are as before. The rest of `scratch` and of `out` keep their bytes.
  * Refusals, in this order: those of govlezna_normalize_attribute_value without its last; NO_SCRATCH (scratch shorter
- * than 4 bytes, though the value be empty; answer[0]: 4); NO_ROOM (answer[0]: the length needed). None writes to `out`
- * or to `scratch`.
+ * than 4 bytes, for an empty value too; answer[0]: 4); NO_ROOM (answer[0]: the length needed). None writes to `out` or to
+ * `scratch`.
  * Time: as govlezna_normalize_attribute_value; what is written is escaped on the way.
  * Example: with the settings above `&e;` TAB `&#9;` gives `sail &#9;`, openings 1, and the scratch begins with 9, 0, 0, 0.
  */
