@@ -234,9 +234,11 @@ pub fn hands(_: &mut Random, sink: &mut Sink) {
         "", "a", "½", "€", "😀", "a<", "&#9;", "&#10;", "&#13;", "\t", "&gt;", "a\"", "'", "&amp;",
         "&amp;;", "&lt;;", "lt;", "&#x85;", "&#x2028;", "&e;", "&x;", "a&",
     ];
+    // The value ends as a form does.
+    let ends = ["lt;", "amp;", "quot;", "#9;", "#133;", "#8232;"].map(|end| format!("&amp;{end}"));
     let draft = Draft::of(&[("e", "b\u{2028}½\t<;")]);
     for choice in [0, 2] {
-        for text in TEXTS {
+        for text in TEXTS.into_iter().chain(ends.iter().map(String::as_str)) {
             for scratch in 0..=5 {
                 for room in ROOMS {
                     sink(Arguments {
