@@ -1,7 +1,6 @@
 -- The canonical form from 4 bytes of scratch (document 02, K7): each of its answers, and that form, openings and refusals are those of a scratch
 -- that holds the whole value. Assumes nothing.
-use mathlib.Core.Path.{_≡_, refl, sym, ap, ap₂, _∙_}
-use mathlib.Core.Bool.{Bool, true, false}
+use mathlib.Core.Path.{_≡_, refl, sym, ap, _∙_}
 use mathlib.Core.List.{List, [], _∷_, _++_}
 use Prim.Native.Nat.{ℕ, _≤_, _<_}
 use native.Mathlib.Omega.{arith}
@@ -15,7 +14,7 @@ use Rattle.output.proofs.Laid.{laid-length, laid-rest}
 use Rattle.canonical.specs.Canonical.{canonical}
 use Rattle.canonical.specs.LastCharacter.{lastCharacter, filledUp, inHand}
 use Rattle.tokens.specs.Outcome.{Outcome, done, refused}
-use Rattle.attribute.specs.Form.{besides, formedWhole, handed, formed}
+use Rattle.attribute.specs.Form.{besides, formedWhole, handed, formed, withoutScratch, HoldsWhole}
 
 -- ---- the scratch
 
@@ -63,16 +62,6 @@ module _ (r : Rule) (value : List ℕ) (openings : ℕ) (scratch out : List ℕ)
     in-hand-done h = rw (le-ltb (length scratch) 4 enough, le-ltb (length out) (length (canonical r value)) h)
 
 -- ---- the same form, openings and refusals
-
--- a call's answer without its first buffer
-abbrev pub withoutScratch : Called → Called
-withoutScratch (called number words []) = called number words []
-withoutScratch (called number words (scratch ∷ buffers)) = called number words buffers
-
--- room enough for what document 01 lays in the scratch
-abbrev pub HoldsWhole : Outcome → List ℕ → Type 0
-HoldsWhole (done value openings) scratch = length value ≤ length scratch
-HoldsWhole (refused before openings number first second) scratch = Unit {0}
 
 without-besides : (scratch : List ℕ) (c : Called) → withoutScratch (besides scratch c) ≡ c
 without-besides scratch (called number words buffers) = refl

@@ -1,6 +1,6 @@
 -- The canonical form of an outcome (document 01, Canonical form and Refusals by place; document 02, K7). Assumes nothing.
 use mathlib.Core.List.{List, [], _∷_}
-use Prim.Native.Nat.{ℕ}
+use Prim.Native.Nat.{ℕ, _≤_}
 use lib.Dec.{ltb}
 use lib.ListN.{length}
 use Rattle.text.specs.Bytes.{pick}
@@ -35,3 +35,13 @@ formed r (done value openings) scratch out =
     pick (ltb (length scratch) 4) (called 18 (4 ∷ 0 ∷ []) (scratch ∷ out ∷ []))
     (besides (pick (ltb (length out) (length (canonical r value))) scratch (handed value scratch)) (finish (canonical r value) openings out))
 formed r (refused before openings number first second) scratch out = called number (first ∷ second ∷ []) (scratch ∷ out ∷ [])
+
+-- K7, the terms of "the same form, openings and refusals": a call's answer without its first buffer
+abbrev pub withoutScratch : Called → Called
+withoutScratch (called number words []) = called number words []
+withoutScratch (called number words (scratch ∷ buffers)) = called number words buffers
+
+-- room enough for what document 01 lays in the scratch
+abbrev pub HoldsWhole : Outcome → List ℕ → Type 0
+HoldsWhole (done value openings) scratch = length value ≤ length scratch
+HoldsWhole (refused before openings number first second) scratch = Unit {0}

@@ -1,6 +1,7 @@
--- K7, of the calls, for both readings: the same form, openings and refusals (`k7-same`, `k7-same-strict`), 18 (`k7-short`, `k7-walk-first`), the
--- character in hand (`k7-hand`), and what is left (`k7-no-room`). Assumes nothing.
+-- K7, of both calls: the same form, openings and refusals (`k7-same`), 18 (`k7-short`, `k7-walk-first`), the character in hand (`k7-hand`), and
+-- that 19 leaves it (`k7-no-room`). Assumes nothing.
 use mathlib.Core.Path.{_≡_, refl, ap, _∙_}
+use mathlib.Core.Bool.{Bool, true, false}
 use mathlib.Core.List.{List, [], _∷_}
 use Prim.Native.Nat.{ℕ, _≤_, _<_}
 use lib.ListN.{length}
@@ -10,14 +11,10 @@ use Rattle.text.specs.declared.Answer.{Answer}
 use Rattle.text.specs.declared.Answer.the-variants.{Done, Refused}
 use Rattle.canonical.specs.Canonical.{canonical}
 use Rattle.tokens.specs.Outcome.{Outcome, done, refused}
-use Rattle.attribute.specs.Form.{handed, formed, formedWhole}
-use Rattle.attribute.proofs.InHand.{withoutScratch, HoldsWhole, same-form, in-hand-short, in-hand-no-room, in-hand-done}
-use Rattle.govlezna.specs.Calls.{walkCheck, walked, walkedStrictly, canonicalFormCall, canonicalFormStrictCall}
-use Rattle.demands.specs.Demands.{Asked, ruleFor, Accepted, formOf}
-use Rattle.demands.specs.CallDemands.{canonicalOf}
-use Rattle.demands.proofs.CallDemands.{canonical-accepted}
-
--- ---- the same form, openings and refusals
+use Rattle.attribute.specs.Form.{handed, formed, formedWhole, withoutScratch, HoldsWhole}
+use Rattle.attribute.proofs.InHand.{same-form, in-hand-short, in-hand-no-room, in-hand-done}
+use Rattle.govlezna.specs.Calls.{walkCheck, canonicalFormCall, canonicalFormStrictCall}
+use Rattle.requests.specs.SmallScratch.{formCall, walkedBy}
 
 -- behind the checks of the arguments
 guarded-same : (c : Answer) (r : Rule) (o : Outcome) (whole small out : List ℕ) → HoldsWhole o whole → 4 ≤ length small
@@ -25,44 +22,58 @@ guarded-same : (c : Answer) (r : Rule) (o : Outcome) (whole small out : List ℕ
 guarded-same (Done first second) r o whole small out h k = same-form r o whole small out h k
 guarded-same (Refused number first second) r o whole small out h k = refl
 
-module _ (text : List ℕ) (version depth limit : ℕ) (list pool whole small out : List ℕ) (enough : 4 ≤ length small) where
+module _ (strict : Bool) (text : List ℕ) (version depth limit : ℕ) (list pool : List ℕ) where
+  abbrev checks : Answer
+  checks = walkCheck text version depth limit list pool
+
+  abbrev walks : Outcome
+  walks = walkedBy strict text version depth limit list pool
+
+  abbrev call : List ℕ → List ℕ → Called
+  call scratch out = formCall strict text version depth limit list pool scratch out
+
+  is-formed : (scratch out : List ℕ) → call scratch out ≡ guarded checks (scratch ∷ out ∷ []) (formed (ruleOf version) walks scratch out)
+  unfolding canonicalFormCall canonicalFormStrictCall
+  is-formed scratch out = go strict
+    where
+      go : (s : Bool) → formCall s text version depth limit list pool scratch out
+          ≡ guarded checks (scratch ∷ out ∷ []) (formed (ruleOf version) (walkedBy s text version depth limit list pool) scratch out)
+      go false = refl
+      go true = refl
+
   -- K7: "giving the same form, openings and refusals": as with a scratch that holds the whole value, all but the scratch
-  pub k7-same : HoldsWhole (walked text version depth limit list pool) whole
-      → withoutScratch (canonicalFormCall text version depth limit list pool small out)
-      ≡ withoutScratch (guarded (walkCheck text version depth limit list pool) (whole ∷ out ∷ [])
-      (formedWhole (ruleOf version) (walked text version depth limit list pool) whole out))
-  unfolding canonicalFormCall
-  k7-same h = guarded-same (walkCheck text version depth limit list pool) (ruleOf version) (walked text version depth limit list pool) whole small out h enough
+  pub k7-same : (whole small out : List ℕ) → HoldsWhole walks whole → 4 ≤ length small
+      → withoutScratch (call small out) ≡ withoutScratch (guarded checks (whole ∷ out ∷ []) (formedWhole (ruleOf version) walks whole out))
+  k7-same whole small out h k = ap withoutScratch (is-formed small out) ∙ guarded-same checks (ruleOf version) walks whole small out h k
 
-  pub k7-same-strict : HoldsWhole (walkedStrictly text version depth limit list pool) whole
-      → withoutScratch (canonicalFormStrictCall text version depth limit list pool small out)
-      ≡ withoutScratch (guarded (walkCheck text version depth limit list pool) (whole ∷ out ∷ [])
-      (formedWhole (ruleOf version) (walkedStrictly text version depth limit list pool) whole out))
-  unfolding canonicalFormStrictCall
-  k7-same-strict h =
-      guarded-same (walkCheck text version depth limit list pool) (ruleOf version) (walkedStrictly text version depth limit list pool) whole small out h enough
+  -- of what passes the checks
+  module _ (passed : checks ≡ Done 0 0) (scratch out : List ℕ) where
+    is-passed : call scratch out ≡ formed (ruleOf version) walks scratch out
+    is-passed = is-formed scratch out ∙ ap (λ (c : Answer). guarded c (scratch ∷ out ∷ []) (formed (ruleOf version) walks scratch out)) passed
 
--- ---- 18, and the scratch, of an accepted value
+    -- K7: 18 comes after the refusals of the walk, which leave the scratch, whatever its length
+    pub k7-walk-first : {before : List ℕ} {made number first second : ℕ} → walks ≡ refused before made number first second
+        → call scratch out ≡ called number (first ∷ second ∷ []) (scratch ∷ out ∷ [])
+    unfolding formed
+    k7-walk-first e = is-passed ∙ ap (λ (o : Outcome). formed (ruleOf version) o scratch out) e
 
-module _ (a : Asked) (value : List ℕ) (openings : ℕ) (p : Accepted a value openings) (scratch out : List ℕ) where
-  -- K7: "18 now means a scratch shorter than 4 bytes and names 4 as the length needed": for an empty value too, and whatever the output
-  pub k7-short : length scratch < 4 → canonicalOf a scratch out ≡ called 18 (4 ∷ 0 ∷ []) (scratch ∷ out ∷ [])
-  k7-short h = canonical-accepted a value openings p scratch out ∙ in-hand-short (ruleFor a) value openings scratch out h
+    module _ {value : List ℕ} {openings : ℕ} (has : walks ≡ done value openings) where
+      abbrev form : List ℕ
+      form = canonical (ruleOf version) value
 
-  -- K7: "after [..] 19 too, all of it is unchanged"
-  pub k7-no-room : 4 ≤ length scratch → length out < length (formOf a value)
-      → canonicalOf a scratch out ≡ called 19 (length (formOf a value) ∷ 0 ∷ []) (scratch ∷ out ∷ [])
-  k7-no-room h k = canonical-accepted a value openings p scratch out ∙ in-hand-no-room (ruleFor a) value openings scratch out h k
+      of-value : call scratch out ≡ formed (ruleOf version) (done value openings) scratch out
+      of-value = is-passed ∙ ap (λ (o : Outcome). formed (ruleOf version) o scratch out) has
 
-  -- K7: "After success its first 4 bytes are the last character of the value, filled up with zero bytes, the rest untouched; after an empty value
-  -- [..] all of it is unchanged"
-  pub k7-hand : 4 ≤ length scratch → length (formOf a value) ≤ length out
-      → canonicalOf a scratch out ≡ called 0 (length (formOf a value) ∷ openings ∷ []) (handed value scratch ∷ laid (formOf a value) out ∷ [])
-  k7-hand h k = canonical-accepted a value openings p scratch out ∙ in-hand-done (ruleFor a) value openings scratch out h k
+      -- K7: "18 now means a scratch shorter than 4 bytes and names 4 as the length needed": for an empty value too, and whatever the output
+      pub k7-short : length scratch < 4 → call scratch out ≡ called 18 (4 ∷ 0 ∷ []) (scratch ∷ out ∷ [])
+      k7-short h = of-value ∙ in-hand-short (ruleOf version) value openings scratch out h
 
--- 18 comes after the refusals of the walk, which leave the scratch, whatever its length
-pub k7-walk-first : (text : List ℕ) (version depth limit : ℕ) (list pool scratch out : List ℕ) {before : List ℕ} {made number first second : ℕ}
-    → walkCheck text version depth limit list pool ≡ Done 0 0 → walked text version depth limit list pool ≡ refused before made number first second
-    → canonicalFormCall text version depth limit list pool scratch out ≡ called number (first ∷ second ∷ []) (scratch ∷ out ∷ [])
-unfolding canonicalFormCall formed
-k7-walk-first text version depth limit list pool scratch out c o = rw (c, o)
+      -- K7: "after [..] 19 too, all of it is unchanged"
+      pub k7-no-room : 4 ≤ length scratch → length out < length form → call scratch out ≡ called 19 (length form ∷ 0 ∷ []) (scratch ∷ out ∷ [])
+      k7-no-room h k = of-value ∙ in-hand-no-room (ruleOf version) value openings scratch out h k
+
+      -- K7: "After success its first 4 bytes are the last character of the value, filled up with zero bytes, the rest untouched; after an empty value
+      -- [..] all of it is unchanged"
+      pub k7-hand : 4 ≤ length scratch → length form ≤ length out
+          → call scratch out ≡ called 0 (length form ∷ openings ∷ []) (handed value scratch ∷ laid form out ∷ [])
+      k7-hand h k = of-value ∙ in-hand-done (ruleOf version) value openings scratch out h k

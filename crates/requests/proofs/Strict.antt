@@ -17,7 +17,6 @@ use Rattle.text.specs.Version.{Rule, xml11}
 use Rattle.text.specs.Call.{Called, called, guarded, laid, finish}
 use Rattle.text.specs.declared.Answer.{Answer}
 use Rattle.text.specs.declared.Answer.the-variants.{Done, Refused}
-use Rattle.output.proofs.Finish.{finish-laid}
 use Rattle.output.proofs.Laid.{laid-front}
 use Rattle.entity.specs.Table.{marked}
 use Rattle.entity.specs.Binding.{binding}

@@ -4,3 +4,4 @@ pub mod Strict
 pub mod Unused
 pub mod Nmtokens
 pub mod C14n
+pub mod SmallScratch
