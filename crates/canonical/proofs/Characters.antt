@@ -8,7 +8,7 @@ use native.Mathlib.Omega.{arith}
 use lib.Dec.{eqb}
 use lib.ListN.{length}
 use borrow.Author.Tests.{eqb-true, eq-eqb, ne-eqb}
-use Rattle.text.specs.Bytes.{pick, begins}
+use Rattle.text.specs.Bytes.{pick}
 use Rattle.text.specs.Version.{Rule, xml10, xml11}
 use Rattle.text.proofs.Bytes.{and-left, and-right}
 use Rattle.eols.specs.Stops.{ruleFor}

@@ -4,7 +4,7 @@ use mathlib.Core.Path.{_≡_, refl, sym, ap, ap₂, subst, _∙_}
 use mathlib.Core.Bool.{Bool, true, false, _&&_, true≢false}
 use mathlib.Core.Logic.{_≢_, _⊎_, inl, inr, ⊎-elim}
 use mathlib.Core.List.{List, [], _∷_, _++_, append-assoc, append-nil}
-use Prim.Native.Nat.{ℕ, zero, suc, _+_, _-_, _≤_, _<_}
+use Prim.Native.Nat.{ℕ, suc, _+_, _-_, _≤_, _<_}
 use native.Mathlib.Omega.{arith}
 use lib.Dec.{eqb}
 use lib.ListN.{length, take, drop, getD, length-append, length-drop, drop-of-length-le, take-append-drop}
@@ -17,13 +17,13 @@ use Rattle.text.specs.Utf8.{WellFormed}
 use Rattle.text.proofs.Bytes.{inside, above, below, begins-split, pick-by}
 use Rattle.text.proofs.Patterns.{at-head, begins-fits}
 use Rattle.escape.specs.Escape.{attribute, levelSet, writeByte}
-use Rattle.escape.proofs.View.{Kind, Other, is-lt, is-gt, is-amp, is-apos, is-quot, is-cr, is-lf, is-tab, is-other, kind}
+use Rattle.escape.proofs.View.{Kind, is-lt, is-gt, is-amp, is-apos, is-quot, is-cr, is-lf, is-tab, is-other, kind}
 use Rattle.canonical.specs.Canonical.{canonical, canonicalFrom}
 use Rattle.canonical.specs.Starts.{Starts}
 use Rattle.canonical.specs.declared.Hand.{Hand}
 use Rattle.canonical.specs.LastCharacter.{handBytes, lastFrom, lastCharacter, filledUp, inHand, FormOf, Single, LastRaw, endsWith, lastNumbered, lastNamed}
 use Rattle.canonical.specs.LastCharacter.Single.{one, two, three, four}
-use Rattle.canonical.proofs.Append.{canonical-append, starts-append}
+use Rattle.canonical.proofs.Append.{canonical-append}
 use Rattle.canonical.proofs.Canonical.{Piece, by-level, as-nel, as-ls, as-c2, as-e2, Pieces, none, more, canonical-pieces, canonical-length}
 use Rattle.canonical.proofs.Characters.{byte-form, copied, no-lead, none as no-form}
 use Rattle.canonical.proofs.Singles.{Characters, characters}

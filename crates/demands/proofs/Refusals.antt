@@ -1,11 +1,10 @@
 -- Demand 1: each call refuses by the numbers of document 01 alone, and a refusal leaves what it was lent. Assumes nothing.
 use mathlib.Core.Path.{_≡_, refl}
-use Prim.Native.Nat.{ℕ, _+_, _≤_}
+use Prim.Native.Nat.{ℕ, _+_}
 use mathlib.Core.Bool.{Bool, true, false}
 use mathlib.Core.List.{List, [], _∷_}
 use lib.ListN.{length, drop}
 use lib.Dec.{eqb, ltb}
-use borrow.Author.Tests.{ltb-false}
 use Rattle.text.specs.Bytes.{pick}
 use Rattle.text.specs.Version.{Rule, ruleOf}
 use Rattle.text.specs.Call.{Called, called, callOf, andThen, guarded, laid, finish, lengthCheck, versionCheck, utf8Check, textCheck, argumentCheck}

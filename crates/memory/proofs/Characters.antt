@@ -3,7 +3,7 @@
 use mathlib.Core.Path.{_≡_, refl, sym, ap, subst, _∙_}
 use mathlib.Core.Bool.{Bool, true, false, _&&_, _||_, true≢false}
 use mathlib.Core.List.{List, [], _∷_, _++_}
-use Prim.Native.Nat.{ℕ, zero, suc, _+_, _-_, _≤_, _<_}
+use Prim.Native.Nat.{ℕ, zero, suc, _+_, _-_, _<_}
 use native.Mathlib.Omega.{arith}
 use native.Mathlib.Numerals.{add-one}
 use lib.Dec.{eqb, leb, ltb}
@@ -12,7 +12,7 @@ use lib.Seq.{drop-cons, drop-drop}
 use borrow.Author.Tests.{eqb-true, ltb-true, ltb-false}
 use Rattle.text.specs.Bytes.{pick, begins}
 use Rattle.text.specs.Utf8.{State, between, one, two, three, after-e0, after-ed, after-f0, after-f4, broken, next, after, WellFormed}
-use Rattle.text.proofs.Bytes.{pick-by, pick-both}
+use Rattle.text.proofs.Bytes.{pick-both}
 use Rattle.text.proofs.Utf8.{after-append, settled, next-ascii, never-between}
 use Rattle.eols.specs.Stops.{ruleFor}
 use Rattle.charref.specs.CharRef.{anyCharacter}
@@ -20,9 +20,9 @@ use Rattle.charref.specs.declared.CharNumber.{CharNumber}
 use Rattle.charref.specs.declared.CharNumber.the-variants.{Char}
 use Rattle.legal.specs.Legal.{faultAt}
 use Rattle.legal.specs.FirstFault.{mayBy}
-use Rattle.halts.specs.Halts.{halts, HaltAt, spaced, blanksSpaced}
-use Rattle.tokens.specs.Tokens.{kept, space, number, named, unterminated, Stop, Token, copy, stop, barred, Head, head, Heads, tokenOf, skipOf}
-use Rattle.tokens.specs.Outcome.{Outcome, done, refused}
+use Rattle.halts.specs.Halts.{halts, HaltAt, blanksSpaced}
+use Rattle.tokens.specs.Tokens.{kept, space, number, named, unterminated, Token, copy, stop, barred, Head, head, Heads, tokenOf, skipOf}
+use Rattle.tokens.specs.Outcome.{done, refused}
 use Rattle.tokens.specs.Walking.{headAt, nextAt, outcomeOf}
 use Rattle.tokens.proofs.Carried.{Moves, Moving}
 use Rattle.tokens.proofs.WellFormedness.{Leaves, utf8, any-own}

@@ -20,7 +20,6 @@ use Rattle.charref.specs.declared.CharNumber.the-variants.{Char, Forbidden}
 use Rattle.legal.specs.Legal.{isChar}
 use Rattle.legal.specs.FirstFault.{Clean}
 use Rattle.eols.specs.Stops.{ruleFor}
-use Rattle.eols.specs.declared.Step.{Step}
 use Rattle.halts.proofs.Spaces.{spaced-length}
 use Rattle.halts.specs.Halts.{Smooth, HaltAt, blanksSpaced}
 use Rattle.entity.specs.Table.{ValidTable}

@@ -1,11 +1,10 @@
 -- `bytes_at`: the first i bytes are there (`bytes-next`), so that the rest decides. Assumes nothing.
-use mathlib.Core.Path.{_≡_, refl, sym, ap, _∙_}
+use mathlib.Core.Path.{_≡_, refl, sym, _∙_}
 use native.Mathlib.Omega.{arith}
-use Prim.Native.Nat.{ℕ, _+_, _-_, _≤_, _<_}
+use Prim.Native.Nat.{_+_, _-_, _≤_, _<_}
 use lib.ListN.{length, drop}
 use Rattle.text.specs.Bytes.{begins}
 use Rattle.canonical.proofs.LastCharacter.{bytes-next, bytes-differ, bytes-over}
-use borrow.Author.Needs.{needs}
 use Rattle.canonical.proofs.bytes_at.Statement.{statement}
 use Rattle.canonical.proofs.bytes_at.Tie as tie
 

@@ -1,5 +1,4 @@
 -- `ends_with`: a form that is shorter ends with none of the bytes (`ends-short`). Assumes nothing.
-use native.Mathlib.Omega.{arith}
 use Rattle.canonical.proofs.LastCharacter.{ends-short}
 use borrow.Author.Needs.{needs}
 use Rattle.canonical.proofs.ends_with.Statement.{statement}

@@ -1,13 +1,10 @@
 -- `last_of`: a `;` at the end is that of a reference, or the character (`last-named`); else the character stands there (`ends-as-is`). Assumes nothing.
-use mathlib.Core.Path.{_≡_, sym, ap, _∙_}
-use mathlib.Core.Bool.{true, false}
-use Prim.Native.Nat.{_-_, _≤_}
+use mathlib.Core.Path.{sym, ap, _∙_}
+use Prim.Native.Nat.{_-_}
 use native.Mathlib.Omega.{arith}
-use lib.Dec.{eqb}
-use lib.ListN.{length, getD}
 use borrow.Author.Tests.{eq-eqb, ne-eqb}
-use Rattle.canonical.specs.LastCharacter.{filledUp, LastRaw}
-use Rattle.canonical.proofs.LastCharacter.{Ending, ending, form-some, ends-as-is, ends-raw, last-named}
+use Rattle.canonical.specs.LastCharacter.{filledUp}
+use Rattle.canonical.proofs.LastCharacter.{ending, form-some, ends-as-is, ends-raw, last-named}
 use borrow.Author.Needs.{needs}
 use Rattle.canonical.proofs.last_of.Statement.{statement}
 use Rattle.canonical.proofs.last_of.Tie as tie

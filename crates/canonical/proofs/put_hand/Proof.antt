@@ -1,12 +1,7 @@
 -- `put_hand`: four stores are the four bytes laid over the scratch (`hand-laid`). Assumes nothing.
-use mathlib.Core.Path.{_≡_, ap, _∙_}
-use mathlib.Core.List.{List, [], _∷_, _++_}
-use Prim.Native.Nat.{ℕ, _≤_, _<_}
+use mathlib.Core.List.{[], _∷_}
 use native.Mathlib.Omega.{arith}
-use lib.ListN.{length, drop}
-use lib.Seq.{sets, sets-eq, lt-length-sets}
-use Rattle.text.specs.Call.{laid}
-use Rattle.canonical.specs.LastCharacter.{handBytes, inHand}
+use lib.Seq.{lt-length-sets}
 use Rattle.canonical.proofs.LastCharacter.{hand-laid}
 use borrow.Author.Needs.{needs}
 use Rattle.canonical.proofs.put_hand.Statement.{statement}

@@ -1,9 +1,8 @@
 -- `raw_hand`: the bytes at the end tell how many of them are the character (`Back`). Assumes nothing.
-use mathlib.Core.Path.{_≡_, sym, ap, _∙_}
+use mathlib.Core.Path.{sym, ap, _∙_}
 use native.Mathlib.Omega.{arith}
-use Prim.Native.Nat.{_-_, _≤_, _<_}
-use lib.ListN.{length, getD}
-use Rattle.canonical.specs.LastCharacter.{filledUp, LastRaw}
+use Prim.Native.Nat.{_-_}
+use Rattle.canonical.specs.LastCharacter.{filledUp}
 use Rattle.canonical.proofs.LastCharacter.{Back, seen, back-some, back-one, more-than-1, back-two, more-than-2, back-three, more-than-3, back-four}
 use borrow.Author.Needs.{needs}
 use Rattle.canonical.proofs.raw_hand.Statement.{statement}

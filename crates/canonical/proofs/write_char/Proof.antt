@@ -1,10 +1,6 @@
 -- `write_char`: each way out by the law of its kind of character (proofs/Characters.antt). Assumes nothing.
-use mathlib.Core.Path.{_≡_, sym, ap, _∙_}
-use mathlib.Core.List.{List}
-use Prim.Native.Nat.{ℕ, _≤_}
+use mathlib.Core.Path.{_≡_, ap}
 use native.Mathlib.Omega.{arith}
-use lib.ListN.{length}
-use Rattle.text.specs.Call.{laid}
 use Rattle.eols.specs.Stops.{ruleFor}
 use Rattle.charref.specs.CharRef.{encode}
 use Rattle.canonical.specs.Canonical.{canonical}

@@ -1,6 +1,4 @@
 -- `shown_byte` meets its contract by the test that was taken. Assumes nothing.
-use mathlib.Core.Path.{sym}
-use Rattle.escape.specs.Scan.{shownByte}
 use Rattle.escape.proofs.shown_byte.Statement.{statement}
 use Rattle.escape.proofs.shown_byte.Tie as tie
 

@@ -1,9 +1,8 @@
 -- The call is refused as the walk is, for want of a scratch, or of room (`hand-refused`); else its output begins with the form (`form-made`), off
 -- the end of which the last character of the value is read.
-use mathlib.Core.Path.{_≡_, sym, ap, _∙_}
+use mathlib.Core.Path.{sym, ap, _∙_}
 use mathlib.Core.List.{List, [], _∷_}
 use Prim.Native.Nat.{ℕ}
-use lib.ListN.{length}
 use lib.Seq.{length-take-le}
 use Rattle.text.specs.Version.{ruleOf}
 use Rattle.text.specs.Utf8.{WellFormed}
