@@ -35,7 +35,7 @@ use Rattle.cycle.specs.Cycle.{Bottom, innerStart, LentInner}
 
 -- what the walk of the text is set to that the step opens
 abbrev pub below : Reading → Place → Reading
-below r p = record { how = r .inner; inner = r .inner; guard = r .inguard; inguard = r .inguard; depth = r .depth - 1; limit = r .limit; form = r .form; base = r .base + p .len }
+below r p = record { how = r .inner; inner = r .inner; guard = r .inguard; inguard = r .inguard; form = r .form; depth = r .depth - 1; limit = r .limit; base = r .base + p .len }
 
 module _ (r : Reading) (p : Place) (list pool : List ℕ) (command : ℕ) where
   abbrev settings : Settings

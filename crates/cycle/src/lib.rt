@@ -128,9 +128,9 @@ fn normalize_attr_step(
         inner: reading.inner,
         guard: reading.inguard,
         inguard: reading.inguard,
+        form: reading.form,
         depth: depth - 1,
         limit: reading.limit,
-        form: reading.form,
         base: reading.base + place.len,
     };
     match normalize_attr_steps(&pool[start..end], begun, below, list, pool, seen, out) {

@@ -263,7 +263,7 @@ module _ (r : Reading) (list pool t : List ℕ) where
 pub inner-level : (r : Reading) (list pool : List ℕ) (command base : ℕ)
     → innerLevel (settingsOf r list pool) (r .form) list pool (r .depth) command
     ≡ levelOf
-    (record { how = r .inner; inner = r .inner; guard = r .inguard; inguard = r .inguard; depth = r .depth - 1; limit = r .limit; form = r .form; base = base })
+    (record { how = r .inner; inner = r .inner; guard = r .inguard; inguard = r .inguard; form = r .form; depth = r .depth - 1; limit = r .limit; base = base })
     list pool (commandText list pool command)
 inner-level r list pool command base =
     ap (λ (h : Heads). the-level h) (by-inner (r .inner) (r .inguard) list pool (r .limit))

@@ -124,7 +124,7 @@ clean-e = record { from = omega arith; to = omega arith; none = λ k g h. refl }
 
 -- the reading as XML 1.0, at a depth
 abbrev rd : ℕ → Reading
-rd depth = record { how = 0; inner = 0; guard = 0; inguard = 0; depth = depth; limit = 2; form = 0; base = 0 }
+rd depth = record { how = 0; inner = 0; guard = 0; inguard = 0; form = 0; depth = depth; limit = 2; base = 0 }
 
 abbrev outer : ℕ → List ℕ → Level
 outer depth t = levelOf (rd depth) list pool t

@@ -20,17 +20,17 @@ use entity::Binding;
 use entity::Referent;
 
 // What a level of a walk is set to: how its text is read and how the texts inside it are (0 as XML 1.0, 1 as XML 1.1, 2 past line ends),
-// which characters may stand in it and in these (0 all, else the rule of that number less one of crate legal), its depth, the opening
-// limit, what is written of its value (0 the value itself, 1 its canonical form under XML 1.0, 2 under XML 1.1), and where that starts in
-// all that the call writes.
+// which characters may stand in it and in these (0 all, else the rule of that number less one of crate legal), what is written of its value
+// (0 the value itself, 1 its canonical form under XML 1.0, 2 under XML 1.1), its depth, the opening limit, and where what is written starts
+// in all that the call writes. The bytes stand together: every level has copies of it on the stack.
 pub struct Reading {
     pub how: u8,
     pub inner: u8,
     pub guard: u8,
     pub inguard: u8,
+    pub form: u8,
     pub depth: u64,
     pub limit: u64,
-    pub form: u8,
     pub base: usize,
 }
 

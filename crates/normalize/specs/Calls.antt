@@ -27,9 +27,9 @@ readingFor w past form =
       inner = pick past 2 (pick newer 1 0);
       guard = pick (w .strict) (pick newer 2 1) 0;
       inguard = pick (w .strict) (pick newer 3 1) 0;
+      form = form;
       depth = w .depth;
       limit = w .limit;
-      form = form;
       base = 0;
     }
 
@@ -46,7 +46,7 @@ formOf r list pool text = shapedIn (r .form) (walkOf r list pool text)
 
 -- the same walk over the value itself
 abbrev pub plainly : Reading → Reading
-plainly r = record { how = r .how; inner = r .inner; guard = r .guard; inguard = r .inguard; depth = r .depth; limit = r .limit; form = 0; base = r .base }
+plainly r = record { how = r .how; inner = r .inner; guard = r .guard; inguard = r .inguard; form = 0; depth = r .depth; limit = r .limit; base = r .base }
 
 -- document 02, K7: what a call answers that has success in its walk: 18 where a scratch of 4 bytes is wanted and lacks, else what is written of
 -- the value

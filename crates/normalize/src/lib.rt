@@ -197,9 +197,9 @@ fn as_value(reading: Reading) -> Reading
         inner: reading.inner,
         guard: reading.guard,
         inguard: reading.inguard,
+        form: 0,
         depth: reading.depth,
         limit: reading.limit,
-        form: 0,
         base: reading.base,
     }
 }
@@ -421,9 +421,9 @@ fn reading_for(list: &[u8], wanted: Wanted, form: u8) -> Reading
         inner,
         guard: outer_guard(wanted.strict, newer),
         inguard: inner_guard(wanted.strict, newer),
+        form,
         depth: wanted.depth,
         limit: wanted.limit,
-        form,
         base: 0,
     }
 }
