@@ -21,8 +21,9 @@ use Rattle.escape.proofs.View.{Kind, is-lt, is-gt, is-amp, is-apos, is-quot, is
 use Rattle.canonical.specs.Canonical.{canonical, canonicalFrom}
 use Rattle.canonical.specs.Starts.{Starts}
 use Rattle.canonical.specs.declared.Hand.{Hand}
-use Rattle.canonical.specs.LastCharacter.{handBytes, lastFrom, lastCharacter, filledUp, inHand, FormOf, Single, LastRaw, endsWith, lastNumbered, lastNamed}
-use Rattle.canonical.specs.LastCharacter.Single.{one, two, three, four}
+use Rattle.canonical.specs.LastCharacter.{lastFrom, lastCharacter, filledUp, inHand}
+use Rattle.canonical.specs.FormEnds.{handBytes, FormOf, Single, LastRaw, endsWith, lastNumbered, lastNamed}
+use Rattle.canonical.specs.FormEnds.Single.{one, two, three, four}
 use Rattle.canonical.proofs.Append.{canonical-append}
 use Rattle.canonical.proofs.Canonical.{Piece, by-level, as-nel, as-ls, as-c2, as-e2, Pieces, none, more, canonical-pieces, canonical-length}
 use Rattle.canonical.proofs.Characters.{byte-form, copied, no-lead, none as no-form}

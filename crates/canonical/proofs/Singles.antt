@@ -13,8 +13,8 @@ use Rattle.text.specs.Utf8.{State, between, one, two, three, after-e0, after-ed
 use Rattle.text.proofs.Bytes.{within-low, within-top}
 use Rattle.text.proofs.Utf8.{never-between}
 use Rattle.text.proofs.FirstByte.{first-ascii, first-low, first-one, first-e0, first-ed, first-two, first-f0, first-three, first-f4, first-high}
-use Rattle.canonical.specs.LastCharacter.{Single}
-use Rattle.canonical.specs.LastCharacter.Single.{one as single-one, two as single-two, three as single-three, four as single-four}
+use Rattle.canonical.specs.FormEnds.{Single}
+use Rattle.canonical.specs.FormEnds.Single.{one as single-one, two as single-two, three as single-three, four as single-four}
 
 pub data Characters : List ℕ → Type 0 where
   none : Characters []

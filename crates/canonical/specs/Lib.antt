@@ -1,4 +1,5 @@
 pub mod Canonical
 pub mod LastCharacter
+pub mod FormEnds
 pub mod Runs
 pub mod Starts

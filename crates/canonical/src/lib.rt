@@ -18,7 +18,8 @@ ghost use Rattle.canonical.specs.Canonical.{canonical};
 ghost use Rattle.runs.specs.Specials.{special, Common};
 ghost use Rattle.output.specs.Runs.{Plain};
 ghost use Rattle.canonical.specs.Runs.{specialReference, changedBy, Unchanged};
-ghost use Rattle.canonical.specs.LastCharacter.{filledUp, inHand, handBytes, FormOf, Single, LastRaw, endsWith, lastNumbered, lastNamed};
+ghost use Rattle.canonical.specs.LastCharacter.{filledUp, inHand};
+ghost use Rattle.canonical.specs.FormEnds.{handBytes, FormOf, Single, LastRaw, endsWith, lastNumbered, lastNamed};
 use escape::EscapeChars;
 use text::pattern;
 

@@ -20,7 +20,8 @@ use Rattle.output.proofs.Laid.{laid-length}
 use Rattle.eols.specs.Stops.{ruleFor}
 use Rattle.eols.proofs.LineEnds.{version-rule}
 use Rattle.canonical.specs.Canonical.{canonical}
-use Rattle.canonical.specs.LastCharacter.{inHand, FormOf}
+use Rattle.canonical.specs.LastCharacter.{inHand}
+use Rattle.canonical.specs.FormEnds.{FormOf}
 use Rattle.canonical.proofs.Canonical.{canonical-length}
 use Rattle.tokens.specs.Outcome.{Outcome, done, refused, answerIn, leftIn}
 use Rattle.tokens.specs.Walking.{Ended}

@@ -14,7 +14,7 @@ ghost use Rattle.text.specs.Simple.{Simple};
 ghost use Rattle.text.specs.Utf8.{WellFormed};
 ghost use Rattle.eols.specs.Stops.{ruleFor};
 ghost use Rattle.canonical.specs.Canonical.{canonical};
-ghost use Rattle.canonical.specs.LastCharacter.{FormOf};
+ghost use Rattle.canonical.specs.FormEnds.{FormOf};
 ghost use Rattle.halts.specs.Halts.{HaltAt, blanksSpaced};
 ghost use Rattle.entity.specs.Table.{marked, ValidTable};
 ghost use Rattle.tokens.specs.Outcome.{done, finished};
