@@ -18,7 +18,7 @@
  *   `text` and `out` (for govlezna_register_count both are read alone), `used` points to a writable word.
  * - What a call may write overlaps nothing else that it is lent.
  * Nothing is kept after a call, and no call allocates: calls on different buffers may run at the same time.
- * A call takes at most 72 KiB of stack: about 530 bytes for each level of depth (measured at depth 128: 69,832 bytes).
+ * A call takes at most 72 KiB of stack: about 550 bytes for each level of depth (measured at depth 128: 72,072 bytes).
  *
  * Time: a call checks all of its text and all of its table each time, whatever part it then needs; beyond that it takes
  * what is said below.
