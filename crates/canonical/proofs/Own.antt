@@ -1,7 +1,7 @@
 -- A run without the bytes of `changedBy` is its own canonical form, TAB and LF as spaces (`own-form`). Runs tested by blocks, the last of which
 -- may overlap with the one before it (`block-more`, `block-last`). Assumes nothing.
 use mathlib.Core.Path.{_≡_, refl, ap, _∙_}
-use mathlib.Core.Bool.{Bool, true, false, _||_, true≢false}
+use mathlib.Core.Bool.{Bool, true, false, _&&_, _||_, true≢false}
 use mathlib.Core.List.{List, [], _∷_}
 use Prim.Native.Nat.{ℕ, suc, _+_, _-_, _≤_, _<_, min}
 use native.Mathlib.Omega.{arith}
@@ -12,6 +12,8 @@ use Rattle.text.proofs.Bytes.{or-left, or-right}
 use Rattle.output.specs.Runs.{Plain}
 use Rattle.eols.specs.Stops.{ruleFor}
 use Rattle.halts.specs.Halts.{spaced, blanksSpaced}
+use Rattle.escape.specs.Escape.{full}
+use Rattle.escape.specs.Scan.{escapedBy, levelChars}
 use Rattle.escape.proofs.View.{Kind, Other, is-lt, is-gt, is-amp, is-apos, is-quot, is-cr, is-lf, is-tab, is-other, kind}
 use Rattle.canonical.specs.Canonical.{canonical}
 use Rattle.canonical.specs.Runs.{changedBy, Unchanged}
@@ -19,20 +21,33 @@ use Rattle.canonical.proofs.Spaced.{spaced-other}
 
 -- ---- the form
 
+-- the bytes in the order of the code
+pub changed-byte : (newer : Bool) (b : ℕ) → Kind b
+    → eqb b 60 || eqb b 62 || eqb b 38 || eqb b 39 || eqb b 34 || eqb b 13 || (newer && (eqb b 0xC2 || eqb b 0xE2)) ≡ changedBy newer b
+unfolding changedBy
+changed-byte newer b is-lt = refl
+changed-byte newer b is-gt = refl
+changed-byte newer b is-amp = refl
+changed-byte newer b is-apos = refl
+changed-byte newer b is-quot = refl
+changed-byte newer b is-cr = refl
+changed-byte newer b is-lf = refl
+changed-byte newer b is-tab = refl
+changed-byte newer b (is-other o) = rw (o .no-apos, o .no-quot, o .no-gt, o .no-lt, o .no-amp, o .no-cr)
+
 -- a byte is written as it is, and stands for no other
 own-other : (newer : Bool) (b : ℕ) (t : List ℕ) → Other b → changedBy newer b ≡ false → canonical (ruleFor newer) (b ∷ t) ≡ b ∷ canonical (ruleFor newer) t
-unfolding canonical
+unfolding canonical changedBy
 own-other false b t o e = rw (o .no-lf, o .no-tab, o .no-apos, o .no-quot, o .no-gt, o .no-lt, o .no-amp, o .no-cr)
 own-other true b t o e =
-    let others = eqb b 60 || eqb b 62 || eqb b 38 || eqb b 39 || eqb b 34 || eqb b 13 in
-    let no-start = or-right others (eqb b 0xC2 || eqb b 0xE2) e in
+    let no-start = or-right (escapedBy (levelChars full) b) (eqb b 0xC2 || eqb b 0xE2) e in
     let no-c2 = or-left (eqb b 0xC2) (eqb b 0xE2) no-start in
     let no-e2 = or-right (eqb b 0xC2) (eqb b 0xE2) no-start in
     rw (no-c2, no-e2, o .no-lf, o .no-tab, o .no-apos, o .no-quot, o .no-gt, o .no-lt, o .no-amp, o .no-cr)
 
 own-byte : (newer : Bool) (b : ℕ) (t : List ℕ) → Kind b → changedBy newer b ≡ false
     → canonical (ruleFor newer) (spaced b ∷ t) ≡ spaced b ∷ canonical (ruleFor newer) t
-unfolding canonical
+unfolding canonical changedBy
 own-byte newer b t is-lt e = absurd (true≢false e)
 own-byte newer b t is-gt e = absurd (true≢false e)
 own-byte newer b t is-amp e = absurd (true≢false e)

@@ -5,6 +5,8 @@ use mathlib.Core.Bool.{Bool, _&&_, _||_}
 use mathlib.Core.List.{List, [], _∷_}
 use Rattle.text.specs.Bytes.{pick}
 use Rattle.output.specs.Runs.{Plain}
+use Rattle.escape.specs.Escape.{full}
+use Rattle.escape.specs.Scan.{escapedBy, levelChars}
 use lib.Dec.{eqb}
 use lib.ListN.{length}
 
@@ -13,9 +15,9 @@ abbrev pub specialReference : ℕ → List ℕ
 specialReference width = pick (eqb width 2) (38 ∷ 35 ∷ 49 ∷ 51 ∷ 51 ∷ 59 ∷ []) (38 ∷ 35 ∷ 56 ∷ 50 ∷ 51 ∷ 50 ∷ 59 ∷ [])
 
 -- the bytes that are written otherwise than as themselves or as a space, or, under 1.1, that may begin one that is
-abbrev pub changedBy : Bool → ℕ → Bool
-changedBy newer b =
-    eqb b 60 || eqb b 62 || eqb b 38 || eqb b 39 || eqb b 34 || eqb b 13 || (newer && (eqb b 0xC2 || eqb b 0xE2))
+unfoldable pub changedBy : Bool → ℕ → Bool
+unfolding escapedBy levelChars
+changedBy newer b = escapedBy (levelChars full) b || (newer && (eqb b 0xC2 || eqb b 0xE2))
 
 -- a run without them
 abbrev pub Unchanged : Bool → List ℕ → Type 0

@@ -174,7 +174,8 @@ pub fn write_spaced(run: &[u8], newer: bool, out: &mut [u8]) -> usize
 
 // ---- a run that is its own form
 
-// Is the byte written otherwise, or may it begin what is? No branch: blocks of them run on vectors.
+// Is the byte written otherwise, or may it begin what is? No branch: blocks of them run on vectors. `<` and `>`, `&` and `'` differ in one bit,
+// and are one comparison where they stand side by side.
 fn is_changed(b: u8, newer: bool) -> bool
     ensures { λ r. ⌜ r ≡ changedBy newer b ⌝ }
 {

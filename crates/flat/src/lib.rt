@@ -19,7 +19,7 @@ ghost use Rattle.halts.specs.Halts.{halts, HaltAt, blanksSpaced};
 ghost use Rattle.entity.specs.Table.{ValidTable};
 ghost use Rattle.attribute.specs.Steps.{headsBy, faultBy, legalBy, Blank};
 ghost use Rattle.memory.specs.Slots.{shaped, Trusts};
-ghost use Rattle.memory.specs.Levels.{Adds, Bounds, Lent, FlatKeeps, levelOf};
+ghost use Rattle.memory.specs.Levels.{Bounds, Lent, FlatKeeps, levelOf};
 ghost use Rattle.flat.specs.Between.{Writes, Leaf, Means, ForName, ForPlain, handedTo, NumberMeans, HaltKeeps, Referred};
 use charref::CharNumber;
 use entity::Referent;
@@ -72,7 +72,7 @@ enum Halted {
 // The canonical form of a value.
 pub fn write_value(value: &[u8], len: usize, newer: bool, out: &mut [u8]) -> usize
     requires { ⌜ (length (now value) ≤ 16777216) × (len ≤ 0x1000000000000) ⌝ }
-    ensures { λ r. ⌜ (r ≡ length (canonical (ruleFor newer) (now (value .entry)))) × Adds (canonical (ruleFor newer) (now (value .entry))) len (now (out .entry)) (now (out .exit)) ⌝ }
+    ensures { λ r. ⌜ Writes (canonical (ruleFor newer) (now (value .entry))) len (now (out .entry)) (now (out .exit)) r ⌝ }
 {
     let n = canonical::canonical_length(value, newer);
     if len + n <= out.len() {
@@ -134,7 +134,7 @@ fn write_run(text: &[u8], from: usize, to: usize, len: usize, form: u8, out: &mu
 // The canonical form of a character.
 fn write_char_form(c: u32, len: usize, newer: bool, out: &mut [u8]) -> usize
     requires { ⌜ (c ≤ 1114111) × (len ≤ 0x1000000000000) ⌝ }
-    ensures { λ r. ⌜ (r ≡ length (canonical (ruleFor newer) (encode c))) × Adds (canonical (ruleFor newer) (encode c)) len (now (out .entry)) (now (out .exit)) ⌝ }
+    ensures { λ r. ⌜ Writes (canonical (ruleFor newer) (encode c)) len (now (out .entry)) (now (out .exit)) r ⌝ }
 {
     let n = canonical::char_length(c, newer);
     if len + n <= out.len() {
@@ -146,7 +146,7 @@ fn write_char_form(c: u32, len: usize, newer: bool, out: &mut [u8]) -> usize
 // A character above ASCII.
 fn write_wide(c: u32, len: usize, out: &mut [u8]) -> usize
     requires { ⌜ (c ≤ 1114111) × (len ≤ 0x1000000000000) ⌝ }
-    ensures { λ r. ⌜ (r ≡ length (encode c)) × Adds (encode c) len (now (out .entry)) (now (out .exit)) ⌝ }
+    ensures { λ r. ⌜ Writes (encode c) len (now (out .entry)) (now (out .exit)) r ⌝ }
 {
     let size = charref::utf8_length(c);
     if len + size <= out.len() {

@@ -1,5 +1,5 @@
 -- The canonical form of a call, with 4 bytes of scratch: where it is refused (`hand-refused`), and where it is written (`hand-made`), the last
--- character of whose value goes to the scratch (`hand-laid`), unless it is empty (`hand-empty`). Assumes nothing.
+-- character of whose value goes to the scratch (`handed-laid`), unless it is empty (`hand-empty`). Assumes nothing.
 use mathlib.Core.Path.{_≡_, refl, sym, ap, ap₂, subst, _∙_}
 use mathlib.Core.Logic.{_≢_}
 use mathlib.Core.Bool.{Bool, true, false}
@@ -149,6 +149,6 @@ hand-empty form n rule (b ∷ bs) scratch q = absurd (omega (arith, n, ap length
 pub hand-some : (form : List ℕ) → length form ≢ 0 → (rule : Rule) (value : List ℕ) → form ≡ canonical rule value → 1 ≤ length value
 hand-some form n rule value q = omega (arith, n, ap length q, canonical-length rule value .1)
 
-pub hand-laid : (value scratch : List ℕ) → 1 ≤ length value → laid (inHand value) scratch ≡ handed value scratch
-hand-laid [] scratch h = absurd (omega (arith, h))
-hand-laid (b ∷ bs) scratch h = refl
+pub handed-laid : (value scratch : List ℕ) → 1 ≤ length value → laid (inHand value) scratch ≡ handed value scratch
+handed-laid [] scratch h = absurd (omega (arith, h))
+handed-laid (b ∷ bs) scratch h = refl

@@ -204,7 +204,7 @@ fn as_value(reading: Reading) -> Reading
     }
 }
 
-// What is written, after a count of it.
+// What is written, after a count of it. By itself, as `normalize_into` with a second user would no longer be compiled into the calls.
 fn form_counted(
     text: &[u8],
     first: usize,

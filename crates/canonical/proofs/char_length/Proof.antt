@@ -32,13 +32,17 @@ special-length-requires : tie.Need-special-length-requires
 special-length-requires c κs = search needs
 
 returns-2 : tie.Need-returns-2
-returns-2 c = let given = c .before .before .before .args in c .special-length .ensures .0 ∙ sym (ap length (char-special (given .newer) (given .c) 2 (c .before .if2 .taken)))
+returns-2 c =
+    let given = c .before .before .before .args in
+    c .special-length .ensures .0 ∙ sym (ap length (char-special (given .newer) (given .c) 2 (c .before .if2 .taken)))
 
 special-length-requires-2 : tie.Need-special-length-requires-2
 special-length-requires-2 c κs = search needs
 
 returns-3 : tie.Need-returns-3
-returns-3 c = let given = c .before .before .before .before .args in c .special-length2 .ensures .0 ∙ sym (ap length (char-special (given .newer) (given .c) 3 (c .before .if3 .taken)))
+returns-3 c =
+    let given = c .before .before .before .before .args in
+    c .special-length2 .ensures .0 ∙ sym (ap length (char-special (given .newer) (given .c) 3 (c .before .if3 .taken)))
 
 utf8-length-requires : tie.Need-utf8-length-requires
 utf8-length-requires c κs = search needs
@@ -46,8 +50,10 @@ utf8-length-requires c κs = search needs
 returns-4 : tie.Need-returns-4
 returns-4 c =
     let given = c .before .before .before .before .args in
-    c .utf8-length .ensures
-    ∙ sym (ap length (char-plain (ruleFor (given .newer)) (given .c) (omega (arith, c .before .before .before .if1 .left)) (apart (given .newer) (given .c) (c .before .before .if2 .left) (c .before .if3 .left))))
+    let others = c .before in
+    let none = apart (given .newer) (given .c) (others .before .if2 .left) (others .if3 .left) in
+    let wide = others .before .before .if1 .left in
+    c .utf8-length .ensures ∙ sym (ap length (char-plain (ruleFor (given .newer)) (given .c) (omega (arith, wide)) none))
 
 pub char-length-spec : {M : Type 1} → statement M
 char-length-spec =

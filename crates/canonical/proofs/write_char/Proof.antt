@@ -52,7 +52,9 @@ same-length-2 c = search needs
 returns-2 : tie.Need-returns-2
 returns-2 c =
     let given = c .before .before .before .before .before .before .before .before .args in
-    reference-put (given .out .now) (char-special (given .newer) (given .c) 2 (c .before .before .before .before .before .if2 .taken)) (c .special-length .ensures .0, c .before .before .before .put-special .ensures)
+    let put = c .before .before .before in
+    let own = char-special (given .newer) (given .c) 2 (put .before .before .if2 .taken) in
+    reference-put (given .out .now) own (c .special-length .ensures .0, put .put-special .ensures)
 
 put-special-requires-2 : tie.Need-put-special-requires-2
 put-special-requires-2 c κs =
@@ -68,8 +70,9 @@ same-length-3 c = search needs
 returns-3 : tie.Need-returns-3
 returns-3 c =
     let given = c .before .before .before .before .before .before .before .before .before .args in
-    let own = char-special (given .newer) (given .c) 3 (c .before .before .before .before .before .if3 .taken) in
-    reference-put (given .out .now) own (c .special-length2 .ensures .0, c .before .before .before .put-special2 .ensures)
+    let put = c .before .before .before in
+    let own = char-special (given .newer) (given .c) 3 (put .before .before .if3 .taken) in
+    reference-put (given .out .now) own (c .special-length2 .ensures .0, put .put-special2 .ensures)
 
 encode-utf8-requires : tie.Need-encode-utf8-requires
 encode-utf8-requires c κs =

@@ -127,7 +127,8 @@ step-sound : (t : ℕ) (c : Told t)
 step-sound t c =
     let begin = step-begin t c in
     let a = begin .args in
-    by-sound (a .reading .inner) (a .reading .inguard) (a .list .now) (a .pool .now) (a .reading .limit) (λ k. omega (arith, c .before .before .before .before .before .shared-slice-known .given k)) (begin .pre .1 .0)
+    let bytes = c .before .before .before .before .before .shared-slice-known .given in
+    by-sound (a .reading .inner) (a .reading .inguard) (a .list .now) (a .pool .now) (a .reading .limit) (λ k. omega (arith, bytes k)) (begin .pre .1 .0)
 
 -- ---- the step's needs
 

@@ -12,7 +12,8 @@ use Rattle.flat.specs.Between.{HaltKeeps}
 use Prim.Native.Nat.{ℕ, _+_, _-_, _≤_, _<_}
 use Rattle.memory.proofs.Levels.{placeOf}
 use lib.ListN.{length}
-use Rattle.flat.proofs.Going.{Going, going-start, going-barred, going-room, going-within, run-lent, run-room, going-end, going-opens, going-paused, going-stopped, going-sum, going-made, going-next}
+use Rattle.flat.proofs.Going.{Going, going-start, going-barred, going-room, going-within, run-lent, run-room}
+use Rattle.flat.proofs.Going.{going-end, going-opens, going-paused, going-stopped, going-sum, going-made, going-next}
 use Rattle.flat.proofs.normalize_flat.Statement.{statement}
 use Rattle.flat.proofs.normalize_flat.Tie as tie
 

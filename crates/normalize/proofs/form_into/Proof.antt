@@ -1,8 +1,12 @@
 -- `form_into` counts the value: where the output has six times its length, the form is written (`sized-written`), else counted too; where a
 -- scratch lacks, a walk that had success is refused (`lacks-counted`).
+use Prim.Native.Nat.{ℕ}
+use mathlib.Core.List.{List}
 use native.Mathlib.Omega.{arith}
+use Rattle.text.specs.declared.Answer.{Answer}
 use Rattle.tokens.specs.Outcome.{Outcome}
-use Rattle.normalize.specs.Calls.{walkOf}
+use Rattle.memory.specs.Slots.{shapedIn}
+use Rattle.normalize.specs.Calls.{walkOf, formOf, Walks}
 use Rattle.normalize.proofs.Texts.{plainly-asked, plainly-walked, lacks-refused, lacks-counted, lacks-none, sized-written}
 use borrow.Author.Needs.{needs}
 use Rattle.normalize.proofs.form_into.Statement.{statement}
@@ -20,6 +24,14 @@ abbrev given : tie.After-normalize-text → Outcome
 given c =
     let a = entry c .args in
     walkOf (a .reading) (a .list .now) (a .pool .now) (a .text .now)
+
+-- its walk was over the value itself
+value-of : (c : tie.After-normalize-text) {old new : List ℕ} {r : Answer}
+    → Walks (formOf (c .before .before .as-value .result) (entry c .args .list .now) (entry c .args .pool .now) (entry c .args .text .now)) old new r
+    → Walks (shapedIn 0 (given c)) old new r
+value-of c w =
+    let a = entry c .args in
+    plainly-walked (a .reading) (c .before .before .as-value .ensures) (a .list .now) (a .pool .now) (a .text .now) w
 
 as-value-requires : tie.Need-as-value-requires
 as-value-requires c κs = search needs
@@ -47,7 +59,7 @@ returns : tie.Need-returns
 returns c =
     let count = c .before .before .before in
     let a = entry count .args in
-    lacks-refused (a .short) (a .out .now) (a .reading .form) (a .lacks) 0 (given count) (plainly-walked (a .reading) (count .before .before .as-value .ensures) (a .list .now) (a .pool .now) (a .text .now) (count .normalize-text .ensures)) (c .enum-told .given .1)
+    lacks-refused (a .short) (a .out .now) (a .reading .form) (a .lacks) 0 (given count) (value-of count (count .normalize-text .ensures)) (c .enum-told .given .1)
 
 no-scratch-requires : tie.Need-no-scratch-requires
 no-scratch-requires c κs = search needs
@@ -58,8 +70,8 @@ returns-2 c =
     let known = test .before .before in
     let count = count-of known in
     let a = entry count .args in
-    lacks-counted (a .short) (a .out .now) (a .reading .form) (a .lacks) 0 (given count) (plainly-walked (a .reading) (count .before .before .as-value .ensures) (a .list .now) (a .pool .now) (a .text .now) (count .normalize-text .ensures)) (test .if1 .taken) (known .counted .given .1)
-    (c .no-scratch .ensures)
+    lacks-counted (a .short) (a .out .now) (a .reading .form) (a .lacks) 0 (given count) (value-of count (count .normalize-text .ensures))
+    (test .if1 .taken) (known .counted .given .1) (c .no-scratch .ensures)
 
 form-counted-requires : tie.Need-form-counted-requires
 form-counted-requires c κs = search needs
@@ -90,8 +102,8 @@ returns-4 c =
     let count = count-of known in
     let a = entry count .args in
     lacks-none (a .short) (a .out .now) (a .reading .form) (a .lacks) (test .if1 .left) (given count)
-    (sized-written (a .short) (a .reading .form) (given count) (a .out .now) (plainly-walked (a .reading) (count .before .before .as-value .ensures) (a .list .now) (a .pool .now) (a .text .now) (count .normalize-text .ensures)) (known .counted .given .1) (omega (arith, roomy .if2 .left))
-    (wrote .normalize-text2 .ensures))
+    (sized-written (a .short) (a .reading .form) (given count) (a .out .now) (value-of count (count .normalize-text .ensures)) (known .counted .given .1)
+    (omega (arith, roomy .if2 .left)) (wrote .normalize-text2 .ensures))
 
 pub form-into-spec : {M : Type 1} → statement M
 form-into-spec =

@@ -1,6 +1,6 @@
--- An empty form is of an empty value, which leaves the scratch (`hand-empty`); else the last character goes there (`hand-laid`).
+-- An empty form is of an empty value, which leaves the scratch (`hand-empty`); else the last character goes there (`handed-laid`).
 use mathlib.Core.Path.{_∙_}
-use Rattle.normalize.proofs.Hand.{hand-empty, hand-some, hand-laid}
+use Rattle.normalize.proofs.Hand.{hand-empty, hand-some, handed-laid}
 use borrow.Author.Needs.{needs}
 use Rattle.normalize.proofs.put_last.Statement.{statement}
 use Rattle.normalize.proofs.put_last.Tie as tie
@@ -24,7 +24,7 @@ returns-2 c =
     let a = put .before .before .before .before .before .args in
     λ rule value w q.
     let some = hand-some (a .form .now) (put .before .before .if1 .left) rule value q in
-    put .put-hand .ensures rule value w some q ∙ hand-laid value (a .scratch .now) some
+    put .put-hand .ensures rule value w some q ∙ handed-laid value (a .scratch .now) some
 
 pub put-last-spec : {M : Type 1} → statement M
 put-last-spec = tie.close (tie.spec returns put-hand-requires same-length returns-2)
