@@ -5,6 +5,7 @@ use mathlib.Core.Path.{_≡_, refl, sym, ap, subst, _∙_}
 use mathlib.Core.List.{List}
 use Prim.Native.Nat.{ℕ, _+_, _-_, _*_, _≤_, _<_, min}
 use native.Mathlib.Omega.{arith}
+use native.Mathlib.Nat.{le-refl}
 use lib.ListN.{length, take, drop, length-append, length-drop}
 use lib.Seq.{length-take-le}
 use borrow.Rule.Slice.PartMut.{midOf, putMid}
@@ -26,7 +27,7 @@ use Rattle.memory.specs.declared.Reached.{Reached}
 use Rattle.memory.specs.declared.Reached.the-variants.{End, Opening, Paused}
 use Rattle.memory.specs.declared.Reached.the-variants.{Stopped as Refusal}
 use Rattle.memory.proofs.Keeping.{kept-length}
-use Rattle.memory.proofs.Levels.{Sound, placeOf, opened-plain, came-room, opens-lent, lent-on}
+use Rattle.memory.proofs.Levels.{refuses-some, Sound, placeOf, opened-plain, came-room, opens-lent, lent-on}
 use Rattle.memory.proofs.Readings.{by-inner, by-limit, inner-level}
 use Rattle.memory.proofs.Turns.{step-walked, turn-came, turn-next, turn-refused, turn-end, turn-stopped}
 use Rattle.cycle.specs.Cycle.{Bottom, innerStart, LentInner}
@@ -136,7 +137,7 @@ module _ (r : Reading) (list pool text : List ℕ) (p : Place) {old seen out wor
   module _ {new kept : List ℕ} {x : Reached} (f : FlatKeeps level (r .base) (placeOf at len made) out words new kept x) where
     reached : {y : Reached} → x ≡ y → (v whole : List ℕ) (begun : ℕ) → length v ≡ r .base
         → Came level v whole begun old seen (p .at) (p .len) (p .openings) → Reaches level v whole begun new kept y
-    reached is v whole begun e c = subst (Reaches level v whole begun new kept) is (f .reaches v whole begun e (g .came v whole begun e c))
+    reached is v whole begun e c = subst (Reaches level v whole begun new kept) is (f .reaches (r .depth) (le-refl _) v whole begun e (g .came v whole begun e c))
 
     pub keeps-end : {all now : ℕ} → x ≡ End all now → StepsKeep level (r .base) p old seen new kept (Done all now)
     keeps-end is =
@@ -146,13 +147,13 @@ module _ (r : Reading) (list pool text : List ℕ) (p : Place) {old seen out wor
           finishes = λ v whole begun e c. turn-end level (reached is v whole begun e c);
         }
 
-    pub keeps-stopped : {number first second : ℕ} → x ≡ Refusal number first second
+    pub keeps-stopped : {number first second made-then : ℕ} → x ≡ Refusal number first second made-then
         → StepsKeep level (r .base) p old seen new kept (Refused number first second)
     keeps-stopped is =
         record {
           buffer = f .buffer ∙ g .buffer;
           words = f .words ∙ g .kept;
-          finishes = λ v whole begun e c. turn-stopped level (reached is v whole begun e c);
+          finishes = λ v whole begun e c. turn-stopped level (refuses-some (reached is v whole begun e c));
         }
 
     -- with a memory nothing is paused at

@@ -188,6 +188,7 @@ pub fn normalize_attr_steps(
                 number,
                 first: a,
                 second,
+                openings: _,
             } => {
                 return Answer::Refused {
                     number,

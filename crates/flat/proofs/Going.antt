@@ -12,13 +12,13 @@ use Rattle.legal.specs.FirstFault.{Clean, FirstFault}
 use Rattle.halts.specs.Halts.{Smooth, HaltAt, blanksSpaced}
 use Rattle.attribute.specs.Steps.{faultBy}
 use Rattle.memory.specs.Slots.{shaped}
-use Rattle.memory.specs.Levels.{Level, levelOf, Came, Lent, FlatKeeps}
+use Rattle.memory.specs.Levels.{Level, levelOf, atDepth, Came, Lent, FlatKeeps}
 use Rattle.memory.specs.declared.Reading.{Reading}
 use Rattle.memory.specs.declared.Place.{Place}
 use Rattle.memory.specs.declared.Reached.the-variants.{End, Opening, Paused, Stopped}
 use Rattle.memory.proofs.Levels.{placeOf, came-end}
 use Rattle.memory.proofs.Stretches.{smooth-part}
-use Rattle.memory.proofs.Readings.{came-run, run-barred, lent-room, lent-within}
+use Rattle.memory.proofs.Readings.{readAt, came-run, run-barred, lent-room, lent-within}
 use Rattle.flat.specs.Between.{Writes, HaltKeeps}
 use Rattle.flat.specs.declared.Halted.the-variants.{Next}
 use Rattle.flat.specs.declared.Halted.the-variants.{Opening as Opens, Paused as Pauses, Stopped as Stops}
@@ -30,22 +30,27 @@ pub record Going (r : Reading) (t list pool : List ℕ) (p : Place) (old₀ seen
   pub few : met ≤ at
   pub buffer : length old ≡ length old₀
   pub words : length seen ≡ length seen₀
-  pub came : (v whole : List ℕ) (begun : ℕ) → length v ≡ r .base → Came (levelOf r list pool t) v whole begun old₀ seen₀ (p .at) (p .len) (p .openings)
-      → Came (levelOf r list pool t) v whole begun old seen at len made
+  pub came : (d : ℕ) → r .depth ≤ d → (v whole : List ℕ) (begun : ℕ) → length v ≡ r .base
+      → Came (atDepth d (levelOf r list pool t)) v whole begun old₀ seen₀ (p .at) (p .len) (p .openings)
+      → Came (atDepth d (levelOf r list pool t)) v whole begun old seen at len made
 
 module _ (r : Reading) (t list pool : List ℕ) (p : Place) (old₀ seen₀ : List ℕ) where
   abbrev l : Level
   l = levelOf r list pool t
 
   pub going-start : {first : ℕ} → HaltAt (eqb (r .how) 1) t (p .at) first → Going r t list pool p old₀ seen₀ old₀ seen₀ (p .at) first (p .len) (p .openings) 0
-  going-start h = record { halt = h; from = le-refl _; few = omega arith; buffer = refl; words = refl; came = λ v whole begun e c. c }
+  going-start h = record { halt = h; from = le-refl _; few = omega arith; buffer = refl; words = refl; came = λ d le v whole begun e c. c }
 
   module _ {old seen : List ℕ} {at end len made met : ℕ} (g : Going r t list pool p old₀ seen₀ old seen at end len made met) (deep : r .depth ≢ 0)
       (lent : Lent l (r .base) old₀ seen₀ p) where
+    -- a greater depth is not used up either
+    deep-at : (d : ℕ) → r .depth ≤ d → d ≢ 0
+    deep-at d le q = deep (omega (arith, le, q))
+
     -- what is asked here of calls
     pub going-lent : Lent l (r .base) old seen (placeOf at len made)
     going-lent =
-        record { v = lent .v; whole = lent .whole; begun = lent .begun; size = lent .size; came = g .came (lent .v) (lent .whole) (lent .begun) (lent .size) (lent .came); room = lent .room }
+        record { v = lent .v; whole = lent .whole; begun = lent .begun; size = lent .size; came = g .came (r .depth) (le-refl _) (lent .v) (lent .whole) (lent .begun) (lent .size) (lent .came); room = lent .room }
 
     pub going-room : r .base + len ≤ 402653184 + 1572840 * made
     going-room = lent-room r list pool t going-lent
@@ -54,7 +59,7 @@ module _ (r : Reading) (t list pool : List ℕ) (p : Place) (old₀ seen₀ : Li
     going-within = lent-within r list pool t going-lent
 
     -- a character of the run may not stand: refusal 26, before the run is written
-    pub going-barred : {fault : ℕ} → FirstFault (faultBy (r .guard)) t at end fault → fault ≢ end → FlatKeeps l (r .base) p old₀ seen₀ old seen (Stopped 26 fault 0)
+    pub going-barred : {fault : ℕ} → FirstFault (faultBy (r .guard)) t at end fault → fault ≢ end → FlatKeeps l (r .base) p old₀ seen₀ old seen (Stopped 26 fault 0 made)
     going-barred {fault} f other =
         let inside : fault < end = omega (arith, f .within, other) in
         let smooth : Smooth (eqb (r .how) 1) t at fault = smooth-part (g .halt .smooth) (f .clean .from) (f .within) in
@@ -62,8 +67,8 @@ module _ (r : Reading) (t list pool : List ℕ) (p : Place) (old₀ seen₀ : Li
           onward = tt;
           buffer = g .buffer;
           words = g .words;
-          reaches = λ v whole begun e c.
-              run-barred r list pool t deep v whole begun (g .came v whole begun e c) smooth (f .clean) (omega (arith, inside, g .halt .smooth .to)) (f .found inside);
+          reaches = λ d le v whole begun e c.
+              run-barred (readAt d r) list pool t (deep-at d le) v whole begun (g .came d le v whole begun e c) smooth (f .clean) (omega (arith, inside, g .halt .smooth .to)) (f .found inside);
         }
 
     -- after the run up to the halt, in which every character may stand
@@ -72,15 +77,15 @@ module _ (r : Reading) (t list pool : List ℕ) (p : Place) (old₀ seen₀ : Li
       abbrev here : Place
       here = placeOf end (len + size) made
 
-      run-came : (v whole : List ℕ) (begun : ℕ) → length v ≡ r .base → Came l v whole begun old₀ seen₀ (p .at) (p .len) (p .openings)
-          → Came l v whole begun new seen end (len + size) made
-      run-came v whole begun e c =
-          subst (λ (n : ℕ). Came l v whole begun new seen end (len + n) made) (sym (run .0))
-          (came-run r list pool t deep v whole begun (g .came v whole begun e c) (g .halt) clean (run .1))
+      run-came : (d : ℕ) → r .depth ≤ d → (v whole : List ℕ) (begun : ℕ) → length v ≡ r .base → Came (atDepth d l) v whole begun old₀ seen₀ (p .at) (p .len) (p .openings)
+          → Came (atDepth d l) v whole begun new seen end (len + size) made
+      run-came d le v whole begun e c =
+          subst (λ (n : ℕ). Came (atDepth d l) v whole begun new seen end (len + n) made) (sym (run .0))
+          (came-run (readAt d r) list pool t (deep-at d le) v whole begun (g .came d le v whole begun e c) (g .halt) clean (run .1))
 
       pub run-lent : Lent l (r .base) new seen here
       run-lent =
-          record { v = lent .v; whole = lent .whole; begun = lent .begun; size = lent .size; came = run-came (lent .v) (lent .whole) (lent .begun) (lent .size) (lent .came); room = lent .room }
+          record { v = lent .v; whole = lent .whole; begun = lent .begun; size = lent .size; came = run-came (r .depth) (le-refl _) (lent .v) (lent .whole) (lent .begun) (lent .size) (lent .came); room = lent .room }
 
       pub run-room : r .base + (len + size) ≤ 402653184 + 1572840 * made
       run-room = lent-room r list pool t run-lent
@@ -92,7 +97,7 @@ module _ (r : Reading) (t list pool : List ℕ) (p : Place) (old₀ seen₀ : Li
             onward = tt;
             buffer = run .1 .buffer ∙ g .buffer;
             words = g .words;
-            reaches = λ v whole begun e c. came-end l v whole begun (run-came v whole begun e c) (omega (arith, q));
+            reaches = λ d le v whole begun e c. came-end (atDepth d l) v whole begun (run-came d le v whole begun e c) (omega (arith, q));
           }
 
       module _ {last after : List ℕ} where
@@ -103,7 +108,7 @@ module _ (r : Reading) (t list pool : List ℕ) (p : Place) (old₀ seen₀ : Li
               onward = (omega (arith, g .from, g .halt .smooth .from, k .past .0), k .past .1);
               buffer = k .buffer ∙ run .1 .buffer ∙ g .buffer;
               words = k .words ∙ g .words;
-              reaches = λ v whole begun e c. k .goes v whole begun e (run-came v whole begun e c);
+              reaches = λ d le v whole begun e c. k .goes d le v whole begun e (run-came d le v whole begun e c);
             }
 
         pub going-paused : end ≢ length t → HaltKeeps l (r .base) here new seen last after Pauses
@@ -113,17 +118,17 @@ module _ (r : Reading) (t list pool : List ℕ) (p : Place) (old₀ seen₀ : Li
               onward = (omega (arith, g .from, g .halt .smooth .from), omega (arith, q, g .halt .smooth .to), sym (g .words) ∙ k .past);
               buffer = k .buffer ∙ run .1 .buffer ∙ g .buffer;
               words = k .words ∙ g .words;
-              reaches = λ v whole begun e c. k .goes v whole begun e (run-came v whole begun e c);
+              reaches = λ d le v whole begun e c. k .goes d le v whole begun e (run-came d le v whole begun e c);
             }
 
         pub going-stopped : {number first second : ℕ} → HaltKeeps l (r .base) here new seen last after (Stops number first second)
-            → FlatKeeps l (r .base) p old₀ seen₀ last after (Stopped number first second)
+            → FlatKeeps l (r .base) p old₀ seen₀ last after (Stopped number first second made)
         going-stopped k =
             record {
               onward = tt;
               buffer = k .buffer ∙ run .1 .buffer ∙ g .buffer;
               words = k .words ∙ g .words;
-              reaches = λ v whole begun e c. k .goes v whole begun e (run-came v whole begun e c);
+              reaches = λ d le v whole begun e c. k .goes d le v whole begun e (run-came d le v whole begun e c);
             }
 
         -- the halt is passed
@@ -138,7 +143,7 @@ module _ (r : Reading) (t list pool : List ℕ) (p : Place) (old₀ seen₀ : Li
                 whole = lent .whole;
                 begun = lent .begun;
                 size = lent .size;
-                came = k .goes (lent .v) (lent .whole) (lent .begun) (lent .size) (run-came (lent .v) (lent .whole) (lent .begun) (lent .size) (lent .came));
+                came = k .goes (r .depth) (le-refl _) (lent .v) (lent .whole) (lent .begun) (lent .size) (run-came (r .depth) (le-refl _) (lent .v) (lent .whole) (lent .begun) (lent .size) (lent .came));
                 room = lent .room;
               }
 
@@ -156,5 +161,5 @@ module _ (r : Reading) (t list pool : List ℕ) (p : Place) (old₀ seen₀ : Li
                 few = omega (arith, g .few, going-on);
                 buffer = k .buffer ∙ run .1 .buffer ∙ g .buffer;
                 words = k .words ∙ g .words;
-                came = λ v whole begun e c. k .goes v whole begun e (run-came v whole begun e c);
+                came = λ d le v whole begun e c. k .goes d le v whole begun e (run-came d le v whole begun e c);
               }

@@ -34,14 +34,14 @@ use Rattle.attribute.specs.Steps.{headsBy, faultBy, readBy, legalBy, Refers, st
 use Rattle.attribute.proofs.Single.{one-of-four, stop-deeper, at-external, at-unknown, at-predefined}
 use Rattle.attribute.proofs.Guards.{read-refers, guard-blank, halt-clean, read-predefined}
 use Rattle.memory.specs.Slots.{shaped, slotOf, Kept, Noted, Memory}
-use Rattle.memory.specs.Levels.{settingsOf, Level, levelOf, Adds, Came, Taken}
+use Rattle.memory.specs.Levels.{settingsOf, Level, levelOf, atDepth, Adds, Came, RefusesAt, Opens, Taken}
 use Rattle.memory.specs.declared.Reading.{Reading}
 use Rattle.memory.specs.declared.Place.{Place}
 use Rattle.memory.proofs.Fitted.{adds-byte}
 use Rattle.memory.proofs.Characters.{token-rest}
 use Rattle.memory.proofs.Levels.{left-done, came-on, came-stop, came-token}
 use Rattle.memory.proofs.Keeping.{memory-more, kept-length, noted-length, memory-noted}
-use Rattle.memory.proofs.Readings.{by-bind, by-inner, by-limit, by-legal, token-named, next-named, read-opens, read-taken, came-leaf, came-blank}
+use Rattle.memory.proofs.Readings.{readAt, by-bind, by-inner, by-limit, by-legal, token-named, next-named, read-opens, read-taken, came-leaf, came-blank}
 use Rattle.flat.specs.Between.{Writes, Leaf, ForChar, ForName, ForPlain, nameOf, Answers, HaltKeeps, Referred}
 use Rattle.flat.specs.declared.Halted.the-variants.{Next, Opening, Stopped}
 
@@ -68,63 +68,115 @@ module _ (r : Reading) (t list pool : List ℕ) (p : Place) {command next : ℕ}
       ∙ rw (k .no-amp, bound, eq-eqb (p .openings) (S .limit) (q ∙ sym limit-is))
 
   module _ {slot : ℕ} (known : slot < 16) (old seen : List ℕ) where
+    limit-goes : p .openings ≡ r .limit → (v whole : List ℕ) (begun : ℕ) → length v ≡ r .base → Came l v whole begun old seen (p .at) (p .len) (p .openings)
+        → RefusesAt l begun 17 (p .at) 0 (p .openings)
+    limit-goes q v whole begun e c = came-stop l v whole begun c [] (p .openings) (k .inside) (at-limit q)
+
+    again-goes : {new : List ℕ} {count made : ℕ} → Taken command slot r p seen old new count made → (v whole : List ℕ) (begun : ℕ) → length v ≡ r .base
+        → Came l v whole begun old seen (p .at) (p .len) (p .openings) → Came l v whole begun new seen next (p .len + count) made
+    again-goes x v whole begun e c =
+        read-taken r list pool t (k .deep) v whole begun c (k .bytes) (k .valid) e (k .name) (k .inside) (k .on) (k .to) (k .next-is) (k .is) (k .no-amp) (k .defines) (k .same)
+        p known refl refl x
+
+    module _ (room : p .openings ≢ r .limit) where
+      opens-goes : (v whole : List ℕ) (begun : ℕ) → length v ≡ r .base → Came l v whole begun old seen (p .at) (p .len) (p .openings)
+          → Opens l v whole begun old seen (p .at) next command slot (p .len) (p .openings)
+      opens-goes v whole begun e c =
+          read-opens r list pool t (k .deep) v whole begun c (k .bytes) (k .valid) e (k .name) (k .inside) (k .on) (k .to) (k .next-is) (k .is) (k .no-amp) (k .defines) (k .same)
+          known room
+
+      leaf-goes : r .depth ≢ 1 → Leaf (eqb (r .inner) 1) (r .inguard) value → {new after : List ℕ} {size : ℕ}
+          → Writes (shaped (r .form) (blanksSpaced (take (length value - 0) (drop 0 value)))) (p .len) old new size
+          → Kept seen slot command (slotOf 2 (r .base + p .len) size 1) after
+          → (v whole : List ℕ) (begun : ℕ) → length v ≡ r .base → Came l v whole begun old seen (p .at) (p .len) (p .openings)
+          → Came l v whole begun new after next (p .len + size) (p .openings + 1)
+      leaf-goes two leaf {new} {after} {size} written kept v whole begun b c =
+          let all : take (length value - 0) (drop 0 value) ≡ value = take-all (length value - 0) value (omega arith) in
+          let e = k .text-is in
+          let x = commandText list pool command in
+          let w : Writes (shaped (r .form) (blanksSpaced x)) (p .len) old new size =
+          subst (λ (y : List ℕ). Writes (shaped (r .form) (blanksSpaced y)) (p .len) old new size) (all ∙ e) written in
+          subst (λ (n : ℕ). Came l v whole begun new after next (p .len + n) (p .openings + 1)) (sym (w .0))
+          (came-leaf r list pool t (k .deep) v whole begun c (k .bytes) (k .valid) b (k .name) (k .inside) (k .on) (k .to) (k .next-is) (k .is) (k .no-amp)
+          (k .defines) (k .same) two (omega (arith, room, limit-is, c .within))
+          (subst (λ (y : List ℕ). Smooth (eqb (r .inner) 1) y 0 (length y)) e (leaf .smooth))
+          (subst (λ (y : List ℕ). Clean (faultBy (r .inguard)) y 0 (length y)) e (leaf .clean)) known (w .1)
+          (subst (λ (n : ℕ). Kept seen slot command (slotOf 2 (r .base + p .len) n 1) after) (w .0) kept))
+
+-- ---- and at every greater depth
+
+-- a greater depth is not used up either
+deep-at : (r : Reading) → r .depth ≢ 0 → (d : ℕ) → r .depth ≤ d → d ≢ 0
+deep-at r deep d le q = deep (omega (arith, le, q))
+
+module _ (r : Reading) (t list pool : List ℕ) (p : Place) {command next : ℕ} {value : List ℕ} (k : Referred r t list pool p command next value) where
+  -- what is known of the reference at a greater depth
+  referred-at : (d : ℕ) → r .depth ≤ d → Referred (readAt d r) t list pool p command next value
+  referred-at d le =
+      record {
+        name = k .name;
+        deep = deep-at r (k .deep) d le;
+        bytes = k .bytes;
+        valid = k .valid;
+        inside = k .inside;
+        on = k .on;
+        to = k .to;
+        next-is = k .next-is;
+        is = k .is;
+        no-amp = k .no-amp;
+        defines = k .defines;
+        same = k .same;
+        text-is = k .text-is;
+      }
+
+  module _ {slot : ℕ} (known : slot < 16) (old seen : List ℕ) where
     -- refusal 17
-    pub halt-limit : p .openings ≡ r .limit → HaltKeeps l (r .base) p old seen old seen (Stopped 17 (p .at) 0)
+    pub halt-limit : p .openings ≡ r .limit → HaltKeeps (levelOf r list pool t) (r .base) p old seen old seen (Stopped 17 (p .at) 0)
     halt-limit q =
         record {
           past = tt;
           buffer = refl;
           words = refl;
-          goes = λ v whole begun e c. came-stop l v whole begun c [] (p .openings) (k .inside) (at-limit q);
+          goes = λ d le v whole begun e c. limit-goes (readAt d r) t list pool p (referred-at d le) known old seen q v whole begun e c;
         }
 
     -- what is kept of it
     pub halt-again : {new : List ℕ} {count made : ℕ} → Taken command slot r p seen old new count made
-        → HaltKeeps l (r .base) p old seen new seen (Next next count made)
-    halt-again x =
+        → HaltKeeps (levelOf r list pool t) (r .base) p old seen new seen (Next next count made)
+    halt-again {new} {count} {made} x =
         record {
           past = (k .on, k .to);
           buffer = x .buffer;
           words = refl;
-          goes = λ v whole begun e c.
-              read-taken r list pool t (k .deep) v whole begun c (k .bytes) (k .valid) e (k .name) (k .inside) (k .on) (k .to) (k .next-is) (k .is) (k .no-amp) (k .defines) (k .same)
-              p known refl refl x;
+          goes = λ d le v whole begun e c.
+              again-goes (readAt d r) t list pool p (referred-at d le) known old seen
+              (record { is = x .is; enough = omega (arith, x .enough, le); size = x .size; opens = x .opens; within = x .within; buffer = x .buffer; writes = x .writes })
+              v whole begun e c;
         }
 
     module _ (room : p .openings ≢ r .limit) where
-      pub halt-opens : HaltKeeps l (r .base) p old seen old seen (Opening next command slot)
+      pub halt-opens : HaltKeeps (levelOf r list pool t) (r .base) p old seen old seen (Opening next command slot)
       halt-opens =
           record {
             past = (k .on, k .to);
             buffer = refl;
             words = refl;
-            goes = λ v whole begun e c.
-                read-opens r list pool t (k .deep) v whole begun c (k .bytes) (k .valid) e (k .name) (k .inside) (k .on) (k .to) (k .next-is) (k .is) (k .no-amp) (k .defines) (k .same)
-                known room;
+            goes = λ d le v whole begun e c. opens-goes (readAt d r) t list pool p (referred-at d le) known old seen room v whole begun e c;
           }
 
       -- a text without halts is copied, and kept
       pub halt-leaf : r .depth ≢ 1 → Leaf (eqb (r .inner) 1) (r .inguard) value → {new after : List ℕ} {size : ℕ}
           → Writes (shaped (r .form) (blanksSpaced (take (length value - 0) (drop 0 value)))) (p .len) old new size
           → Kept seen slot command (slotOf 2 (r .base + p .len) size 1) after
-          → HaltKeeps l (r .base) p old seen new after (Next next size (p .openings + 1))
+          → HaltKeeps (levelOf r list pool t) (r .base) p old seen new after (Next next size (p .openings + 1))
       halt-leaf two leaf {new} {after} {size} written kept =
-          let all : take (length value - 0) (drop 0 value) ≡ value = take-all (length value - 0) value (omega arith) in
-          let e = k .text-is in
-          let x = commandText list pool command in
-          let w : Writes (shaped (r .form) (blanksSpaced x)) (p .len) old new size =
-          subst (λ (y : List ℕ). Writes (shaped (r .form) (blanksSpaced y)) (p .len) old new size) (all ∙ e) written in
           record {
             past = (k .on, k .to);
             buffer = written .1 .buffer;
             words = kept-length kept;
-            goes = λ v whole begun b c.
-                subst (λ (n : ℕ). Came l v whole begun new after next (p .len + n) (p .openings + 1)) (sym (w .0))
-                (came-leaf r list pool t (k .deep) v whole begun c (k .bytes) (k .valid) b (k .name) (k .inside) (k .on) (k .to) (k .next-is) (k .is) (k .no-amp)
-                (k .defines) (k .same) two (omega (arith, room, limit-is, c .within))
-                (subst (λ (y : List ℕ). Smooth (eqb (r .inner) 1) y 0 (length y)) e (leaf .smooth))
-                (subst (λ (y : List ℕ). Clean (faultBy (r .inguard)) y 0 (length y)) e (leaf .clean)) known (w .1)
-                (subst (λ (n : ℕ). Kept seen slot command (slotOf 2 (r .base + p .len) n 1) after) (w .0) kept));
+            goes = λ d le v whole begun e c.
+                leaf-goes (readAt d r) t list pool p (referred-at d le) known old seen room (λ q. omega (arith, k .deep, two, le, q)) leaf written kept
+                v whole begun e c;
           }
 
 -- ---- other references
@@ -180,12 +232,12 @@ module _ (r : Reading) (t list pool : List ℕ) (p : Place) (deep : r .depth ≢
         past = (omega (arith, f .on), f .to);
         buffer = w .1 .buffer;
         words = refl;
-        goes = λ v whole begun e k.
+        goes = λ d le v whole begun e k.
             let inside : p .at < length t = omega (arith, f .on, f .to) in
-            let given = f .given heads refers reads (judged c may) (r .depth) deep (p .openings) in
-            subst (λ (m : ℕ). Came level v whole begun new seen next (p .len + m) (p .openings)) (sym (w .0))
-            (came-token level v whole begun k (encode c) inside (f .next-is heads refers) (f .to) given (f .utf8)
-            (token-rest (r .how) (r .guard) t (p .at) inside (k .rest) reads (r .depth) (p .openings) (encode c) given (f .utf8) (f .next-is heads refers))
+            let given = f .given heads refers reads (judged c may) d (deep-at r deep d le) (p .openings) in
+            subst (λ (m : ℕ). Came (atDepth d level) v whole begun new seen next (p .len + m) (p .openings)) (sym (w .0))
+            (came-token (atDepth d level) v whole begun k (encode c) inside (f .next-is heads refers) (f .to) given (f .utf8)
+            (token-rest (r .how) (r .guard) t (p .at) inside (k .rest) reads d (p .openings) (encode c) given (f .utf8) (f .next-is heads refers))
             (omega (arith, encode-at-most c, f .on)) (w .1));
       }
 
@@ -197,7 +249,7 @@ module _ (r : Reading) (t list pool : List ℕ) (p : Place) (deep : r .depth ≢
         past = tt;
         buffer = refl;
         words = refl;
-        goes = λ v whole begun e k. came-stop level v whole begun k [] (p .openings) inside (f heads refers reads tt (r .depth) deep (p .openings));
+        goes = λ d le v whole begun e k. came-stop (atDepth d level) v whole begun k [] (p .openings) inside (f heads refers reads tt d (deep-at r deep d le) (p .openings));
       }
 
   -- refusal 25
@@ -208,8 +260,8 @@ module _ (r : Reading) (t list pool : List ℕ) (p : Place) (deep : r .depth ≢
         past = tt;
         buffer = refl;
         words = refl;
-        goes = λ v whole begun e k.
-            came-stop level v whole begun k [] (p .openings) inside (f .forbidden other heads refers reads (judged c may) (r .depth) deep (p .openings));
+        goes = λ d le v whole begun e k.
+            came-stop (atDepth d level) v whole begun k [] (p .openings) inside (f .forbidden other heads refers reads (judged c may) d (deep-at r deep d le) (p .openings));
       }
 
   module _ {end : ℕ} (f : ForName t (p .at) end) where
@@ -230,9 +282,9 @@ module _ (r : Reading) (t list pool : List ℕ) (p : Place) (deep : r .depth ≢
           past = tt;
           buffer = refl;
           words = refl;
-          goes = λ v whole begun b k.
-              came-stop level v whole begun k [] (p .openings) inside
-              (at-external heads refers reads (r .depth) deep t (p .at) (p .openings) end (f .amp) (f .ends) (f .inside) (f .no-number) (binding list pool name) bind pool
+          goes = λ d le v whole begun b k.
+              came-stop (atDepth d level) v whole begun k [] (p .openings) inside
+              (at-external heads refers reads d (deep-at r deep d le) t (p .at) (p .openings) end (f .amp) (f .ends) (f .inside) (f .no-number) (binding list pool name) bind pool
               (rw (f .no-amp, e)));
         }
 
@@ -244,9 +296,9 @@ module _ (r : Reading) (t list pool : List ℕ) (p : Place) (deep : r .depth ≢
           past = tt;
           buffer = refl;
           words = refl;
-          goes = λ v whole begun b k.
-              came-stop level v whole begun k [] (p .openings) inside
-              (at-unknown heads refers reads (r .depth) deep t (p .at) (p .openings) end (f .amp) (f .ends) (f .inside) (f .no-number) (binding list pool name) bind pool
+          goes = λ d le v whole begun b k.
+              came-stop (atDepth d level) v whole begun k [] (p .openings) inside
+              (at-unknown heads refers reads d (deep-at r deep d le) t (p .at) (p .openings) end (f .amp) (f .ends) (f .inside) (f .no-number) (binding list pool name) bind pool
               (rw (f .no-amp, e)));
         }
 
@@ -260,10 +312,10 @@ module _ (r : Reading) (t list pool : List ℕ) (p : Place) (deep : r .depth ≢
           past = (omega (arith, f .ends .from), omega (arith, f .inside));
           buffer = w .1 .buffer;
           words = words;
-          goes = λ v whole begun x k.
-              came-on level v whole begun k (b ∷ [])
-              (left-done level (p .at) (p .openings) (end + 1) (p .openings) (b ∷ []) inside next-is (given (p .openings))) (sym (w .0)) one
-              (token-rest (r .how) (r .guard) t (p .at) inside (k .rest) reads (r .depth) (p .openings) (b ∷ []) (given (p .openings)) one next-is)
+          goes = λ d le v whole begun x k.
+              came-on (atDepth d level) v whole begun k (b ∷ [])
+              (left-done (atDepth d level) (p .at) (p .openings) (end + 1) (p .openings) (b ∷ []) inside next-is (given d le (p .openings))) (sym (w .0)) one
+              (token-rest (r .how) (r .guard) t (p .at) inside (k .rest) reads d (p .openings) (b ∷ []) (given d le (p .openings)) one next-is)
               (w .1 .fits (shaped (r .form) (k .value)) whole (k .size) (k .fitted))
               (keeps _ (memory-more reads (r .form) list pool (k .memory) (shaped (r .form) (b ∷ []))))
               (omega (arith, f .inside)) (le-refl _) (k .within) (omega (arith, f .ends .from));
@@ -277,15 +329,15 @@ module _ (r : Reading) (t list pool : List ℕ) (p : Place) (deep : r .depth ≢
             one-of-four (λ c. WellFormed (c ∷ [])) (ascii-well-formed (60 ∷ []) refl) (ascii-well-formed (62 ∷ []) refl) (ascii-well-formed (39 ∷ []) refl)
             (ascii-well-formed (34 ∷ []) refl) name b (f .no-amp) (predefined-binding list pool name (b ∷ []) e)
 
-        itself : (n : ℕ) → walk reads (reads .inner) (r .depth - 1) (b ∷ []) n ≡ done (b ∷ []) n
-        itself n =
-            ap (λ (h : Heads). walk reads h (r .depth - 1) (b ∷ []) n) (by-inner (r .inner) (r .inguard) list pool (r .limit))
-            ∙ read-predefined reads (r .inner) (r .inguard) list pool name (r .depth - 1) b n (f .no-amp) e
+        itself : (d n : ℕ) → walk reads (reads .inner) (d - 1) (b ∷ []) n ≡ done (b ∷ []) n
+        itself d n =
+            ap (λ (h : Heads). walk reads h (d - 1) (b ∷ []) n) (by-inner (r .inner) (r .inguard) list pool (r .limit))
+            ∙ read-predefined reads (r .inner) (r .inguard) list pool name (d - 1) b n (f .no-amp) e
 
-        given : (n : ℕ) → outcomeOf (stopAnswer reads (r .depth)) (tokenOf (headAt (readBy (r .how) (r .guard)) t (p .at))) n ≡ done (b ∷ []) n
-        given n =
-            at-predefined heads refers reads (r .depth) deep t (p .at) n end (f .amp) (f .ends) (f .inside) (f .no-number) (binding list pool name) bind pool b
-            (rw (f .no-amp, e)) (λ x y. itself n)
+        given : (d : ℕ) → r .depth ≤ d → (n : ℕ) → outcomeOf (stopAnswer reads d) (tokenOf (headAt (readBy (r .how) (r .guard)) t (p .at))) n ≡ done (b ∷ []) n
+        given d le n =
+            at-predefined heads refers reads d (deep-at r deep d le) t (p .at) n end (f .amp) (f .ends) (f .inside) (f .no-number) (binding list pool name) bind pool b
+            (rw (f .no-amp, e)) (λ x y. itself d n)
 
     -- that the table does not define it is kept, or was known
     pub halt-predefined : {b : ℕ} → predefinedOf name ≡ predefined (b ∷ []) → binding list pool name ≡ predefined (b ∷ []) → {new after : List ℕ} {size : ℕ}
@@ -313,7 +365,7 @@ halt-blank r t list pool p deep old seen inside {w} halt blank {new} q =
       past = (omega (arith, blank .some), blank .inside);
       buffer = adds .buffer;
       words = refl;
-      goes = λ v whole begun b c. came-blank r list pool t deep v whole begun c w inside read adds;
+      goes = λ d le v whole begun b c. came-blank (readAt d r) list pool t (deep-at r deep d le) v whole begun c w inside read adds;
     }
 
 -- ---- a table

@@ -24,7 +24,7 @@ use Rattle.tokens.specs.Outcome.{Outcome, done, refused, numbered, numberOutcom
 use Rattle.tokens.specs.Walking.{NameEnd, headAt, nextAt}
 use Rattle.attribute.specs.Walk.{Settings}
 use Rattle.attribute.specs.Steps.{faultBy, readBy, Refers, outcomeAt}
-use Rattle.memory.specs.Levels.{Level, Adds, Came, Refuses, Opens}
+use Rattle.memory.specs.Levels.{Level, atDepth, Adds, Came, RefusesAt, Opens}
 use Rattle.memory.specs.declared.Reading.{Reading}
 use Rattle.memory.specs.declared.Place.{Place}
 use Rattle.flat.specs.declared.Meaning.{Meaning}
@@ -115,14 +115,15 @@ abbrev pub Goes : Level → List ℕ → List ℕ → ℕ → List ℕ → List 
 Goes l v whole begun out words p (Next next len made) = Came l v whole begun out words next (p .len + len) made
 Goes l v whole begun out words p (Opening next command slot) = Opens l v whole begun out words (p .at) next command slot (p .len) (p .openings)
 Goes l v whole begun out words p Paused = Came l v whole begun out words (p .at) (p .len) (p .openings)
-Goes l v whole begun out words p (Stopped number first second) = Refuses l begun number first second
+Goes l v whole begun out words p (Stopped number first second) = RefusesAt l begun number first second (p .openings)
 
--- of the steps at a halt
+-- of the steps at a halt, at the depth of the level and at every greater one
 pub record HaltKeeps (l : Level) (base : ℕ) (p : Place) (old seen new kept : List ℕ) (r : Halted) : Type 0 where
   pub past : Past (length (l .text)) (p .at) seen r
   pub buffer : length new ≡ length old
   pub words : length kept ≡ length seen
-  pub goes : (v whole : List ℕ) (begun : ℕ) → length v ≡ base → Came l v whole begun old seen (p .at) (p .len) (p .openings) → Goes l v whole begun new kept p r
+  pub goes : (depth : ℕ) → l .depth ≤ depth → (v whole : List ℕ) (begun : ℕ) → length v ≡ base
+      → Came (atDepth depth l) v whole begun old seen (p .at) (p .len) (p .openings) → Goes (atDepth depth l) v whole begun new kept p r
 
 -- what is known of a reference whose name is bound to the text of a command, before the text is had again, copied or opened
 pub record Referred (r : Reading) (text list pool : List ℕ) (p : Place) (command next : ℕ) (value : List ℕ) : Type 0 where

@@ -553,6 +553,7 @@ pub fn normalize_flat(
                 number: refusals::FORBIDDEN_CHARACTER,
                 first: fault as u64,
                 second: 0,
+                openings: made,
             };
         }
         let written = write_run(text, at, end, len, reading.form, out);
@@ -608,6 +609,7 @@ pub fn normalize_flat(
                     number,
                     first: a,
                     second,
+                    openings: made,
                 };
             }
         }

@@ -32,7 +32,7 @@ use Rattle.attribute.specs.Walk.{Settings, walk}
 use Rattle.attribute.specs.Steps.{stopAnswer, stepFrom}
 use Rattle.attribute.proofs.Single.{walk-run}
 use Rattle.memory.specs.Slots.{opening, shaped, shapedIn, Slot, Stands, slotAt, Memory, Kept, Noted}
-use Rattle.memory.specs.Levels.{Level, innerLevel, left, Fitted, Adds, Came, Whole, Refuses, Opens, Finishes, Opened, Taken, Lent}
+use Rattle.memory.specs.Levels.{Level, innerLevel, left, Fitted, Adds, Came, Whole, Refuses, RefusesAt, Opens, Finishes, Opened, Taken, Lent}
 use Rattle.memory.specs.declared.Reading.{Reading}
 use Rattle.memory.specs.declared.Place.{Place}
 use Rattle.memory.proofs.Shaped.{shaped-none, shaped-most, shaped-append, shaped-went, shaped-halted}
@@ -60,9 +60,9 @@ opening-brief s brief depth m made t value h e =
     subst (λ (o : Outcome). length (produced o) + 65535 * (m + 1) ≤ length t + 65535 * openingsOf o) e (brief (depth - 1) (m + 1) t) in
     omega (arith, b, h)
 
-pub stands-brief : (s : Settings) → Brief s → {form : ℕ} {t v : List ℕ} {x : Slot} → length t ≤ 65535 → (k : Stands s form t v x) → length (k .value) ≤ 65535 * x .opened
-stands-brief s brief {form} {t} {v} {x} h k =
-    omega (arith, opening-brief s brief (x .depth) 0 (0 + x .opened) t (k .value) h (k .again (x .depth) 0 (le-refl _) (omega (arith, k .few))))
+pub stands-brief : (s : Settings) → Brief s → {form : ℕ} {t v : List ℕ} {x : Slot} → length t ≤ 65535 → x .opened ≤ s .limit → (k : Stands s form t v x) → length (k .value) ≤ 65535 * x .opened
+stands-brief s brief {form} {t} {v} {x} h few k =
+    omega (arith, opening-brief s brief (x .depth) 0 (0 + x .opened) t (k .value) h (k .again (x .depth) 0 (le-refl _) (omega (arith, few))))
 
 -- ---- what a level needs to know of its settings and its table
 
@@ -77,9 +77,9 @@ pub opening-utf8 : (s : Settings) {list pool : List ℕ} → Sound s list pool �
 opening-utf8 s {list} {pool} sound {c} d depth m made value e = sound .values (depth - 1) (m + 1) made (commandText list pool c) value (sound .texts c d) e
 
 pub stands-utf8 : (s : Settings) {list pool : List ℕ} → Sound s list pool → {c : ℕ} → Defines list pool c → {form : ℕ} {v : List ℕ} {x : Slot}
-    → (k : Stands s form (commandText list pool c) v x) → WellFormed (k .value)
-stands-utf8 s sound d {form} {v} {x} k =
-    opening-utf8 s sound d (x .depth) 0 (0 + x .opened) (k .value) (k .again (x .depth) 0 (le-refl _) (omega (arith, k .few)))
+    → x .opened ≤ s .limit → (k : Stands s form (commandText list pool c) v x) → WellFormed (k .value)
+stands-utf8 s sound d {form} {v} {x} few k =
+    opening-utf8 s sound d (x .depth) 0 (0 + x .opened) (k .value) (k .again (x .depth) 0 (le-refl _) (omega (arith, few)))
 
 -- ---- the contract of `again`, by the code's cases
 
@@ -102,6 +102,9 @@ taken-again place count len base {old} {new} h room size says v value whole b n 
 
 pub walk-left : (l : Level) (n : ℕ) → walk (l .settings) (l .at) (l .depth) (l .text) n ≡ left l 0 n
 walk-left l n = walk-run (l .settings) (l .at) (l .depth) (l .text) n
+
+pub refuses-some : {l : Level} {begun number first second made : ℕ} → RefusesAt l begun number first second made → Refuses l begun number first second
+refuses-some {l} {begun} {number} {first} {second} {made} r = record { before = r .before; made = made; outcome = r .outcome }
 
 -- a place, by its numbers
 abbrev pub placeOf : ℕ → ℕ → ℕ → Place
@@ -221,8 +224,8 @@ module _ (l : Level) where
             counted = omega (arith, c .counted, c .inside);
           }
 
-      pub came-refused : {number first second : ℕ} (before : List ℕ) (m : ℕ) → left l i made ≡ refused before m number first second → Refuses l begun number first second
-      came-refused before m e = record { before = c .value ++ before; made = m; outcome = c .outcome ∙ ap (prepend (c .value)) e }
+      pub came-refused : {number first second : ℕ} (before : List ℕ) (m : ℕ) → left l i made ≡ refused before m number first second → RefusesAt l begun number first second m
+      came-refused before m e = record { before = c .value ++ before; outcome = c .outcome ∙ ap (prepend (c .value)) e }
 
       -- one token that makes no opening, or is refused
       pub came-token : (more : List ℕ) {new : List ℕ} {j : ℕ} → i < length (l .text) → nextAt (l .at) (l .text) i ≡ j → j ≤ length (l .text)
@@ -232,7 +235,7 @@ module _ (l : Level) where
           came-past more (left-done i made j made more h q e) refl u rest (f .fits (w (c .value)) whole (c .size) (c .fitted)) to (le-refl _) (c .within) (omega (arith, b))
 
       pub came-stop : {number first second : ℕ} (before : List ℕ) (m : ℕ) → i < length (l .text) → given i made ≡ refused before m number first second
-          → Refuses l begun number first second
+          → RefusesAt l begun number first second m
       came-stop {number} {first} {second} before m h e = came-refused before m (left-refused i made m number first second before h e)
 
       -- ---- a reference to a command
@@ -273,11 +276,11 @@ module _ (l : Level) where
         came-again sound {new} slot k e enough few f =
             let x = slotAt words slot in
             let st = c .memory .stands slot command k e in
-            let small = stands-brief S (sound .brief) (text-short d) st in
+            let small = stands-brief S (sound .brief) (text-short d) (omega (arith, few)) st in
             came-past (st .value)
             (left-done i made j (made + x .opened) (st .value) inside next
             (ap (λ (y : Token). outcomeOf (stopAnswer S (l .depth)) y made) is ∙ again-stop S t st (l .depth) made deep enough few i name amp bound))
-            (stands-size S t st) (stands-utf8 S sound d st) rest (subst (λ (y : List ℕ). Fitted (w (c .value) ++ y) whole new) (sym (st .is)) f)
+            (stands-size S t st) (stands-utf8 S sound d (omega (arith, few)) st) rest (subst (λ (y : List ℕ). Fitted (w (c .value) ++ y) whole new) (sym (st .is)) f)
             to (omega arith) few (omega (arith, small, on))
 
         -- so by the contract of `again`, whose reading and place are those of the level
@@ -366,7 +369,7 @@ module _ (l : Level) where
             → Refuses l begun number first second
         opened-stopped {number} {first} {second} p =
             let g = shaped-halted (l .form) next (opening S (l .depth) (commandText (l .list) (l .pool) command) made) (p .answers) in
-            came-refused (o .came) (g .before) (g .openings) (o .is ∙ ap (λ (y : Outcome). followed y (λ n. left l next n)) (g .whole))
+            refuses-some (came-refused (o .came) (g .before) (g .openings) (o .is ∙ ap (λ (y : Outcome). followed y (λ n. left l next n)) (g .whole)))
 
     -- ---- the level's answer
 

@@ -43,7 +43,7 @@ use Rattle.attribute.proofs.Single.{stop-deeper}
 use Rattle.attribute.proofs.Guards.{read-refers, read-barred, guard-lengths}
 use Rattle.attribute.proofs.Values.{walk-most, walk-within, walk-well-formed}
 use Rattle.memory.specs.Slots.{shaped, slotOf, Stands, Trusts, Kept}
-use Rattle.memory.specs.Levels.{settingsBy, settingsOf, Level, levelOf, innerLevel, left, Adds, Came, Refuses, Opens, Lent, Taken, Bounds}
+use Rattle.memory.specs.Levels.{settingsBy, settingsOf, Level, levelOf, innerLevel, left, Adds, Came, RefusesAt, Opens, Lent, Taken, Bounds}
 use Rattle.memory.specs.declared.Reading.{Reading}
 use Rattle.memory.specs.declared.Place.{Place}
 use Rattle.memory.proofs.Shaped.{shaped-space}
@@ -54,6 +54,11 @@ use Rattle.memory.proofs.Levels.{Brief, Sound, left-refused, came-past,
 use Rattle.memory.proofs.Hits.{memory-bounds}
 
 -- ---- the settings of a walk
+
+-- the same reading at another depth
+abbrev pub readAt : ℕ → Reading → Reading
+readAt depth r =
+    record { how = r .how; inner = r .inner; guard = r .guard; inguard = r .inguard; form = r .form; depth = depth; limit = r .limit; base = r .base }
 
 read-lengths : (legal : ℕ → CharNumber) (how guard : ℕ) → Moving (lengths legal) (readBy how guard)
 read-lengths legal how guard =
@@ -189,7 +194,7 @@ module _ (r : Reading) (list pool t : List ℕ) where
 
     -- a fault in it: refusal 26
     pub run-barred : {e : ℕ} → Smooth (eqb (r .how) 1) t i e → Clean (faultBy (r .guard)) t i e → e < length t → faultBy (r .guard) (drop e t) ≡ true
-        → Refuses level begun 26 e 0
+        → RefusesAt level begun 26 e 0 made
     run-barred {e} p clean h fault =
         let run = blanksSpaced (take (e - i) (drop i t)) in
         let q = read-barred t e h (r .guard) (headsBy (r .how)) fault in
@@ -197,7 +202,6 @@ module _ (r : Reading) (list pool t : List ℕ) where
         left-refused level e made made 26 e 0 [] h (ap (λ (d : Head). outcomeOf (stopAnswer S (r .depth)) (tokenOf d) made) q) in
         record {
           before = c .value ++ (run ++ []);
-          made = made;
           outcome = c .outcome ∙ ap (prepend (c .value)) (smooth-run S (r .how) (r .guard) (r .depth) deep t made p clean ∙ ap (prepend run) stopped);
         }
 

@@ -22,6 +22,7 @@ use Rattle.attribute.proofs.Shifted.{walk-moved}
 use Rattle.attribute.proofs.Values.{walk-within}
 use Rattle.attribute.proofs.Single.{stop-deeper}
 use Rattle.memory.specs.Slots.{opening, shaped, Slot, Stands}
+use Rattle.memory.proofs.Shaped.{shaped-none}
 
 -- ---- parts of the value so far
 
@@ -105,7 +106,7 @@ module _ (s : Settings) (t : List ℕ) where
         value = value;
         inside = rw length-append (omega arith);
         is = sym (part-last v (shaped form value));
-        few = f;
+        few = omega (arith, f);
         again = λ e n h l. opening-moved e m n o value (opening-deeper depth e m (m + o) value h q) l;
       }
 
@@ -119,10 +120,21 @@ module _ (s : Settings) (t : List ℕ) where
       let z : made ≡ m + o = omega (arith, r, one) in
       rw (p, c) (stands-made form v value depth m o (q ∙ ap (done value) z) (omega (arith, top, z)))
 
+  -- nothing but whose text it is
+  pub stands-name : (form depth : ℕ) (v : List ℕ) → Stands s form t v (record { depth = depth; place = 0; count = 0; opened = s .limit + 1 })
+  stands-name form depth v =
+      record {
+        value = [];
+        inside = omega arith;
+        is = shaped-none form;
+        few = omega arith;
+        again = λ e m h l. absurd (omega (arith, l));
+      }
+
   module _ {form : ℕ} {v : List ℕ} {x : Slot} (k : Stands s form t v x) where
     -- its text took an opening
-    pub stands-some : 1 ≤ x .opened
-    stands-some = omega (arith, opening-one (x .depth) 0 (0 + x .opened) _ (k .again (x .depth) 0 (omega arith) (omega (arith, k .few))))
+    pub stands-some : x .opened ≤ s .limit → 1 ≤ x .opened
+    stands-some few = omega (arith, opening-one (x .depth) 0 (0 + x .opened) _ (k .again (x .depth) 0 (omega arith) (omega (arith, few))))
 
     pub stands-size : length (shaped form (k .value)) ≡ x .count
     stands-size = ap length (k .is) ∙ length-take-le (x .count) (drop (x .place) v) (rw length-drop (omega (arith, k .inside)))
@@ -132,4 +144,4 @@ module _ (s : Settings) (t : List ℕ) where
         → sameBytes name (97 ∷ 109 ∷ 112 ∷ []) ≡ false → s .bind name ≡ text t
         → stopAnswer s depth (named i name) n ≡ done (k .value) (n + x .opened)
     again-stop depth n deep enough l i name amp bound =
-        opening-stop depth n deep (λ e. omega (arith, stands-some, e, l)) i name amp bound ∙ k .again depth n enough l
+        opening-stop depth n deep (λ e. omega (arith, stands-some (omega (arith, l)), e, l)) i name amp bound ∙ k .again depth n enough l

@@ -51,6 +51,10 @@ abbrev pub levelOf : Reading → List ℕ → List ℕ → List ℕ → Level
 levelOf r list pool text =
     record { settings = settingsOf r list pool; form = r .form; at = readBy (r .how) (r .guard); depth = r .depth; text = text; list = list; pool = pool }
 
+-- the same level at another depth
+abbrev pub atDepth : ℕ → Level → Level
+atDepth depth l = record { settings = l .settings; form = l .form; at = l .at; depth = depth; text = l .text; list = l .list; pool = l .pool }
+
 -- the level of a text that is opened
 abbrev pub innerLevel : Settings → ℕ → List ℕ → List ℕ → ℕ → ℕ → Level
 innerLevel s form list pool depth command =
@@ -103,6 +107,11 @@ pub record Refuses (l : Level) (begun number first second : ℕ) : Type 0 where
   pub made : ℕ
   pub outcome : left l 0 begun ≡ refused before made number first second
 
+-- after so many openings
+pub record RefusesAt (l : Level) (begun number first second made : ℕ) : Type 0 where
+  pub before : List ℕ
+  pub outcome : left l 0 begun ≡ refused before made number first second
+
 -- a text of the table is to be opened at the reference at `at`, which ends before `next`; there is an opening left
 pub record Opens (l : Level) (v whole : List ℕ) (begun : ℕ) (out words : List ℕ) (at next command slot len made : ℕ) : Type 0 where
   pub came : Came l v whole begun out words at len made
@@ -119,7 +128,7 @@ abbrev pub Reaches : Level → List ℕ → List ℕ → ℕ → List ℕ → Li
 Reaches l v whole begun out words (End len made) = Whole l v whole begun out words len made
 Reaches l v whole begun out words (Opening at next command slot len made) = Opens l v whole begun out words at next command slot len made
 Reaches l v whole begun out words (Paused at len made) = Came l v whole begun out words at len made
-Reaches l v whole begun out words (Stopped number first second) = Refuses l begun number first second
+Reaches l v whole begun out words (Stopped number first second made) = RefusesAt l begun number first second made
 
 -- ---- contracts
 
@@ -137,14 +146,15 @@ abbrev pub Onward : ℕ → ℕ → List ℕ → Reached → Type 0
 Onward size from seen (End len made) = Unit {0}
 Onward size from seen (Opening at next command slot len made) = (from < next) × (next ≤ size)
 Onward size from seen (Paused at len made) = (from ≤ at) × (at < size) × (length seen ≡ 0)
-Onward size from seen (Stopped number first second) = Unit {0}
+Onward size from seen (Stopped number first second made) = Unit {0}
 
--- of `normalize_flat`
+-- of `normalize_flat`: what it came to holds at its depth and at every greater one, since it never uses its depth up
 pub record FlatKeeps (l : Level) (base : ℕ) (p : Place) (old seen new kept : List ℕ) (r : Reached) : Type 0 where
   pub onward : Onward (length (l .text)) (p .at) seen r
   pub buffer : length new ≡ length old
   pub words : length kept ≡ length seen
-  pub reaches : (v whole : List ℕ) (begun : ℕ) → length v ≡ base → Came l v whole begun old seen (p .at) (p .len) (p .openings) → Reaches l v whole begun new kept r
+  pub reaches : (depth : ℕ) → l .depth ≤ depth → (v whole : List ℕ) (begun : ℕ) → length v ≡ base
+      → Came (atDepth depth l) v whole begun old seen (p .at) (p .len) (p .openings) → Reaches (atDepth depth l) v whole begun new kept r
 
 -- the answer of a level; of a refusal nothing but the answer is said
 pub record Finishes (l : Level) (v whole : List ℕ) (begun : ℕ) (out words : List ℕ) (r : Answer) : Type 0 where
@@ -192,4 +202,4 @@ HadKeeps command slot r p seen old new Unseen = new ≡ old
 pub record Bounds (command slot limit reached : ℕ) (seen : List ℕ) : Type 0 where
   pub size : length seen ≢ 0 → length seen ≡ 84
   pub inside : getD seen slot 0 ≡ command + 1 → slotAt seen slot .place + slotAt seen slot .count ≤ reached
-  pub few : getD seen slot 0 ≡ command + 1 → slotAt seen slot .opened ≤ limit
+  pub few : getD seen slot 0 ≡ command + 1 → slotAt seen slot .opened ≤ limit + 1

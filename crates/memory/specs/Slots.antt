@@ -42,12 +42,13 @@ pub record Slot : Type 0 where
 abbrev pub slotOf : ℕ → ℕ → ℕ → ℕ → Slot
 slotOf depth place count opened = record { depth = depth; place = place; count = count; opened = opened }
 
--- what a slot says of the text `t`, where `v` is what the whole call has written so far
+-- what a slot says of the text `t`, where `v` is what the whole call has written so far; one whose openings are one more than the limit
+-- tells nothing but whose text it is
 pub record Stands (s : Settings) (form : ℕ) (t v : List ℕ) (x : Slot) : Type 0 where
   pub value : List ℕ
   pub inside : x .place + x .count ≤ length v
   pub is : shaped form value ≡ take (x .count) (drop (x .place) v)
-  pub few : x .opened ≤ s .limit
+  pub few : x .opened ≤ s .limit + 1
   pub again : (e m : ℕ) → x .depth ≤ e → m + x .opened ≤ s .limit → opening s e t m ≡ done value (m + x .opened)
 
 -- ---- the words: 16 slots side by side, the offset of the command and 1 first; then a word for each of lt, gt, apos, quot

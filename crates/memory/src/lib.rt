@@ -64,6 +64,7 @@ pub enum Reached {
         number: u32,
         first: u64,
         second: u64,
+        openings: u64,
     },
 }
 

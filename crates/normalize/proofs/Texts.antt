@@ -8,6 +8,7 @@ use mathlib.Core.Bool.{Bool, true, false, not}
 use mathlib.Core.List.{List, []}
 use Prim.Native.Nat.{ℕ, zero, suc, _+_, _-_, _*_, _≤_, _<_}
 use native.Mathlib.Omega.{arith}
+use native.Mathlib.Nat.{le-refl}
 use lib.Dec.{eqb, ltb}
 use lib.ListN.{length, take, drop, replicate}
 use Rattle.text.specs.Bytes.{pick}
@@ -53,7 +54,7 @@ use Rattle.memory.proofs.Keeping.{memory-start, memory-none}
 use Rattle.halts.proofs.Spaces.{spaced-length}
 use Rattle.memory.proofs.Stretches.{smooth-part, smooth-run, smooth-whole}
 use Rattle.memory.proofs.Readings.{by-utf8}
-use Rattle.memory.proofs.Levels.{placeOf, walk-left, came-start, came-memory}
+use Rattle.memory.proofs.Levels.{refuses-some, placeOf, walk-left, came-start, came-memory}
 use Rattle.memory.proofs.Turns.{turn-end, turn-stopped}
 use Rattle.cycle.specs.Cycle.{Walkable}
 use Rattle.normalize.specs.declared.Wanted.{Wanted}
@@ -119,13 +120,13 @@ module _ (r : Reading) (list pool text : List ℕ) (outer : r .base ≡ 0) where
 
   module _ (utf8 : WellFormed text) {out new kept : List ℕ} {x : Reached} (f : FlatKeeps level (r .base) (placeOf 0 0 0) out [] new kept x) where
     reached : {y : Reached} → x ≡ y → Reaches level [] out 0 new kept y
-    reached is = subst (Reaches level [] out 0 new kept) is (f .reaches [] out 0 (sym outer) (start-came utf8 out))
+    reached is = subst (Reaches level [] out 0 new kept) is (f .reaches (r .depth) (le-refl _) [] out 0 (sym outer) (start-came utf8 out))
 
     pub text-end : {len made : ℕ} → x ≡ End len made → Walks (formOf r list pool text) out new (Done len made)
     text-end is = walks-whole (finished (turn-end level (reached is)) (f .buffer))
 
-    pub text-stopped : {number first second : ℕ} → x ≡ Stopped number first second → Walks (formOf r list pool text) out new (Refused number first second)
-    text-stopped is = walks-whole (finished (turn-stopped level {out = new} {words = kept} (reached is)) (f .buffer))
+    pub text-stopped : {number first second made-then : ℕ} → x ≡ Stopped number first second made-then → Walks (formOf r list pool text) out new (Refused number first second)
+    text-stopped is = walks-whole (finished (turn-stopped level {out = new} {words = kept} (refuses-some (reached is))) (f .buffer))
 
     bare : {i len made : ℕ} → Came level [] out 0 new kept i len made → Came level [] out 0 new [] i len made
     bare c = came-memory level [] out 0 c (memory-none (settingsOf r list pool) (r .form) list pool _ [] refl)

@@ -90,6 +90,7 @@ fn normalize_text(
             number,
             first: a,
             second,
+            openings: _,
         } => Answer::Refused {
             number,
             first: a,
