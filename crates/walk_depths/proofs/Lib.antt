@@ -1,0 +1,5 @@
+pub mod ByDepth
+pub mod Zeros
+pub mod NamesByDepth
+pub mod Needs
+pub mod LeastExamples

@@ -1,0 +1,2 @@
+pub mod LeastDepth
+pub mod Summary
