@@ -1,0 +1,4 @@
+pub mod SmoothNeeds
+pub mod NeedRooms
+pub mod NeedTurns
+pub mod LeastAnswers
