@@ -27,6 +27,7 @@ use Rattle.collapse.specs.NextToken.{nextToken}
 use Rattle.collapse.specs.declared.Found.{Found}
 use Rattle.nmtokens.specs.Nmtokens.{collapsed}
 use Rattle.charref.specs.CharRef.{charNumber, anyCharacter, numberAnswer}
+use Rattle.walk_depths.specs.LeastDepth.{leastDepth}
 use Rattle.register.specs.RegisterCalls.{addCall, withdrawCall, countCall}
 
 -- document 01, UTF-8: 1 and 5, else the text's length
@@ -145,3 +146,8 @@ registerWithdrawCall form buffer used = withdrawCall form buffer used
 -- document 02, K10, count one: 1 and 5 of the form, then 28, else the form's count
 abbrev pub registerCountCall : List ℕ → List ℕ → ℕ → Called
 registerCountCall form buffer used = countCall form buffer used
+
+-- document 02, K14: 1, 3 to 9, then what depth 128 refuses by, 32 in place of 16, else the least depth
+unfoldable pub leastDepthCall : List ℕ → ℕ → ℕ → List ℕ → List ℕ → Called
+leastDepthCall text version limit list pool =
+    guarded (walkCheck text version 128 limit list pool) [] (callOf (leastDepth (readingOf (ruleOf version) list pool limit) text) [])

@@ -8,6 +8,7 @@ ghost use mathlib.Core.Path.{_≡_};
 ghost use mathlib.Core.List.{[], _∷_};
 ghost use Rattle.text.specs.Call.{called};
 ghost use Rattle.govlezna.specs.Calls.{checkUtf8Call, parseNumberCall, escapeCall, normalizeEolsCall, trimCall, cursorLeft, cdataNextCall, checkTableCall, unescapeCall, normalizeAttributeValueCall, canonicalFormCall, normalizeAttributeValueStrictCall, canonicalFormStrictCall, registerAddCall, registerWithdrawCall, registerCountCall, normalizeNmtokensCall, nextNmtokenCall, c14nAttributeCall, c14nTextCall};
+ghost use Rattle.govlezna.specs.Calls.{leastDepthCall};
 ghost use Rattle.govlezna.specs.declared.CDataNext.{CDataNext};
 ghost use Rattle.utils.specs.Trim.{trimStart, trimEnd, trimSpaces};
 ghost use Rattle.register.specs.RegisterCalls.{lent};
@@ -461,4 +462,31 @@ pub extern "C" fn govlezna_register_count(
     ensures { λ r. ⌜ called r (now (answer .exit)) [] ≡ registerCountCall (now (form .entry)) (now (buffer .entry)) used ⌝ }
 {
     put(registers::count(form, buffer, used), answer)
+}
+
+// The least depth at which the value is accepted (K14). Success: that depth.
+#[no_mangle]
+pub extern "C" fn govlezna_least_depth(
+    text: &[u8],
+    version: u8,
+    limit: u64,
+    list: &[u8],
+    pool: &[u8],
+    answer: &mut [u64; 2],
+) -> u32
+    ensures { λ r. ⌜ called r (now (answer .exit)) [] ≡ leastDepthCall (now (text .entry)) version limit (now (list .entry)) (now (pool .entry)) ⌝ }
+{
+    let simple = simple::is_simple(text);
+    let checked = checks::check_walk(text, simple, version, 128, limit, list, pool);
+    let Answer::Done {
+        first: _,
+        second: _,
+    } = checked
+    else {
+        return put(checked, answer);
+    };
+    put(
+        walk_least_depth::least_of(text, simple, version, limit, list, pool),
+        answer,
+    )
 }
