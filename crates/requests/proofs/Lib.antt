@@ -10,3 +10,5 @@ pub mod Register
 mod NmtokensMet
 pub mod C14n
 pub mod SmallScratch
+pub mod LeastDepths
+mod LeastDepthsMet

@@ -4,13 +4,13 @@
 -- any number (`k13-firsts-stay`). Assumes nothing.
 use mathlib.Core.Path.{_≡_, refl, sym, ap, subst, _∙_}
 use mathlib.Core.Logic.{_≢_}
-use Prim.Native.Nat.{ℕ}
+use Prim.Native.Nat.{ℕ, _≤_}
 use mathlib.Core.Bool.{Bool, true, false}
 use mathlib.Core.Option.{Option, some, none}
 use mathlib.Core.List.{List, [], _∷_, _++_, append-nil}
 use Rattle.text.specs.Bytes.{pick, sameBytes}
 use Rattle.text.specs.Version.{Rule, ruleOf}
-use Rattle.text.specs.Call.{Called, guarded, andThen, textCheck, argumentCheck}
+use Rattle.text.specs.Call.{Called, callOf, guarded, andThen, textCheck, argumentCheck}
 use Rattle.text.specs.declared.Answer.{Answer}
 use Rattle.text.specs.declared.Answer.the-variants.{Done, Refused}
 use Rattle.text.proofs.Bytes.{same-equal}
@@ -29,9 +29,11 @@ use Rattle.attribute.specs.Form.{formed}
 use Rattle.nmtokens.specs.Nmtokens.{collapsed}
 use Rattle.attribute.specs.LookedUp.{lookedUp}
 use Rattle.attribute.proofs.LookedUp.{unused-table}
-use Rattle.govlezna.specs.Calls.{unescapeCall, normalizeAttributeValueCall, canonicalFormCall, normalizeAttributeValueStrictCall, canonicalFormStrictCall, normalizeNmtokensCall}
+use Rattle.walk_depths.specs.LeastDepth.{leastDepth}
+use Rattle.walk_depths.proofs.NamesByDepth.{names-down, least-same}
+use Rattle.govlezna.specs.Calls.{unescapeCall, normalizeAttributeValueCall, canonicalFormCall, normalizeAttributeValueStrictCall, canonicalFormStrictCall, normalizeNmtokensCall, leastDepthCall}
 use Rattle.demands.proofs.CallDemands.{table-valid}
-use Rattle.requests.specs.Unused.{Reader, normalizing, forming, listing, unescaping, callWith, namesWith, BoundAlike, command1, command2, predefinedInBoth, unknownInBoth, BindAlike, OneMarking, Definition, definitionsIn, definitions, firstOf, Unused, Others}
+use Rattle.requests.specs.Unused.{Reader, normalizing, forming, listing, unescaping, deepening, callWith, namesWith, BoundAlike, command1, command2, predefinedInBoth, unknownInBoth, BindAlike, OneMarking, Definition, definitionsIn, definitions, firstOf, Unused, Others}
 
 -- ---- bound alike is bound to the same
 
@@ -71,6 +73,14 @@ module _ (list pool list′ pool′ : List ℕ) (m : OneMarking list pool list�
       (each-weaker (λ (name : List ℕ). BoundAlike (binding list pool name) (binding list′ pool′ name)) (λ (name : List ℕ). binding list pool name ≡ binding list′ pool′ name)
       (λ name h. alike-equal h) (lookedUp (readingBy strict r list pool limit) depth t) e)
 
+  -- the least depth: at a smaller depth no other name is looked up than at 128
+  depth-same : (t : List ℕ) (r : Rule) (limit : ℕ) → BindAlike list pool list′ pool′ (lookedUp (readingBy false r list pool limit) 128 t)
+      → leastDepth (readingBy false r list pool limit) t ≡ leastDepth (readingBy false r list′ pool′ limit) t
+  depth-same t r limit e =
+      let s = readingBy false r list pool limit in
+      let alike : List ℕ → Type 0 = λ name. BoundAlike (binding list pool name) (binding list′ pool′ name) in
+      least-same s (readingBy false r list′ pool′ limit) t (λ depth h. value-same false t r depth limit (names-down alike s t 128 depth h e) .outcome)
+
   text-same : (t : List ℕ) → BindAlike list pool list′ pool′ (lookedUpInText (binding list pool) t)
       → Agree (unescape (binding list pool) t) (unescape (binding list′ pool′) t) (lookedUpInText (binding list pool) t) (lookedUpInText (binding list′ pool′) t)
   text-same t e =
@@ -81,7 +91,7 @@ module _ (list pool list′ pool′ : List ℕ) (m : OneMarking list pool list�
   -- K13: "if two accepted tables of one marking bind each name that a reading looks up alike .., then text, openings, refusal and positions are
   -- equal, under the same version, depth, limit and room": number, words and every byte of every buffer
   pub k13-unused : (reader : Reader) → BindAlike list pool list′ pool′ (namesWith reader list pool) → callWith reader list pool ≡ callWith reader list′ pool′
-  unfolding normalizeAttributeValueCall canonicalFormCall normalizeAttributeValueStrictCall canonicalFormStrictCall normalizeNmtokensCall unescapeCall readingBy
+  unfolding normalizeAttributeValueCall canonicalFormCall normalizeAttributeValueStrictCall canonicalFormStrictCall normalizeNmtokensCall unescapeCall leastDepthCall readingBy
   k13-unused (normalizing false t version depth limit out) e =
       guarded-same (argumentCheck t (settingsCheck version depth limit)) (out ∷ [])
       (ap (λ (o : Outcome). finished o out) (value-same false t (ruleOf version) depth limit e .outcome))
@@ -98,6 +108,8 @@ module _ (list pool list′ pool′ : List ℕ) (m : OneMarking list pool list�
       guarded-same (argumentCheck t (settingsCheck version depth limit)) (scratch ∷ out ∷ [])
       (ap (λ (o : Outcome). collapsed o scratch out) (value-same false t (ruleOf version) depth limit e .outcome))
   k13-unused (unescaping t out) e = guarded-same (textCheck t) (out ∷ []) (ap (λ (o : Outcome). finished o out) (text-same t e .outcome))
+  k13-unused (deepening t version limit) e =
+      guarded-same (argumentCheck t (settingsCheck version 128 limit)) [] (ap (λ (a : Answer). callOf a []) (depth-same t (ruleOf version) limit e))
 
   -- both readings look up the same names
   pub k13-names : (reader : Reader) → BindAlike list pool list′ pool′ (namesWith reader list pool) → namesWith reader list pool ≡ namesWith reader list′ pool′
@@ -105,6 +117,7 @@ module _ (list pool list′ pool′ : List ℕ) (m : OneMarking list pool list�
   k13-names (forming strict t version depth limit scratch out) e = value-same strict t (ruleOf version) depth limit e .asks
   k13-names (listing t version depth limit scratch out) e = value-same false t (ruleOf version) depth limit e .asks
   k13-names (unescaping t out) e = text-same t e .asks
+  k13-names (deepening t version limit) e = value-same false t (ruleOf version) 128 limit e .asks
 
 -- K13 from the other side: the names that the reading with the second table looks up
 pub k13-symmetric : (list pool list′ pool′ : List ℕ) → OneMarking list pool list′ pool′ → (reader : Reader)
