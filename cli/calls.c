@@ -84,7 +84,30 @@ static uint32_t check(const struct request *q, uint64_t answer[2])
 static uint32_t read_only(const struct request *q, uint64_t answer[2])
 {
     uint32_t number = call(q, NULL, 0, NULL, 0, answer);
-    return number == GOVLEZNA_NO_ROOM ? 0 : number;
+    return number == GOVLEZNA_NO_SCRATCH || number == GOVLEZNA_NO_ROOM ? 0 : number;
+}
+
+static uint32_t least_depth(const struct request *q, uint64_t answer[2])
+{
+    return govlezna_least_depth(q->text, q->text_length, q->arguments->version, q->arguments->limit, q->list, q->list_length,
+                                q->pool, q->pool_length, answer);
+}
+
+/* Asked by the command's own call, since the strict rule refuses more; what it accepts it reads as the lenient one does. */
+uint32_t find_depth(const struct request *q, uint64_t *depth)
+{
+    struct arguments arguments = *q->arguments;
+    struct request deepest = *q;
+    uint64_t answer[2];
+    uint32_t number;
+    arguments.depth = DEEPEST;
+    deepest.arguments = &arguments;
+    number = read_only(&deepest, answer);
+    if (number == 0) {
+        least_depth(q, answer);
+        *depth = answer[0];
+    }
+    return number;
 }
 
 uint32_t make_call(const struct request *q, struct outcome *o)
@@ -96,6 +119,7 @@ uint32_t make_call(const struct request *q, struct outcome *o)
     case CDATA: return o->number = govlezna_cdata_next(q->text, q->text_length, &cursor, o->answer);
     case CHECK: return o->number = check(q, o->answer);
     case USED: return o->number = read_only(q, o->answer);
+    case LEAST_DEPTH: return o->number = least_depth(q, o->answer);
     default: return write_result(q, o);
     }
 }

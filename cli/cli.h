@@ -9,8 +9,9 @@
 #define TEXT_MOST ((size_t)16777216)
 #define LIST_MOST ((size_t)49154)
 #define POOL_MOST ((size_t)1048576)
+#define DEEPEST ((uint64_t)128)
 
-enum command { ESCAPE, UNESCAPE, NORMALIZE, CANONICAL, NMTOKENS, EOLS, TRIM, CDATA, CHECK, USED, C14N, REGISTER };
+enum command { ESCAPE, UNESCAPE, NORMALIZE, CANONICAL, NMTOKENS, EOLS, TRIM, CDATA, CHECK, USED, C14N, REGISTER, LEAST_DEPTH };
 enum side { BOTH, START, END };
 enum node { NEITHER, ATTRIBUTE, TEXT };
 enum action { ADD, WITHDRAW, COUNT, LIST };
@@ -114,6 +115,8 @@ void free_request(struct request *request);
 
 /* calls.c */
 uint32_t make_call(const struct request *request, struct outcome *outcome);
+/* Of a value that is refused by 16: the least depth that it is accepted at, if the number is 0; else what refuses it at 128. */
+uint32_t find_depth(const struct request *request, uint64_t *depth);
 
 /* pieces.c */
 uint32_t next_piece(const struct request *request, struct govlezna_cursor *cursor, uint64_t answer[2]);

@@ -64,6 +64,7 @@ static void put_success(const struct request *q, const struct outcome *o)
         put(o->bytes, o->answer[0]);
         break;
     case USED: return;
+    case LEAST_DEPTH: printf("%" PRIu64 "\n", o->answer[0]); return;
     case CDATA: put_sections(q); break;
     case TRIM: put(q->text + o->answer[0], o->answer[1]); break;
     default: put(o->bytes, o->answer[0]); break;

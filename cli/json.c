@@ -94,6 +94,8 @@ void json_success(const struct request *q, const struct outcome *o)
         put_result((struct span){ q->text + o->answer[0], o->answer[1] });
     } else if (command == USED) {
         put_names(q, o);
+    } else if (command == LEAST_DEPTH) {
+        json_number("least_depth", o->answer[0]);
     } else {
         json_number("length", o->answer[0]);
         if (command == NORMALIZE || command == CANONICAL || command == NMTOKENS)
@@ -103,6 +105,19 @@ void json_success(const struct request *q, const struct outcome *o)
         put_result((struct span){ o->bytes, o->answer[0] });
     }
     puts("}");
+}
+
+/* The depth that would do, or null and the number at depth 128. */
+static void put_depth(const struct request *q)
+{
+    uint64_t depth;
+    uint32_t number = find_depth(q, &depth);
+    if (number == 0) {
+        json_number("least_depth", depth);
+        return;
+    }
+    printf(",\"least_depth\":null");
+    json_number("at_128", number);
 }
 
 /* The library's answer, then the place: offsets in the text of `entity`, or else in the text given. */
@@ -125,6 +140,8 @@ void json_refusal(const struct request *q, const struct outcome *o)
         if (is_forbidden(o->number))
             printf(",\"character\":\"U+%04" PRIX64 "\"", place.character);
     }
+    if (o->number == GOVLEZNA_TOO_DEEP)
+        put_depth(q);
     put_names(q, o);
     puts("}");
 }

@@ -5,8 +5,8 @@
 #include <stdlib.h>
 #include <string.h>
 
-static const char *const commands[] = { "escape", "unescape", "normalize", "canonical", "nmtokens", "eols",
-                                        "trim",   "cdata",    "check",     "used",      "c14n",     "register" };
+static const char *const commands[] = { "escape", "unescape", "normalize", "canonical", "nmtokens", "eols", "trim",
+                                        "cdata",  "check",    "used",      "c14n",      "register", "depth" };
 static const char *const actions[] = { "add", "withdraw", "count", "list" };
 
 #define COMMANDS (sizeof commands / sizeof commands[0])
@@ -21,7 +21,7 @@ enum option {
 #define ON(command) (1u << (command))
 #define ALL (ON(COMMANDS) - 1)
 /* Those that read an attribute value, and those that have a table. */
-#define VALUES (ON(NORMALIZE) | ON(CANONICAL) | ON(NMTOKENS) | ON(USED))
+#define VALUES (ON(NORMALIZE) | ON(CANONICAL) | ON(NMTOKENS) | ON(USED) | ON(LEAST_DEPTH))
 #define TABLES (VALUES | ON(UNESCAPE) | ON(CHECK))
 
 /* The options: how many values each takes, and which commands take it. */
@@ -32,7 +32,7 @@ static const struct {
 } options[OPTIONS] = {
     { "--level", 1, ON(ESCAPE) },
     { "--version", 1, VALUES | ON(EOLS) },
-    { "--depth", 1, VALUES },
+    { "--depth", 1, VALUES & ~ON(LEAST_DEPTH) },
     { "--limit", 1, VALUES },
     { "--strict", 0, ON(NORMALIZE) | ON(CANONICAL) | ON(USED) },
     { "--entity", 1, TABLES },
@@ -227,7 +227,7 @@ void read_arguments(int argc, char **argv, struct arguments *a)
             flush_output();
             exit(0);
         }
-    *a = (struct arguments){ .command = read_command(argv[1]), .depth = 128, .limit = 10000,
+    *a = (struct arguments){ .command = read_command(argv[1]), .depth = DEEPEST, .limit = 10000,
                               .room = ROOM_IF_NOT_GIVEN };
     a->entities = allocate((size_t)argc * sizeof *a->entities);
     for (int at = 2; at < argc;) {

@@ -307,7 +307,7 @@ static struct place find_in_walk(const struct request *q, const struct outcome *
 static int ended_the_walk(uint32_t number)
 {
     return (number >= GOVLEZNA_UNTERMINATED_ENTITY && number <= GOVLEZNA_TOO_MANY_OPENINGS) ||
-           number == GOVLEZNA_EXTERNAL_ENTITY || is_forbidden(number);
+           number == GOVLEZNA_EXTERNAL_ENTITY || number == GOVLEZNA_NO_DEPTH || is_forbidden(number);
 }
 
 struct place find_place(const struct request *q, const struct outcome *o)

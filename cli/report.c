@@ -141,6 +141,19 @@ int is_forbidden(uint32_t number)
     return number == GOVLEZNA_FORBIDDEN_REFERENCE || number == GOVLEZNA_FORBIDDEN_CHARACTER;
 }
 
+/* What would do in the place of the depth that was used up. */
+static void show_depth(const struct request *q)
+{
+    uint64_t depth;
+    uint32_t number = find_depth(q, &depth);
+    if (number == 0)
+        fprintf(stderr, "govlezna: --depth %" PRIu64 " would do\n", depth);
+    else if (number == GOVLEZNA_TOO_DEEP)
+        fputs("govlezna: no --depth up to 128 would do\n", stderr);
+    else
+        fprintf(stderr, "govlezna: no --depth up to 128 would do: with 128 it is refusal %" PRIu32 ": %s\n", number, words_of(number));
+}
+
 void report_refusal(const struct request *q, const struct outcome *o)
 {
     struct place place = find_place(q, o);
@@ -155,4 +168,6 @@ void report_refusal(const struct request *q, const struct outcome *o)
         show_place(q, &place);
     else
         fputc('\n', stderr);
+    if (o->number == GOVLEZNA_TOO_DEEP)
+        show_depth(q);
 }

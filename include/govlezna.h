@@ -67,6 +67,7 @@ extern "C" {
 #define GOVLEZNA_DAMAGED_REGISTER 28    /* the used bytes are no register */
 #define GOVLEZNA_ABSENT_FORM 29         /* the form to withdraw is not in the register */
 #define GOVLEZNA_REGISTER_FULL 30       /* no room for a new form, or its count is 4,294,967,295 already */
+#define GOVLEZNA_NO_DEPTH 32            /* no depth up to 128 is enough */
 
 /* No refusal: there is no further piece or token. */
 #define GOVLEZNA_NO_MORE 255
@@ -233,6 +234,26 @@ uint32_t govlezna_normalize_attribute_value(const uint8_t *text, size_t text_len
                                             uint64_t limit, const uint8_t *list, size_t list_length,
                                             const uint8_t *pool, size_t pool_length, uint8_t *out, size_t out_length,
                                             uint64_t answer[2]);
+
+/*
+ * The least depth at which an attribute value is accepted: the smallest one from 0 to 128 that
+ * govlezna_normalize_attribute_value does not refuse by TOO_DEEP. At each depth from there to 128 that call gives the
+ * same text and openings, and at each smaller one TOO_DEEP.
+ *
+ * `limit`: as there. `list`, `pool`: the table; for none the list { 0 } of length 1, and NULL with length 0.
+ * Success: answer[0] is the least depth.
+ * Refusals, in this order: TOO_LONG; LIMIT_TOO_LARGE; UNKNOWN_BYTE (version over 2); NOT_UTF8; those of
+ * govlezna_check_table; NO_DEPTH (at depth 128 too the value is refused by TOO_DEEP), or what else
+ * govlezna_normalize_attribute_value refuses it by at depth 128, with the same answer words. No room is asked for.
+ * Time: about that of govlezna_normalize_attribute_value at depth 128 with an output of length 0; up to twice that for a
+ * value of TABs and line ends alone.
+ * Example: version 0, limit 10, the table above: `a b` needs depth 0, `&lt;` and `&e;` need 1. With the pool `e&lt;` the
+ * table defines e as `&lt;`, and `&e;` needs 2; with the pool `e&e;` and a text length of 3 it is refused by
+ * TOO_MANY_OPENINGS, first 0, and with limit 1,000,000 by NO_DEPTH.
+ */
+uint32_t govlezna_least_depth(const uint8_t *text, size_t text_length, uint8_t version, uint64_t limit,
+                              const uint8_t *list, size_t list_length, const uint8_t *pool, size_t pool_length,
+                              uint64_t answer[2]);
 
 /*
  * The canonical form of an attribute value: the normalized value, written as level 3 of govlezna_escape; in version 2

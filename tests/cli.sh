@@ -85,6 +85,42 @@ lists() {
     expect $? used "$@"
 }
 
+# needs DEPTH ARGUMENTS..: the least depth, in JSON too. A value is read alike there and at 128; one less is refused by 16, which says
+# what would do.
+needs() {
+    local depth=$1
+    shift
+    gives "$depth"$'\n' depth "$@"
+    gives "{\"command\":\"depth\",\"number\":0,\"least_depth\":$depth}"$'\n' depth --json "$@"
+    run normalize --json "$@"
+    cp "$room/out" "$room/deepest"
+    run normalize --json "$@" --depth "$depth"
+    [ "$status" -eq 0 ] && cmp -s "$room/deepest" "$room/out"
+    expect $? normalize --json "$@" --depth "$depth"
+    [ "$depth" -gt 0 ] || return
+    too_deep "$depth" normalize "$@" --depth $((depth - 1))
+}
+
+# too_deep DEPTH COMMAND ARGUMENTS..: refused by 16; the last line says that this depth would do, and JSON too. In the place of a depth
+# `none`, or `none N`, where no depth would do, since 128 is refused by another number.
+too_deep() {
+    local depth=$1 last='no --depth up to 128 would do' field='"least_depth":null,"at_128":'
+    shift
+    case $depth in
+    none) field+=16 ;;
+    none*) last+=": with 128 it is refusal ${depth#none }: " field+=${depth#none } ;;
+    *) last="--depth $depth would do" field="\"least_depth\":$depth" ;;
+    esac
+    run "$@"
+    [ "$status" -eq 1 ] && [[ $(head -n 1 "$room/err") == 'govlezna: refusal 16: '* ]] &&
+        [[ $(tail -n 1 "$room/err") == "govlezna: $last"* ]] &&
+        [[ $depth == none\ * || $(tail -n 1 "$room/err") == "govlezna: $last" ]]
+    expect $? "$@"
+    run "$1" --json "${@:2}"
+    [ "$status" -eq 1 ] && [ ! -s "$room/err" ] && grep -qE "\"number\":16,.*$field[,}]" "$room/out"
+    expect $? "$1" --json "${@:2}"
+}
+
 results() {
     gives 'a&lt;b&gt;&amp;&apos;&quot;&#13;' escape $'a<b>&\'"\r'
     gives '&lt;&gt;"' escape --level 1 '<>"'
@@ -178,6 +214,76 @@ names() {
     lists 0 $'a: text\n' '&a;' --entity "a=$(printf '%065535d' 0)"
 }
 
+# chain COUNT LAST: options for entities n1, n2 .., of which each has a reference to the next for its text, and the last this text.
+chain() {
+    local i
+    options=()
+    for ((i = 1; i < $1; i++)); do
+        options+=(--entity "n$i=&n$((i + 1));")
+    done
+    options+=(--entity "n$1=$2")
+}
+
+depths() {
+    local command
+    needs 0 ''
+    needs 0 'a b'
+    needs 0 ½
+    needs 1 '&lt;'
+    needs 1 '&amp;&#9;' --entity 'amp=&lt;'
+    needs 1 $'a\tb' --version 1.1
+    needs 1 ½ --version 1.1
+    needs 1 ½ --version 1.1 --marked
+    needs 1 '&e;' --entity e=x --external f
+    needs 2 '&e;' --entity 'e=&f;' --entity f=x
+    needs 2 '&lt;' --entity $'lt=\t'
+    needs 1 '&e;' --entity e=½
+    needs 2 '&e;' --entity e=½ --version 1.1
+    needs 1 '&e;' --entity e=½ --version 1.1 --marked
+    needs 2 '&a;&x;&b;' --entity 'a=&d;' --entity d=y --entity x=z --entity 'b=&x;'
+    needs 3 '&a;&b;&lt;' --entity 'a=&b;&c;' --entity b=x --entity 'c=&b;'
+    needs 2 '&e;' --entity 'e=&f;' --entity f=x --limit 2
+    refuses 17 ': byte 0 of the text of the entity e' depth '&e;' --entity 'e=&f;' --entity f=x --limit 1
+    refuses 17 ': byte 0 of the text of the entity e' depth '&e;' --entity 'e=&e;' --limit 2
+    refuses 32 'no depth up to 128 is enough: byte 1 of the text of the entity e' depth '&e;' --entity 'e=x&e;' --limit 1000000
+    chain 128 x
+    needs 128 '&n1;' "${options[@]}"
+    chain 129 x
+    refuses 32 ': byte 0 of the text of the entity n128' depth 'a &n1;' "${options[@]}"
+    too_deep none normalize '&n1;' "${options[@]}"
+    chain 127 'a&u;'
+    refuses 11 ': byte 2 of the text of the entity n127' depth '&n1;' "${options[@]}"
+    too_deep 'none 11' normalize '&n1;' "${options[@]}" --depth 127
+    chain 128 'a&u;'
+    refuses 32 ': byte 1 of the text of the entity n128' depth '&n1;' "${options[@]}"
+    refuses 3 '' depth a --limit 1000001
+    refuses 4 '' depth a --version 3
+    refuses 9 ': --entity number 1' depth a --entity =x
+    refuses 27 ': bytes 2 to 4 of the text' depth 'a &e;' --external e
+    refuses 13 ': bytes 1 to 3 of the text of the entity e' depth 'a &e;' --entity 'e=x&#;' --marked
+    for command in normalize canonical nmtokens used 'normalize --strict' 'canonical --strict --version 1.1'; do
+        too_deep 2 $command '&e;b' --entity $'e=a\t' --depth 0
+        too_deep none $command '&e;' --entity 'e=&e;' --depth 1
+        too_deep 'none 17' $command '&e;' --entity 'e=&e;' --depth 1 --limit 3
+    done
+    too_deep 'none 26' normalize $'\t\x01' --strict --depth 0
+    too_deep 'none 26' used $'&e;\x01&u;' --entity e=½ --strict --version 1.1 --depth 1
+    too_deep 3 canonical '&e;&f;' --strict --entity $'e=\t' --entity 'f=&e;' --depth 1
+    shows 'govlezna: refusal 16: the depth is used up: byte 5 of the text of the entity sail, line 1
+    Fock &lt;3>
+         ^
+govlezna: opened from byte 6 of the text, line 1
+    Panel &sail;
+          ^
+govlezna: --depth 2 would do' normalize 'Panel &sail;' --entity 'sail=Fock &lt;3>' --depth 1
+    shows 'govlezna: refusal 32: no depth up to 128 is enough: byte 2 of the text of the entity e, line 1
+    x &e;
+      ^
+govlezna: opened from byte 1 of the text, line 1
+    a&e;
+     ^' depth 'a&e;' --entity 'e=x &e;'
+}
+
 json() {
     gives '{"command":"used","number":0,"names":[{"name":"e","bound":"text"},{"name":"lt","bound":"predefined"}]}'$'\n' \
         used --json '&e;' --entity 'e=&lt;'
@@ -216,7 +322,7 @@ refusals() {
     refuses 4 '' escape a --level 4
     refuses 4 '' eols a --version 3
     refuses 4 '' normalize a --version=255
-    for command in escape unescape normalize canonical nmtokens eols trim cdata check used; do
+    for command in escape unescape normalize canonical nmtokens eols trim cdata check used depth; do
         refuses 5 ': byte 1 of the text, line 1' "$command" $'a\xFF'
     done
     refuses 5 ': byte 1 of the text, line 1' c14n $'a\xFF' --attribute
@@ -456,6 +562,9 @@ usage() {
     misused 'no such option' escape a --frobnicate
     misused 'no such option' escape a -x
     misused 'not an option of this command' escape a --depth 3
+    misused 'not an option of this command' depth a --depth 3
+    misused 'not an option of this command' depth a --strict
+    misused 'not an option of this command' depth a --lines
     misused 'not an option of this command' unescape a --version 1.1
     misused 'its value is missing' escape a --level
     misused 'expected a number' escape a --level x
@@ -496,6 +605,7 @@ usage() {
 
 results
 names
+depths
 json
 refusals
 places

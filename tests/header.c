@@ -73,6 +73,27 @@ static uint32_t line_ends(const uint8_t *commands, size_t length)
                                               answer);
 }
 
+static uint32_t least_depth(const char *text, uint64_t limit, uint8_t text_length, const char *from)
+{
+    uint8_t commands[sizeof list];
+    memcpy(commands, list, sizeof list);
+    commands[10] = text_length;
+    return govlezna_least_depth(bytes(text), strlen(text), 0, limit, commands, sizeof commands, bytes(from), strlen(from), answer);
+}
+
+static void least_depths(void)
+{
+    expect(__LINE__, least_depth("a b", 10, 4, "esail"), 0, 0, 0);
+    expect(__LINE__, least_depth("&lt;", 10, 4, "esail"), 0, 1, 0);
+    expect(__LINE__, least_depth("&e;", 10, 4, "esail"), 0, 1, 0);
+    expect(__LINE__, least_depth("&e;", 10, 4, "e&lt;"), 0, 2, 0);
+    expect(__LINE__, least_depth("&e;", 10, 3, "e&e;"), GOVLEZNA_TOO_MANY_OPENINGS, 0, 0);
+    expect(__LINE__, least_depth("&e;", 1000000, 3, "e&e;"), GOVLEZNA_NO_DEPTH, 0, 0);
+    expect(__LINE__, least_depth("a&e", 1000000, 4, "esail"), GOVLEZNA_UNTERMINATED_ENTITY, 1, 3);
+    expect(__LINE__, least_depth("&e;", 1000001, 4, "esai"), GOVLEZNA_LIMIT_TOO_LARGE, 0, 0);
+    expect(__LINE__, least_depth("&e;", 0, 4, "esai"), GOVLEZNA_OUTSIDE_POOL, 0, 0);
+}
+
 static void marked_lists(void)
 {
     expect(__LINE__, govlezna_check_table(marked, sizeof marked, pool, sizeof pool, answer), 0, 1, 0);
@@ -217,6 +238,7 @@ static void examples(void)
     expect(__LINE__, normalize(0, 10, list, sizeof list), GOVLEZNA_TOO_DEEP, 0, 0);
     expect(__LINE__, govlezna_check_table(external, sizeof external, pool, sizeof pool, answer), 0, 1, 0);
     expect(__LINE__, normalize(2, 10, external, sizeof external), GOVLEZNA_EXTERNAL_ENTITY, 0, 0);
+    least_depths();
     marked_lists();
     canonical_xml();
     strict_calls();
@@ -244,6 +266,7 @@ static void no_table(void)
            govlezna_canonical_form(bytes("a"), 1, 0, 1, 1, empty, 1, NULL, 0, scratch, sizeof scratch, out, sizeof out,
                                    answer),
            0, 1, 0);
+    expect(__LINE__, govlezna_least_depth(bytes("a\t"), 2, 0, 1, empty, 1, NULL, 0, answer), 0, 1, 0);
 }
 
 /* `]]>]]>` by windows of three bytes: from the last cut, or the last window's end, on, none ended within `]]>`. */

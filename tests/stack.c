@@ -103,6 +103,15 @@ static uint32_t nmtokens(const struct job *job, uint64_t answer[2])
                                        answer);
 }
 
+static uint32_t least_depth(const struct job *job, uint64_t answer[2])
+{
+    uint32_t number = govlezna_least_depth(text, sizeof text, job->version, 1000000, job->chain.list, sizeof job->chain.list,
+                                           job->chain.pool, job->chain.pool_length, answer);
+    if (number == 0 && answer[0] != DEPTH)
+        return UINT32_MAX;
+    return number == GOVLEZNA_NO_DEPTH ? GOVLEZNA_TOO_DEEP : number; /* as the calls that are handed the depth */
+}
+
 /* A register of 300 forms of three digits. */
 static uint32_t register_call(const struct job *job, uint64_t answer[2])
 {
@@ -176,7 +185,7 @@ static size_t measure_registers(void)
 int main(void)
 {
     static uint32_t (*const calls[])(const struct job *, uint64_t *) = { normalize, canonical, normalize_strictly,
-                                                                         canonical_strictly, nmtokens };
+                                                                         canonical_strictly, nmtokens, least_depth };
     enum { CALLS = sizeof calls / sizeof calls[0] };
     const struct {
         const char *last;
