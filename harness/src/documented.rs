@@ -22,6 +22,8 @@ enum Given {
     Entities(&'static [Entity<'static>]),
     /// After a mark.
     Marked(&'static [Entity<'static>]),
+    /// `Draft::chain` of so many texts with this last one.
+    Chain(usize, &'static str),
     /// List and pool as they are.
     Bytes(&'static [u8], &'static [u8]),
     /// No table: a register's buffer and its used length.
@@ -82,6 +84,11 @@ pub const fn marked(entities: &'static [Entity<'static>], row: Documented) -> Do
     Documented { given, ..row }
 }
 
+pub const fn chained(length: usize, last: &'static str, row: Documented) -> Documented {
+    let given = Given::Chain(length, last);
+    Documented { given, ..row }
+}
+
 /// A table without a text.
 pub const fn table(list: &'static [u8], pool: &'static [u8], outcome: Outcome) -> Documented {
     let given = Given::Bytes(list, pool);
@@ -113,6 +120,7 @@ impl Documented {
         let draft = match self.given {
             Given::Entities(entities) => of(entities),
             Given::Marked(entities) => of(entities).marked(),
+            Given::Chain(length, last) => Draft::chain(length, last),
             Given::Bytes(list, pool) => Draft {
                 list: list.to_vec(),
                 pool: pool.to_vec(),

@@ -34,6 +34,19 @@ impl Draft {
         draft.ended()
     }
 
+    /// Names `n0`, `n1` .. of so many texts, of which each refers to the next; the last is this one.
+    pub fn chain(length: usize, last: &str) -> Self {
+        let mut draft = Draft::default();
+        for index in 0..length {
+            let text = match index + 1 == length {
+                true => last.to_string(),
+                false => format!("<&n{};>", index + 1),
+            };
+            draft.define(format!("n{index}").as_bytes(), text.as_bytes());
+        }
+        draft.ended()
+    }
+
     /// Puts name and text at the end of the pool.
     pub fn define(&mut self, name: &[u8], text: &[u8]) {
         let start = self.pool.len();

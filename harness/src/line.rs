@@ -10,14 +10,29 @@ use crate::register::{Held, Left};
 /// Inputs with more bytes to read or to write are left out, so that every line is short.
 const LONGEST: usize = 300;
 const LONGEST_OUTPUT: usize = 700;
+/// The buffers of crates/replay have so many bytes.
+const LONGEST_REPLAYED: usize = 2048;
 
 pub fn is_short(arguments: &Arguments, answer: &Answer) -> bool {
+    is_within(arguments, answer, LONGEST, LONGEST_OUTPUT)
+}
+
+pub fn is_replayed(arguments: &Arguments, answer: &Answer) -> bool {
+    is_within(arguments, answer, LONGEST_REPLAYED, LONGEST_REPLAYED)
+}
+
+fn is_within(
+    arguments: &Arguments,
+    answer: &Answer,
+    longest: usize,
+    longest_output: usize,
+) -> bool {
     let table = arguments.table;
     let register = arguments.register.buffer;
     let read = [arguments.text, table.list, table.pool, register];
     let written = [answer.room, answer.scratch_room];
-    read.iter().all(|bytes| bytes.len() <= LONGEST)
-        && written.iter().all(|&room| room <= LONGEST_OUTPUT)
+    read.iter().all(|bytes| bytes.len() <= longest)
+        && written.iter().all(|&room| room <= longest_output)
 }
 
 pub fn line(call: &Call, arguments: &Arguments, answer: &Answer) -> String {

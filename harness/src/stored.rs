@@ -1,10 +1,11 @@
 //! Writes the Rust's answers to a file that is replayed where there is no Rust.
 
+use crate::answer::Answer;
 use crate::arguments::Arguments;
 use crate::call::Call;
 use crate::calls::CALLS;
 use crate::corpus;
-use crate::line::{is_short, line};
+use crate::line::{is_replayed, is_short, line};
 use crate::random::{Random, DEFAULT_SEED};
 use std::collections::HashSet;
 use std::io::{Result, Write};
@@ -15,12 +16,12 @@ const HEADER: &str = "\
 # not, is read as documents 01 and 02 say, and lists with external entities, marked lists, and
 # characters that a strict call refuses, which the Rust knows nothing of, by the harness's own
 # reading of the walks; registers by the harness's own register, and the writers of Canonical XML by
-# its reading of the standard. Made in harness/ by
+# its reading of the standard; a least depth by what is answered at each depth. Made in harness/ by
 #   cargo run --release --offline -- stored ../crates/replay/stdin
 # Bytes are in hexadecimal, with - for none; ROOM is the output's length, OUTPUT the result alone.
 ";
 
-/// The seams of each call, the documents' rows and what a fuzzer found, each once.
+/// The seams of each call, the documents' rows and what a fuzzer found, each once. Rows may be longer than the others.
 pub fn write(calls: &[&Call], out: &mut dyn Write) -> Result<()> {
     out.write_all(HEADER.as_bytes())?;
     for call in CALLS.iter().filter(|call| !call.stored.is_empty()) {
@@ -29,18 +30,22 @@ pub fn write(calls: &[&Call], out: &mut dyn Write) -> Result<()> {
     for call in calls {
         let mut lines = vec![];
         let mut seen = HashSet::new();
-        let mut store = |arguments: Arguments| {
+        let mut store = |arguments: Arguments, is_stored: fn(&Arguments, &Answer) -> bool| {
             let answer = (call.expected)(&arguments);
-            if is_short(&arguments, &answer) {
+            if is_stored(&arguments, &answer) {
                 let line = line(call, &arguments, &answer);
                 if seen.insert(line.clone()) {
                     lines.push(line);
                 }
             }
         };
-        (call.seams)(&mut Random::new(DEFAULT_SEED), &mut store);
-        call.rows().for_each(|row| row.give(&mut store));
-        corpus::each(call, &mut store);
+        (call.seams)(&mut Random::new(DEFAULT_SEED), &mut |given| {
+            store(given, is_short)
+        });
+        for row in call.rows() {
+            row.give(&mut |given| store(given, is_replayed));
+        }
+        corpus::each(call, &mut |given| store(given, is_short));
         for line in lines {
             writeln!(out, "{line}")?;
         }

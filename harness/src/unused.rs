@@ -30,6 +30,17 @@ fn names_of(call: &Call) -> Option<Names> {
         "normalize_attribute_value_strict" | "canonical_form_strict" => {
             Some(|arguments| reading::looked_up(arguments, Rule::Strict))
         }
+        // As at depth 128.
+        "least_depth" => Some(|arguments| {
+            let depth = DEEPEST;
+            reading::looked_up(
+                &Arguments {
+                    depth,
+                    ..*arguments
+                },
+                Rule::Lenient,
+            )
+        }),
         _ => None,
     }
 }
@@ -173,6 +184,28 @@ const STRICT: &[Row] = &[
     },
 ];
 
+/// Of least depths: whatever depth there is, the names are those of depth 128.
+const LEAST_DEPTHS: &[Row] = &[
+    Row {
+        depth: 0,
+        ..row(NESTED, "&e;&f;", &["e", "f", "lt"])
+    },
+    Row {
+        depth: 1,
+        ..row(NESTED, "&e;&u;&gt;", &["e", "f", "lt", "u"])
+    },
+    Row {
+        limit: 0,
+        ..row(NESTED, "&e;&gt;", &["e"])
+    },
+    Row {
+        limit: 1,
+        ..row(NESTED, "&e;&gt;", &["e", "f"])
+    },
+    row(&[("e", Some("&lt;&e;"))], "&e;&gt;", &["e", "lt"]),
+    row(NESTED, "&g;&e;", &["g"]),
+];
+
 const TEXTS: &[Row] = &[
     row(NESTED, "&amp;&e;", &["amp", "e"]),
     row(NESTED, "&e;&u;&lt;", &["e", "u"]),
@@ -185,6 +218,7 @@ fn rows_of(call: &Call) -> Vec<&'static [Row]> {
         "unescape" => vec![TEXTS],
         "normalize_attribute_value" => vec![VALUES],
         "normalize_attribute_value_strict" => vec![VALUES, STRICT],
+        "least_depth" => vec![LEAST_DEPTHS],
         _ => vec![], // a form reads as its value does
     }
 }

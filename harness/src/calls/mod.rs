@@ -6,6 +6,7 @@ pub mod cdata_next;
 pub mod check_table;
 pub mod check_utf8;
 pub mod escape;
+pub mod least_depth;
 pub mod next_nmtoken;
 pub mod normalize_attribute_value;
 pub mod normalize_eols;
@@ -39,6 +40,7 @@ pub static CALLS: &[Call] = &[
     register::COUNT,
     c14n::ATTRIBUTE,
     c14n::TEXT,
+    least_depth::CALL,
 ];
 
 /// The calls of these names, or all where none is named; nothing if one is unknown.

@@ -24,7 +24,7 @@ fn slot_of(name: &[u8]) -> usize {
 }
 
 /// What the names of the table stand for: the first definition binds. Of a table that is accepted.
-unsafe fn definitions(lent: &Lent) -> HashMap<&[u8], &[u8]> {
+pub unsafe fn definitions(lent: &Lent) -> HashMap<&[u8], &[u8]> {
     let (table, mut definitions) = (table(lent), HashMap::new());
     for command in table.commands().unwrap_or_default() {
         let text = match command[0] {
@@ -41,7 +41,7 @@ unsafe fn definitions(lent: &Lent) -> HashMap<&[u8], &[u8]> {
 }
 
 /// What stands before the first reference, its name, and what stands after it.
-fn split(text: &[u8]) -> Option<(&[u8], &[u8], &[u8])> {
+pub fn split(text: &[u8]) -> Option<(&[u8], &[u8], &[u8])> {
     let start = text.iter().position(|&byte| byte == b'&')?;
     let end = start + text[start..].iter().position(|&byte| byte == b';')?;
     Some((&text[..start], &text[start + 1..end], &text[end + 1..]))

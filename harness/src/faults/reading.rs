@@ -6,26 +6,31 @@ use crate::call::{Call, Expected, Misreading, Parameter};
 
 const ANY: &[(&str, Misreading)] = &[
     ("the second word of a success one more", more_second),
-    ("the result's last byte changed", changed_result),
     ("10 at the name", later_10),
     ("11 at the `&`", earlier_11),
     ("`&apos;` unknown", unknown_apos),
     ("`x` in upper case taken", upper_x),
 ];
 
+const WRITERS: &[(&str, Misreading)] = &[("the result's last byte changed", changed_result)];
+
 const WALKS: &[(&str, Misreading)] = &[
-    ("depth one less", less_depth),
     ("limit one more", higher_limit),
     ("version 1 taken for 1.1", version_1_as_1_1),
 ];
 
+const DEPTHS: &[(&str, Misreading)] = &[("depth one less", less_depth)];
+
 /// Those of a call whose text is read by the documents too.
 pub fn of(call: &Call) -> impl Iterator<Item = &'static (&'static str, Misreading)> {
-    let walks = match call.has(Parameter::Depth) {
-        true => WALKS,
+    let of = |parameter, misreadings: &'static [_]| match call.has(parameter) {
+        true => misreadings,
         false => &[],
     };
-    ANY.iter().chain(walks)
+    ANY.iter()
+        .chain(of(Parameter::Output, WRITERS))
+        .chain(of(Parameter::Limit, WALKS))
+        .chain(of(Parameter::Depth, DEPTHS))
 }
 
 fn more_second(arguments: &Arguments, real: Expected) -> Answer {

@@ -10,13 +10,17 @@ pub const WALK: Faults = &[
     ("depth one more", more_depth),
     ("depth 129 accepted", accepted_depth),
     ("depth used up at references alone", depth_at_references),
-    ("limit one less", lower_limit),
-    ("limit one more", higher_limit),
-    ("limit 1,000,001 accepted", accepted_limit),
     ("3 before 2", swapped_2_and_3),
     ("2 after 5", late_depth),
     ("openings not told", untold_openings),
     ("`&lt;` counted as an opening", counted_predefined),
+];
+
+/// Of calls that are handed no depth too.
+pub const REFERENCES: Faults = &[
+    ("limit one less", lower_limit),
+    ("limit one more", higher_limit),
+    ("limit 1,000,001 accepted", accepted_limit),
     ("version 1 taken for 1.1", version_1_as_1_1),
     ("`amp` looked up in the table", asked_for_amp),
     ("a name ended at an inner `&`", ended_at_inner),

@@ -425,7 +425,7 @@ pub fn nested(random: &mut Random, sink: &mut Sink) {
         for last in [
             "x", "", "\t", "½", "\r\n", "&lt;", "&amp;", "&", "&none;", "&#0;",
         ] {
-            let draft = chain(length, last);
+            let draft = Draft::chain(length, last);
             let drafts = [draft.clone(), draft.marked()];
             for depth in [length - 1, length, length + 1, DEEPEST as usize] {
                 for limit in [length - 1, length, length + 1] {
@@ -442,18 +442,6 @@ pub fn nested(random: &mut Random, sink: &mut Sink) {
             }
         }
     }
-}
-
-fn chain(length: usize, last: &str) -> Draft {
-    let mut draft = Draft::default();
-    for index in 0..length {
-        let text = match index + 1 == length {
-            true => last.to_string(),
-            false => format!("<&n{};>", index + 1),
-        };
-        draft.define(format!("n{index}").as_bytes(), text.as_bytes());
-    }
-    draft.ended()
 }
 
 /// Tables that grow by a factor at each level: the limit ends the work, met exactly and not.

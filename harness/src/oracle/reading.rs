@@ -6,7 +6,7 @@ use super::checks::{defined_by, settings_checked};
 use super::result::Made;
 use super::text::checked;
 use crate::answer::{refusal, Answer};
-use crate::arguments::{Arguments, LONGEST_OUTPUT};
+use crate::arguments::{Arguments, DEEPEST, LONGEST_OUTPUT};
 use crate::table::Definition;
 use std::collections::HashSet;
 
@@ -64,6 +64,8 @@ struct Settings<'a> {
     inner: Manner,
     /// What a character reference may name.
     named: Characters,
+    /// That of the value's own text.
+    depth: u64,
     limit: u64,
     definitions: &'a [Definition<'a>],
 }
@@ -72,13 +74,30 @@ struct Walk<'a> {
     settings: Settings<'a>,
     value: Vec<u8>,
     openings: u64,
+    /// The depth that the stops so far need: one in the value's own text 1, one in a text that it opens 2, and so on.
+    needed: u64,
     /// Told each name that the table is asked for.
     asked: &'a mut dyn FnMut(&str),
 }
 
 /// Attribute normalization.
 pub fn normalized(arguments: &Arguments, rule: Rule) -> Result<Made, Answer> {
-    walked(arguments, rule, &mut |_| ())
+    walked(arguments, rule, &mut |_| ()).map(|(made, _)| made)
+}
+
+/// The least depth (K14): each replacement text is followed with one depth less, from 128 on.
+pub fn least_depth(arguments: &Arguments) -> Result<u64, Answer> {
+    let deepest = Arguments {
+        depth: DEEPEST,
+        ..*arguments
+    };
+    let walked = walked(&deepest, Rule::Lenient, &mut |_| ());
+    walked
+        .map(|(_, needed)| needed)
+        .map_err(|answer| match answer.number {
+            16 => refusal(32, 0),
+            _ => answer,
+        })
 }
 
 /// The names that it asks the table for (K13), each once, in the order of asking.
@@ -101,7 +120,12 @@ fn each_once(read: impl FnOnce(&mut dyn FnMut(&str))) -> Vec<String> {
     names
 }
 
-fn walked(arguments: &Arguments, rule: Rule, asked: &mut dyn FnMut(&str)) -> Result<Made, Answer> {
+/// The value, and the depth that it needs.
+fn walked(
+    arguments: &Arguments,
+    rule: Rule,
+    asked: &mut dyn FnMut(&str),
+) -> Result<(Made, u64), Answer> {
     settings_checked(arguments)?;
     let text = checked(arguments.text)?;
     let definitions = defined_by(arguments.table)?;
@@ -124,6 +148,7 @@ fn walked(arguments: &Arguments, rule: Rule, asked: &mut dyn FnMut(&str)) -> Res
             raw: named,
         },
         named,
+        depth: arguments.depth,
         limit: arguments.limit,
         definitions: &definitions,
     };
@@ -131,14 +156,16 @@ fn walked(arguments: &Arguments, rule: Rule, asked: &mut dyn FnMut(&str)) -> Res
         settings,
         value: vec![],
         openings: 0,
+        needed: 0,
         asked,
     };
     walk.text(text, Manner { ends, raw }, arguments.depth)?;
-    Ok(Made {
+    let made = Made {
         bytes: walk.value,
         left_out: 0,
         second: walk.openings,
-    })
+    };
+    Ok((made, walk.needed))
 }
 
 impl Walk<'_> {
@@ -150,7 +177,11 @@ impl Walk<'_> {
                 return Err(refusal(26, at as u64));
             }
             let rest = &text.as_bytes()[at..];
-            at += match manner.ends.has_stop(rest[0]) {
+            let is_stop = manner.ends.has_stop(rest[0]);
+            if is_stop && depth > 0 {
+                self.needed = self.needed.max(self.settings.depth - depth + 1);
+            }
+            at += match is_stop {
                 false => self.push(character),
                 true if depth == 0 => return Err(refusal(16, 0)),
                 true if rest[0] == b'&' => self.reference(text, at, depth)?,

@@ -9,8 +9,7 @@ mod rows;
 use crate::call::Call;
 use crate::call::Parameter::{Choice, Depth, Limit, Output, Scratch, Table, Text};
 use crate::faults::{
-    external, marked as marked_faults, memory::MEMORY, strict as strict_faults, table::LOOKUP,
-    walk::WALK,
+    external, marked as marked_faults, memory::MEMORY, strict as strict_faults, table::LOOKUP, walk,
 };
 use crate::inputs::attribute::{self, Attribute};
 use crate::inputs::strict::{self, Strict};
@@ -94,7 +93,8 @@ canonical_form TEXT VERSION DEPTH LIMIT LIST POOL SCRATCH ROOM = NUMBER FIRST SE
 # with SCRATCH for the scratch's length and HAND for what is written at its start.",
     faults: &[
         LOOKUP,
-        WALK,
+        walk::WALK,
+        walk::REFERENCES,
         MEMORY,
         external::TABLE,
         external::LOOKUP,
@@ -139,7 +139,8 @@ pub const STRICT: Call = Call {
         strict_faults::LIBRARIES,
         &[("the lenient rule", leniently)],
         LOOKUP,
-        WALK,
+        walk::WALK,
+        walk::REFERENCES,
         MEMORY,
         external::WALK,
         marked_faults::WALK,

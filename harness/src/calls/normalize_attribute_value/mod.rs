@@ -10,7 +10,7 @@ use crate::call::{Call, Faults};
 use crate::calls::c14n::inputs::attribute_forms;
 use crate::calls::canonical_form::inputs::{reread, strict_reread};
 use crate::faults::{
-    external, marked, memory::MEMORY, strict as strict_faults, table::LOOKUP, walk::WALK,
+    external, marked, memory::MEMORY, strict as strict_faults, table::LOOKUP, walk,
 };
 use crate::inputs::attribute::{self, Attribute};
 use crate::inputs::strict::{self, Strict};
@@ -81,7 +81,8 @@ pub const CALL: Call = Call {
     stored: "normalize_attribute_value TEXT VERSION DEPTH LIMIT LIST POOL ROOM = NUMBER FIRST SECOND OUTPUT, and so for _strict",
     faults: &[
         LOOKUP,
-        WALK,
+        walk::WALK,
+        walk::REFERENCES,
         MEMORY,
         external::TABLE,
         external::LOOKUP,
@@ -120,7 +121,8 @@ pub const STRICT: Call = Call {
         strict_faults::LIBRARIES,
         &[("the lenient rule", leniently)],
         LOOKUP,
-        WALK,
+        walk::WALK,
+        walk::REFERENCES,
         MEMORY,
         external::WALK,
         marked::WALK,

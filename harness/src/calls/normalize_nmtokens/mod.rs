@@ -8,7 +8,7 @@ mod rows;
 
 use crate::call::Call;
 use crate::call::Parameter::{Choice, Depth, Limit, Output, Scratch, Table, Text};
-use crate::faults::{external, marked, memory::MEMORY, table::LOOKUP, walk::WALK};
+use crate::faults::{external, marked, memory::MEMORY, table::LOOKUP, walk};
 use crate::inputs::{attribute, entities, woven};
 use crate::lent::Lent;
 use inputs::Tokens;
@@ -81,7 +81,8 @@ normalize_nmtokens TEXT VERSION DEPTH LIMIT LIST POOL SCRATCH ROOM = NUMBER FIRS
         faults::STAGE,
         faults::BOTH_STAGES,
         LOOKUP,
-        WALK,
+        walk::WALK,
+        walk::REFERENCES,
         MEMORY,
         external::TABLE,
         external::LOOKUP,
