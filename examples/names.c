@@ -1,6 +1,6 @@
 /*
  * The calls from C: a panel's name is checked, references are read, text is written as an attribute and as CDATA; with an
- * entity table a name is unescaped, normalized and given its canonical form.
+ * entity table a name is unescaped, normalized and given its canonical form, and the depth that it needs is found.
  */
 #include "govlezna.h"
 
@@ -142,6 +142,19 @@ static void read_value(const char *text, uint64_t depth, uint64_t limit, const s
     show_text("canonical form", number, answer, out);
 }
 
+/* For a value that was refused by 16. */
+static void find_depth(const char *text, uint64_t limit, const struct table *t)
+{
+    uint64_t answer[2];
+    uint32_t number = govlezna_least_depth(bytes(text), strlen(text), 0, limit, t->list, t->list_length, t->pool,
+                                           t->pool_length, answer);
+    printf("least depth: ");
+    if (number == 0)
+        printf("%" PRIu64 "\n", answer[0]);
+    else
+        show_refusal(number, answer);
+}
+
 static void use_table(void)
 {
     struct table table = { { 0 }, 1, { 0 }, 0 };
@@ -153,6 +166,7 @@ static void use_table(void)
     unescape("a &boom;", &table);
     read_value(name, 8, 100, &table);
     read_value(name, 1, 100, &table);
+    find_depth(name, 100, &table);
     read_value(name, 8, 1, &table);
     read_value("a &boom;", 8, 100, &table);
     table.list_length -= 1;

@@ -14,19 +14,19 @@ use crate::tables;
 use crate::values::decimals;
 use crate::values::decode_hex;
 
-// Which call field 0 of the line names: its place among these names, or 21 where it is none of them.
+// Which call field 0 of the line names: its place among these names, or 22 where it is none of them.
 fn call_number(line: &[u8]) -> usize {
     let names =
-        b"check_utf8 parse_number trim_xml_start trim_xml_end trim_xml_spaces escape normalize_eols cdata_next check_table unescape normalize_attribute_value canonical_form normalize_attribute_value_strict canonical_form_strict normalize_nmtokens next_nmtoken register_add register_withdraw register_count c14n_attribute c14n_text";
+        b"check_utf8 parse_number trim_xml_start trim_xml_end trim_xml_spaces escape normalize_eols cdata_next check_table unescape normalize_attribute_value canonical_form normalize_attribute_value_strict canonical_form_strict normalize_nmtokens next_nmtoken register_add register_withdraw register_count c14n_attribute c14n_text least_depth";
     let call = field(line, 0);
     let mut k = 0;
-    while k < 21 {
+    while k < 22 {
         if check::same(call, field(names, k)) {
             return k;
         }
         k += 1;
     }
-    21
+    22
 }
 
 pub fn replay_line(line: &[u8]) -> Outcome {

@@ -26,12 +26,13 @@ enum ParsedSettings {
     Malformed,
 }
 
-// The calls 8 to 14 (`call_number` of calls.rt).
+// The calls 8 to 14 and 21 (`call_number` of calls.rt).
 pub fn replay_table_line(line: &[u8], call: usize) -> Outcome {
     match call {
         8 => replay_table(line, call, b"", 1),
         9 => replay_text_and_table(line, call, 2),
         10..=14 => replay_text_and_table(line, call, 5),
+        21 => replay_text_and_table(line, call, 4),
         _ => Outcome::Malformed,
     }
 }
@@ -73,6 +74,7 @@ fn replay_call(line: &[u8], call: usize, text: &[u8], list: &[u8], pool: &[u8]) 
         8 => replay_check_table(line, list, pool),
         9 => replay_unescape(line, text, list, pool),
         10 | 12 => replay_normalize(line, call, text, list, pool),
+        21 => replay_least_depth(line, text, list, pool),
         _ => replay_form(line, call, text, list, pool),
     }
 }
@@ -103,6 +105,31 @@ fn replay_unescape(line: &[u8], text: &[u8], list: &[u8], pool: &[u8]) -> Outcom
     let r = room as usize;
     let number = govlezna::govlezna_unescape(text, list, pool, &mut out[0..r], &mut answer);
     compare_output(line, 5, number, answer, &out)
+}
+
+// least_depth TEXT VERSION LIMIT LIST POOL = NUMBER FIRST SECOND
+fn replay_least_depth(line: &[u8], text: &[u8], list: &[u8], pool: &[u8]) -> Outcome {
+    if field_count(line) != 10 {
+        return Outcome::Malformed;
+    }
+    let mut read = [0u64; 3];
+    if !decimals(line, 2, 2, &mut read) {
+        return Outcome::Malformed;
+    }
+    let version = read[0];
+    if 255 < version {
+        return Outcome::Malformed;
+    }
+    let mut answer = [UNWRITTEN; 2];
+    let number = govlezna::govlezna_least_depth(
+        text,
+        version as u8,
+        read[1],
+        list,
+        pool,
+        &mut answer,
+    );
+    compare(line, 6, number, answer)
 }
 
 // Fields 2 to 4 of a call that walks an attribute value.
