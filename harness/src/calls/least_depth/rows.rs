@@ -100,7 +100,7 @@ fn inputs() -> Vec<Input> {
         add("nested entities", &text, &few);
     }
     for size in [64, 1024, MEBIBYTE] {
-        add("references alone", &letters_with(&["&n;"], 1, size), &few);
+        add("references alone", &letters_with(&["&m;"], 1, size), &few);
     }
     add("a chain of 100", b"Panel &n0;", &Draft::chain(100, "x"));
     for size in [8, 64, 1024, MEBIBYTE] {
