@@ -95,6 +95,9 @@ struct names {
     size_t count;
 };
 
+/* descriptors.c: before anything else */
+void open_standard_descriptors(void);
+
 /* help.c */
 void put_help(FILE *to);
 

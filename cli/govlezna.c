@@ -92,6 +92,7 @@ int main(int argc, char **argv)
     struct arguments arguments;
     struct request request;
     struct outcome outcome;
+    open_standard_descriptors();
     read_arguments(argc, argv, &arguments);
     read_request(&arguments, &request);
     if (arguments.command == REGISTER) {

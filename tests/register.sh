@@ -181,11 +181,43 @@ full_disk() {
     expect $? a disk that is full
 }
 
+# Whatever of standard input, output and error is closed: no message gets into a register, and a result that is lost is told.
+closed_descriptors() {
+    local answers closed
+    printf '\1\0\0\0\1\0\0\0a' >register
+    while read -r answers closed; do
+        cp register closed
+        without "$closed" closed withdraw absent
+        [ "$status" -eq 1 ] && cmp -s register closed
+        expect $? withdraw an absent form "$closed"
+        without "$closed" closed count a
+        [ "$status" -eq "$answers" ]
+        expect $? count a "$closed"
+        without "$closed" closed add a
+        [ "$status" -eq "$answers" ] && printf '\1\0\0\0\2\0\0\0a' | cmp -s - closed
+        expect $? add a "$closed"
+    done <<<$'0 <&-\n0 2>&-\n0 <&- 2>&-\n2 >&-\n2 >&- 2>&-\n2 <&- >&-\n2 <&- >&- 2>&-'
+    for closed in 'register closed add' canonical 'check --file -'; do # no text is not the empty text
+        "$program" $closed >out 2>err <&-
+        status=$?
+        [ "$status" -eq 2 ] && [ ! -s out ] && [[ $(cat err) == 'govlezna: standard input: '* ]]
+        expect $? "$closed" '<&-'
+    done
+}
+
+without() { # CLOSED ARGUMENTS..
+    local closed=$1
+    shift
+    eval '"$program" register "$@" </dev/null >out 2>err' "$closed"
+    status=$?
+}
+
 results
 refusals
 damage
 misuse
 at_once
 full_disk
+closed_descriptors
 echo "$cases cases, $wrong wrong"
 [ "$wrong" -eq 0 ]
