@@ -1,0 +1,28 @@
+/* A register's file, for the command that works on it. Whatever goes wrong ends the program with status 2. */
+#ifndef STORE_H
+#define STORE_H
+
+#include "cli.h"
+
+#include <sys/types.h>
+
+/* The file, and its bytes in a buffer that has room for more. */
+struct store {
+    char *path;
+    int descriptor; /* locked where it is to be changed; -1: there is no file */
+    int created;    /* by us, and nothing is in it */
+    mode_t mode;
+    uint8_t *buffer;
+    size_t length;
+    uint64_t used;
+};
+
+/* Opens the file; for a change it is made where it is missing, and locked. */
+void open_store(const struct arguments *arguments, struct store *store);
+/* Reads the file into a buffer of the room asked for, or of its own length where that is more. */
+void read_store(const struct arguments *arguments, struct store *store);
+/* Writes a change that was accepted; a refused one leaves no file where there was none. */
+void keep(const struct arguments *arguments, const struct store *store, int accepted);
+void close_store(struct store *store);
+
+#endif
