@@ -6,6 +6,7 @@
 
 #include <errno.h>
 #include <fcntl.h>
+#include <signal.h>
 #include <stdlib.h>
 #include <string.h>
 #include <sys/stat.h>
@@ -15,6 +16,40 @@ static int is_change(const struct arguments *a)
 {
     return a->action == ADD || a->action == WITHDRAW;
 }
+
+/* ---- ways out */
+
+static char *unfinished;     /* the file that is written to; it goes on every way out */
+static sigset_t let_through; /* the signals that were, before a change held them back */
+
+static void remove_unfinished(void)
+{
+    if (unfinished != NULL)
+        unlink(unfinished);
+}
+
+static void release_signals(void)
+{
+    sigprocmask(SIG_SETMASK, &let_through, NULL);
+}
+
+/* A signal waits until a change is whole, or given up. */
+static void hold_signals(void)
+{
+    sigset_t all;
+    sigfillset(&all);
+    sigprocmask(SIG_BLOCK, &all, &let_through);
+}
+
+/* A file that may not grow is an error of writing, as a full disk is. */
+static void begin_change(void)
+{
+    hold_signals();
+    signal(SIGXFSZ, SIG_IGN);
+    atexit(remove_unfinished);
+}
+
+/* ---- opening and reading */
 
 /* Where a link leads; of a missing file its own path. */
 static char *real_path(const char *path)
@@ -53,9 +88,11 @@ static void open_locked(struct store *s)
         }
         if (s->descriptor < 0)
             fail(s->path, strerror(errno));
+        release_signals(); /* who waits can be stopped */
         while (fcntl(s->descriptor, F_SETLKW, &lock) != 0)
             if (errno != EINTR)
                 fail(s->path, strerror(errno));
+        hold_signals();
         if (is_current(s))
             return;
         close(s->descriptor);
@@ -66,6 +103,7 @@ void open_store(const struct arguments *a, struct store *s)
 {
     *s = (struct store){ .path = real_path(a->register_path), .descriptor = -1 };
     if (is_change(a)) {
+        begin_change();
         open_locked(s);
         return;
     }
@@ -99,44 +137,60 @@ void read_store(const struct arguments *a, struct store *s)
     s->used = size;
 }
 
-static void write_all(int descriptor, const char *path, const uint8_t *bytes, size_t length)
+/* ---- a change */
+
+static void fail_at(const struct store *s, const char *what, int why)
 {
-    while (length > 0) {
-        ssize_t done = write(descriptor, bytes, length);
-        if (done < 0 && errno != EINTR) {
-            int why = errno;
-            unlink(path);
-            fail(path, strerror(why));
-        }
-        bytes += done > 0 ? (size_t)done : 0;
-        length -= done > 0 ? (size_t)done : 0;
+    fprintf(stderr, "govlezna: %s: %s: %s\n", s->path, what, strerror(why));
+    exit(2);
+}
+
+static void write_all(const struct store *s, int descriptor)
+{
+    for (size_t at = 0; at < s->used;) {
+        ssize_t done = write(descriptor, s->buffer + at, s->used - at);
+        if (done < 0 && errno != EINTR)
+            fail_at(s, "writing it anew", errno);
+        at += done > 0 ? (size_t)done : 0;
     }
+}
+
+/* A name in the register's folder that no file has; mkstemp fills in its end. */
+static char *name_beside(const char *path)
+{
+    static const char name[] = ".govlezna-XXXXXX";
+    const char *slash = strrchr(path, '/');
+    size_t folder = slash == NULL ? 0 : (size_t)(slash - path) + 1;
+    char *beside = allocate(folder + sizeof name);
+    memcpy(beside, path, folder);
+    memcpy(beside + folder, name, sizeof name);
+    return beside;
 }
 
 /* Writes the used bytes to another file, and gives it the register's name once they are on the disk. */
 static void replace(const struct store *s)
 {
-    char *path = allocate(strlen(s->path) + sizeof ".new");
-    int descriptor;
-    strcat(strcpy(path, s->path), ".new");
-    descriptor = open(path, O_WRONLY | O_CREAT | O_TRUNC, 0666);
+    char *path = name_beside(s->path);
+    int descriptor = mkstemp(path);
     if (descriptor < 0)
-        fail(path, strerror(errno));
-    write_all(descriptor, path, s->buffer, s->used);
-    if (fchmod(descriptor, s->mode) != 0 || fsync(descriptor) != 0 || close(descriptor) != 0 || rename(path, s->path) != 0) {
-        int why = errno;
-        unlink(path);
-        fail(path, strerror(why));
-    }
+        fail_at(s, "no file can be made beside it", errno);
+    unfinished = path;
+    write_all(s, descriptor);
+    if (fchmod(descriptor, s->mode) != 0 || fsync(descriptor) != 0 || close(descriptor) != 0 || rename(path, s->path) != 0)
+        fail_at(s, "writing it anew", errno);
+    unfinished = NULL;
     free(path);
 }
 
 void keep(const struct arguments *a, const struct store *s, int accepted)
 {
-    if (is_change(a) && accepted)
+    if (!is_change(a))
+        return;
+    if (accepted)
         replace(s);
     else if (s->created)
         unlink(s->path);
+    release_signals();
 }
 
 void close_store(struct store *s)

@@ -3,6 +3,7 @@
 # several processes at once, a disk that is full. Says each case that fails.
 set -u
 program=$(readlink -f "$1")
+here=$(dirname "$(readlink -f "$0")")
 room=$(mktemp -d)
 trap 'rm -rf "$room"' EXIT
 cd "$room" || exit 2
@@ -34,10 +35,27 @@ gives() {
     expect $? "$@"
 }
 
-# holds BYTES FILE: the file's bytes, as printf writes them; nothing else lies beside it.
+# holds BYTES FILE: the file's bytes, as printf writes them; nothing that was written on the way lies beside it.
 holds() {
-    printf "$1" | cmp -s - "$2" && [ ! -e "$2.new" ]
+    printf "$1" | cmp -s - "$2" && nothing_left
     expect $? "$2" holds "$1"
+}
+
+nothing_left() {
+    [ -z "$(find . -name '.govlezna-*')" ]
+}
+
+# preloaded VARIABLES.. -- ARGUMENTS..: runs the program with tests/register_calls.c in it.
+preloaded() {
+    preload "$@"
+    "${command[@]}" </dev/null >out 2>err
+    status=$?
+}
+
+preload() {
+    command=(env "LD_PRELOAD=$room/calls.so" ASAN_OPTIONS=verify_asan_link_order=0)
+    while [ "$1" != -- ]; do command+=("$1"); shift; done
+    command+=("$program" register "${@:2}")
 }
 
 # refuses NUMBER WORDS FILE ARGUMENTS..: status 1, the number and the words, in JSON too; the file stays what it is, or missing.
@@ -177,8 +195,66 @@ full_disk() {
     gives '1\n' long add --file form
     cp long before
     (trap '' XFSZ; ulimit -f 2; "$program" register long add a) >out 2>err
-    [ $? -eq 2 ] && [ ! -s out ] && cmp -s long before && [ ! -e long.new ]
+    [ $? -eq 2 ] && [ ! -s out ] && cmp -s long before && nothing_left
     expect $? a disk that is full
+}
+
+# What lies beside a register has no say, and is left as it is.
+neighbours() {
+    local name
+    gives '1\n' a.new add x
+    gives '1\n' a add y
+    holds '\1\0\0\0\1\0\0\0x' a.new
+    holds '\1\0\0\0\1\0\0\0y' a
+    printf kept >precious
+    ln -s precious b.new
+    gives '1\n' b add y
+    holds kept precious
+    [ -L b.new ]
+    expect $? a link beside the register
+    mkdir c.new # as a file of another user, nothing that can be written
+    gives '1\n' c add y
+    holds '\1\0\0\0\1\0\0\0y' c
+    name=$(printf '%0255d' 1) # the longest one
+    gives '1\n' "$name" add y
+}
+
+# What fails on the way, or ends the process, leaves the register whole and nothing beside it; but kill -9 may leave the other file.
+ends_of_a_change() {
+    local call signal one='\1\0\0\0\1\0\0\0a'
+    mkdir ends
+    for call in write 'fsync file' fchmod rename; do
+        printf "$one" >ends/r
+        preloaded "FAILS=$call" -- ends/r add a
+        [ "$status" -eq 2 ] && [ ! -s out ] && [[ $(cat err) == *': Input/output error' ]] && is_alone "$one"
+        expect $? "$call" fails
+    done
+    preload 'PAUSES=fsync file' -- ends/r add b
+    for signal in HUP TERM; do
+        "${command[@]}" >out 2>err &
+        sleep 0.5
+        kill "-$signal" $!
+        wait $!
+        status=$?
+        run ends/r list
+        [ "$status" -eq 0 ] && [ "$(ls -A ends)" = r ]
+        expect $? "$signal" during a change
+    done
+    cp long ends/r
+    (ulimit -f 2; "$program" register ends/r add a; echo $?) 2>&1 >out | cat >err
+    cmp -s long ends/r && [ "$(ls -A ends)" = r ] && [ "$(cat out)" = 2 ] && grep -q 'File too large' err
+    expect $? a file that may not grow
+    for call in write 'fsync file' fchmod rename; do
+        printf "$one" >ends/r
+        preloaded "KILLED=$call" -- ends/r add a
+        [ "$status" -eq 137 ] && printf "$one" | cmp -s - ends/r
+        expect $? killed at "$call"
+        gives '2\n' ends/r add a
+    done
+} 2>/dev/null # where the shell says which processes were killed
+
+is_alone() { # BYTES
+    printf "$1" | cmp -s - ends/r && [ "$(ls -A ends)" = r ]
 }
 
 # Whatever of standard input, output and error is closed: no message gets into a register, and a result that is lost is told.
@@ -212,12 +288,15 @@ without() { # CLOSED ARGUMENTS..
     status=$?
 }
 
+cc -std=c11 -O1 -shared -fPIC "$here/register_calls.c" -o calls.so -ldl || exit 2
 results
 refusals
 damage
 misuse
 at_once
 full_disk
+neighbours
+ends_of_a_change
 closed_descriptors
 echo "$cases cases, $wrong wrong"
 [ "$wrong" -eq 0 ]
