@@ -10,7 +10,11 @@
 #include <stdlib.h>
 #include <string.h>
 #include <sys/stat.h>
+#include <time.h>
 #include <unistd.h>
+
+/* A path that became a link is not followed, and a file that is no regular one is not waited for. */
+#define SAFELY (O_NOFOLLOW | O_NONBLOCK | O_NOCTTY)
 
 static int is_change(const struct arguments *a)
 {
@@ -54,14 +58,24 @@ static void begin_change(void)
 /* Where a link leads; of a missing file its own path. */
 static char *real_path(const char *path)
 {
+    struct stat status;
     char *real = realpath(path, NULL);
     if (real != NULL)
         return real;
     if (errno != ENOENT)
         fail(path, strerror(errno));
+    if (lstat(path, &status) == 0 && S_ISLNK(status.st_mode))
+        fail(path, "a link to a file that is missing");
     real = allocate(strlen(path) + 1);
     strcpy(real, path);
     return real;
+}
+
+/* Asked of the path before it is opened, and of the open file. */
+static void check_regular(const struct store *s, const struct stat *status)
+{
+    if (!S_ISREG(status->st_mode))
+        fail(s->path, "no regular file");
 }
 
 /* Does the path still lead to this open file? Another process may have replaced it before the lock was ours. */
@@ -73,26 +87,56 @@ static int is_current(const struct store *s)
     return stat(s->path, &named) == 0 && open_one.st_ino == named.st_ino && open_one.st_dev == named.st_dev;
 }
 
-/* Opens the file for a change, and waits until no other process changes it. */
+/* 0: another process has the lock, or a signal came. */
+static int take_lock(const struct store *s, int command)
+{
+    struct flock whole = { .l_type = F_WRLCK, .l_whence = SEEK_SET };
+    if (fcntl(s->descriptor, command, &whole) == 0)
+        return 1;
+    if (errno != EAGAIN && errno != EACCES && errno != EINTR)
+        fail(s->path, strerror(errno));
+    return 0;
+}
+
+/* Waits for the lock, and can be stopped meanwhile. After a second it says that it waits. */
+static void wait_for_lock(const struct store *s)
+{
+    const struct timespec pause = { 0, 2000000 };
+    int locked = 0;
+    release_signals();
+    for (int pauses = 0; pauses < 500 && !locked; pauses++) {
+        nanosleep(&pause, NULL);
+        locked = take_lock(s, F_SETLK);
+    }
+    if (!locked)
+        fprintf(stderr, "govlezna: %s: waiting for another process that changes it\n", s->path);
+    while (!locked)
+        locked = take_lock(s, F_SETLKW);
+    hold_signals();
+}
+
+/* Opens the file, or makes it. 0: another process made it meanwhile. */
+static int open_or_make(struct store *s)
+{
+    s->created = 0;
+    s->descriptor = open(s->path, O_RDWR | SAFELY);
+    if (s->descriptor < 0 && errno == ENOENT) {
+        s->descriptor = open(s->path, O_RDWR | O_CREAT | O_EXCL, 0666);
+        s->created = 1;
+    }
+    if (s->descriptor < 0 && errno != EEXIST)
+        fail(s->path, strerror(errno));
+    return s->descriptor >= 0;
+}
+
+/* Opens the file for a change, once no other process changes it. */
 static void open_locked(struct store *s)
 {
-    struct flock lock = { .l_type = F_WRLCK, .l_whence = SEEK_SET };
     for (;;) {
-        s->created = 0;
-        s->descriptor = open(s->path, O_RDWR);
-        if (s->descriptor < 0 && errno == ENOENT) {
-            s->descriptor = open(s->path, O_RDWR | O_CREAT | O_EXCL, 0666);
-            if (s->descriptor < 0 && errno == EEXIST)
-                continue;
-            s->created = 1;
-        }
-        if (s->descriptor < 0)
-            fail(s->path, strerror(errno));
-        release_signals(); /* who waits can be stopped */
-        while (fcntl(s->descriptor, F_SETLKW, &lock) != 0)
-            if (errno != EINTR)
-                fail(s->path, strerror(errno));
-        hold_signals();
+        if (!open_or_make(s))
+            continue;
+        if (!take_lock(s, F_SETLK))
+            wait_for_lock(s);
         if (is_current(s))
             return;
         close(s->descriptor);
@@ -101,13 +145,16 @@ static void open_locked(struct store *s)
 
 void open_store(const struct arguments *a, struct store *s)
 {
+    struct stat status;
     *s = (struct store){ .path = real_path(a->register_path), .descriptor = -1 };
+    if (stat(s->path, &status) == 0)
+        check_regular(s, &status);
     if (is_change(a)) {
         begin_change();
         open_locked(s);
         return;
     }
-    s->descriptor = open(s->path, O_RDONLY);
+    s->descriptor = open(s->path, O_RDONLY | SAFELY);
     if (s->descriptor < 0 && errno != ENOENT)
         fail(s->path, strerror(errno));
 }
@@ -119,8 +166,7 @@ void read_store(const struct arguments *a, struct store *s)
     if (s->descriptor >= 0) {
         if (fstat(s->descriptor, &status) != 0)
             fail(s->path, strerror(errno));
-        if (!S_ISREG(status.st_mode))
-            fail(s->path, "no regular file");
+        check_regular(s, &status);
         s->mode = status.st_mode & 07777;
         size = (size_t)status.st_size;
     }

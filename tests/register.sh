@@ -257,6 +257,56 @@ is_alone() { # BYTES
     printf "$1" | cmp -s - ends/r && [ "$(ls -A ends)" = r ]
 }
 
+# What is no register's file is refused at once, in words.
+strange_files() {
+    local action
+    mkdir folder
+    mkfifo pipe
+    ln -s pipe link-to-pipe
+    ln -s folder/missing nowhere
+    ln -s no-folder/missing further
+    ln -s circle circle
+    for action in 'add a' 'withdraw a' 'count a' list; do
+        at_once_refused 'no regular file' pipe $action
+        at_once_refused 'no regular file' link-to-pipe $action
+        at_once_refused 'no regular file' folder $action
+        at_once_refused 'no regular file' /dev/null $action
+        at_once_refused 'a link to a file that is missing' nowhere $action
+        at_once_refused 'a link to a file that is missing' further $action
+        at_once_refused 'symbolic links' circle $action
+    done
+    [ -z "$(ls -A folder)" ]
+    expect $? nothing is made where a link leads
+}
+
+at_once_refused() { # WORDS ARGUMENTS..
+    timeout 5 "$program" register "${@:2}" </dev/null >out 2>err
+    status=$?
+    [ "$status" -eq 2 ] && [ ! -s out ] && [[ $(cat err) == *"$1"* ]]
+    expect $? "${@:2}"
+}
+
+# A process that waits for another's change says so after a second, can be stopped, and then has its turn.
+waiting() {
+    local changer stopped
+    gives '1\n' waited add a
+    preload 'PAUSES=fsync file' -- waited add a
+    "${command[@]}" </dev/null >/dev/null 2>&1 &
+    changer=$!
+    sleep 0.3
+    "$program" register waited add a </dev/null >/dev/null 2>&1 &
+    stopped=$!
+    sleep 0.1
+    kill $stopped
+    wait $stopped 2>/dev/null
+    [ $? -eq 143 ] && kill -0 $changer
+    expect $? who waits can be stopped
+    run waited add a
+    [ "$status" -eq 0 ] && [ "$(cat out)" = 3 ] && [ "$(cat err)" = "govlezna: $room/waited: waiting for another process that changes it" ]
+    expect $? waiting for another process
+    wait $changer
+}
+
 # Whatever of standard input, output and error is closed: no message gets into a register, and a result that is lost is told.
 closed_descriptors() {
     local answers closed
@@ -297,6 +347,8 @@ at_once
 full_disk
 neighbours
 ends_of_a_change
+strange_files
+waiting
 closed_descriptors
 echo "$cases cases, $wrong wrong"
 [ "$wrong" -eq 0 ]
