@@ -159,17 +159,24 @@ void open_store(const struct arguments *a, struct store *s)
         fail(s->path, strerror(errno));
 }
 
-void read_store(const struct arguments *a, struct store *s)
+/* What the open file is; its length. */
+static size_t look_at(const struct arguments *a, struct store *s)
 {
     struct stat status;
-    size_t size = 0, done = 0;
-    if (s->descriptor >= 0) {
-        if (fstat(s->descriptor, &status) != 0)
-            fail(s->path, strerror(errno));
-        check_regular(s, &status);
-        s->mode = status.st_mode & 07777;
-        size = (size_t)status.st_size;
-    }
+    if (fstat(s->descriptor, &status) != 0)
+        fail(s->path, strerror(errno));
+    check_regular(s, &status);
+    if (is_change(a) && status.st_nlink > 1)
+        fail(s->path, "it has several hard links, which a change would part");
+    s->mode = status.st_mode & 07777;
+    s->owner = status.st_uid;
+    s->group = status.st_gid;
+    return (size_t)status.st_size;
+}
+
+void read_store(const struct arguments *a, struct store *s)
+{
+    size_t size = s->descriptor < 0 ? 0 : look_at(a, s), done = 0;
     s->length = a->room > size ? a->room : size;
     s->buffer = allocate(s->length);
     while (done < size) {
@@ -201,31 +208,54 @@ static void write_all(const struct store *s, int descriptor)
     }
 }
 
-/* A name in the register's folder that no file has; mkstemp fills in its end. */
-static char *name_beside(const char *path)
+/* The path of this name in the same folder. */
+static char *name_beside(const char *path, const char *name)
 {
-    static const char name[] = ".govlezna-XXXXXX";
     const char *slash = strrchr(path, '/');
     size_t folder = slash == NULL ? 0 : (size_t)(slash - path) + 1;
-    char *beside = allocate(folder + sizeof name);
+    char *beside = allocate(folder + strlen(name) + 1);
     memcpy(beside, path, folder);
-    memcpy(beside + folder, name, sizeof name);
+    strcpy(beside + folder, name);
     return beside;
+}
+
+/* The owner and the group stay where that is allowed; the mode that is left. What another group was allowed, ours is not. */
+static mode_t keep_owner(const struct store *s, int descriptor)
+{
+    if (fchown(descriptor, s->owner, s->group) == 0)
+        return s->mode;
+    if (fchown(descriptor, (uid_t)-1, s->group) == 0)
+        return s->mode & 0777;
+    return (s->mode & 0707) | (s->mode & 07) << 3;
+}
+
+/* A new name is on the disk once its folder is. There are folders that cannot be read, and disks that put none anywhere by themselves. */
+static void sync_folder(const struct store *s)
+{
+    char *path = name_beside(s->path, ".");
+    int descriptor = open(path, O_RDONLY | O_DIRECTORY);
+    if (descriptor < 0 ? errno != EACCES : fsync(descriptor) != 0 && errno != EINVAL)
+        fail_at(s, "the change was made, but its folder may not be on the disk", errno);
+    if (descriptor >= 0)
+        close(descriptor);
+    free(path);
 }
 
 /* Writes the used bytes to another file, and gives it the register's name once they are on the disk. */
 static void replace(const struct store *s)
 {
-    char *path = name_beside(s->path);
+    char *path = name_beside(s->path, ".govlezna-XXXXXX");
     int descriptor = mkstemp(path);
     if (descriptor < 0)
         fail_at(s, "no file can be made beside it", errno);
     unfinished = path;
     write_all(s, descriptor);
-    if (fchmod(descriptor, s->mode) != 0 || fsync(descriptor) != 0 || close(descriptor) != 0 || rename(path, s->path) != 0)
+    if (fchmod(descriptor, keep_owner(s, descriptor)) != 0 || fsync(descriptor) != 0 || close(descriptor) != 0 ||
+        rename(path, s->path) != 0)
         fail_at(s, "writing it anew", errno);
     unfinished = NULL;
     free(path);
+    sync_folder(s);
 }
 
 void keep(const struct arguments *a, const struct store *s, int accepted)

@@ -12,6 +12,8 @@ struct store {
     int descriptor; /* locked where it is to be changed; -1: there is no file */
     int created;    /* by us, and nothing is in it */
     mode_t mode;
+    uid_t owner;
+    gid_t group;
     uint8_t *buffer;
     size_t length;
     uint64_t used;

@@ -257,6 +257,64 @@ is_alone() { # BYTES
     printf "$1" | cmp -s - ends/r && [ "$(ls -A ends)" = r ]
 }
 
+# A change is on the disk before it is told: the file before it has its name, then the folder that has the name.
+on_the_disk() {
+    mkdir -p folders/kept
+    gives '1\n' folders/kept/r add a
+    rm -f calls
+    preloaded CALLS=calls -- folders/kept/r add a
+    [ "$(cat out)" = 2 ] && [ "$(grep -v fchown calls | tr '\n' ,)" = 'write,fchmod,fsync file,rename,fsync folder,' ]
+    expect $? the order of a change: "$(cat calls)"
+    cd folders/kept || exit 2
+    CALLS=calls LD_PRELOAD=$room/calls.so ASAN_OPTIONS=verify_asan_link_order=0 "$program" register r add a >out 2>err
+    tail -n 1 calls | grep -qx 'fsync folder'
+    expect $? the current folder
+    cd "$room" || exit 2
+    preloaded 'FAILS=fsync folder' -- folders/kept/r add a
+    [ "$status" -eq 2 ] && [ ! -s out ] && grep -q 'the change was made, but its folder may not be on the disk: Input/output error' err
+    expect $? a folder that cannot be put on the disk
+    gives '4\n' folders/kept/r count a
+}
+
+# A change keeps the owner and the group where that is allowed, and does not part hard links.
+owners() {
+    gives '1\n' one add a
+    ln one two
+    cp one before
+    misused 'it has several hard links, which a change would part' one add a
+    misused 'it has several hard links' two withdraw a
+    cmp -s one before && [ one -ef two ]
+    expect $? hard links stay
+    gives '1\n' two count a
+    rm two
+    gives '2\n' one add a
+    cp "$program" ours
+    chmod 711 . ours
+    if ! setpriv --reuid 1234 --regid 1234 --clear-groups ./ours --help >out 2>err; then
+        echo 'skipped: the owner of a register, since no other user can be had'
+        return
+    fi
+    chown 1234:2345 one
+    chmod 640 one
+    gives '3\n' one add a
+    [ "$(stat -c '%u:%g %a' one)" = '1234:2345 640' ]
+    expect $? the owner and the group stay "$(stat -c '%u:%g %a' one)"
+    mkdir shared-folder
+    chmod 777 shared-folder
+    as_another '1:2345 660' '1234:2345 660' # the group alone
+    as_another '1:1 676' '1234:1234 666' # neither; what the group was allowed goes to no other
+}
+
+as_another() { # BEFORE AFTER: the owner, the group and the mode of a register that user 1234 of the group 2345 changes
+    cp one shared-folder/r
+    chown "${1% *}" shared-folder/r
+    chmod "${1#* }" shared-folder/r
+    setpriv --reuid 1234 --regid 1234 --groups 2345 ./ours register shared-folder/r add a >out 2>err
+    status=$?
+    [ "$status" -eq 0 ] && [ "$(stat -c '%u:%g %a' shared-folder/r)" = "$2" ]
+    expect $? owner "$1" becomes "$(stat -c '%u:%g %a' shared-folder/r)", not "$2"
+}
+
 # What is no register's file is refused at once, in words.
 strange_files() {
     local action
@@ -347,6 +405,8 @@ at_once
 full_disk
 neighbours
 ends_of_a_change
+on_the_disk
+owners
 strange_files
 waiting
 closed_descriptors
