@@ -151,8 +151,8 @@ size_t line_of(struct span text, size_t offset);
 void show_name(FILE *to, struct span name);
 void report_refusal(const struct request *request, const struct outcome *outcome);
 
-/* register.c: the whole command, its answer too; the number of that */
-uint32_t run_register(const struct request *request);
+/* register.c: the whole command, its answer too. 0: it was refused. */
+int run_register(const struct request *request);
 
 /* json.c */
 void json_string(struct span text);

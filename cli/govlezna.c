@@ -91,19 +91,20 @@ int main(int argc, char **argv)
 {
     struct arguments arguments;
     struct request request;
-    struct outcome outcome;
+    struct outcome outcome = { 0, { 0, 0 }, NULL };
+    int accepted;
     open_standard_descriptors();
     read_arguments(argc, argv, &arguments);
     read_request(&arguments, &request);
     if (arguments.command == REGISTER) {
-        outcome = (struct outcome){ .number = run_register(&request) };
+        accepted = run_register(&request);
     } else {
-        make_call(&request, &outcome);
+        accepted = make_call(&request, &outcome) == 0;
         answer(&request, &outcome);
     }
     flush_output();
     free(outcome.bytes);
     free_request(&request);
     free(arguments.entities);
-    return outcome.number == 0 ? 0 : 1;
+    return accepted ? 0 : 1;
 }

@@ -123,6 +123,8 @@ static void put_list(const struct store *s, int json)
 
 static void put_success(const struct arguments *a, const struct store *s, uint64_t count)
 {
+    if (s->created)
+        fprintf(stderr, "govlezna: %s: a new register\n", a->register_path);
     if (a->json) {
         printf("{\"command\":\"register\",\"number\":0,\"action\":\"%s\"", a->action_name);
         if (a->action != LIST)
@@ -157,21 +159,67 @@ static void put_damage(const struct arguments *a, const struct store *s)
     }
 }
 
-uint32_t run_register(const struct request *q)
+/* Full is either the room or the form's count. */
+static void put_full(const struct request *q, struct store *s)
+{
+    uint64_t answer[2];
+    size_t needed = HEAD + q->text_length;
+    int room = govlezna_register_count(q->text, q->text_length, s->buffer, s->length, s->used, answer) == 0 && answer[0] == 0;
+    if (q->arguments->json) {
+        printf("{\"command\":\"register\",\"number\":%d,\"words\":\"%s\",\"first\":0,\"second\":0", GOVLEZNA_REGISTER_FULL,
+               words_of(GOVLEZNA_REGISTER_FULL));
+        if (room) {
+            json_number("used", s->used);
+            json_number("needed", needed);
+            json_number("room", s->room);
+        } else {
+            json_number("count", answer[0]);
+        }
+        puts("}");
+        return;
+    }
+    fprintf(stderr, "govlezna: refusal %d: %s: ", GOVLEZNA_REGISTER_FULL, words_of(GOVLEZNA_REGISTER_FULL));
+    if (room)
+        fprintf(stderr, "%" PRIu64 " bytes are used, the form takes %zu more, and --room allows %zu\n", s->used, needed, s->room);
+    else
+        fprintf(stderr, "it is the form's count\n");
+}
+
+/* No number: the library was not asked. */
+static void put_missing(const struct arguments *a, const struct store *s)
+{
+    if (a->json)
+        puts("{\"command\":\"register\",\"number\":null,\"words\":\"there is no such register\"}");
+    else
+        fprintf(stderr, "govlezna: %s: there is no such register\n", s->path);
+}
+
+static void put_refusal(const struct request *q, struct store *s, const struct outcome *o)
+{
+    switch (o->number) {
+    case GOVLEZNA_DAMAGED_REGISTER: put_damage(q->arguments, s); break;
+    case GOVLEZNA_REGISTER_FULL: put_full(q, s); break;
+    default: (q->arguments->json ? json_refusal : report_refusal)(q, o); break;
+    }
+}
+
+int run_register(const struct request *q)
 {
     const struct arguments *a = q->arguments;
     struct store store;
     struct outcome outcome = { 0, { 0, 0 }, NULL };
-    open_store(a, &store);
-    read_store(a, &store);
-    outcome.number = call(q, &store, outcome.answer);
-    keep(a, &store, outcome.number == 0);
-    if (outcome.number == 0)
-        put_success(a, &store, outcome.answer[0]);
-    else if (outcome.number == GOVLEZNA_DAMAGED_REGISTER)
-        put_damage(a, &store);
-    else
-        (a->json ? json_refusal : report_refusal)(q, &outcome);
+    int found = open_store(a, &store);
+    if (!found) {
+        put_missing(a, &store);
+    } else {
+        read_store(a, &store, HEAD + q->text_length);
+        outcome.number = call(q, &store, outcome.answer);
+        keep(a, &store, outcome.number == 0);
+        if (outcome.number != 0)
+            put_refusal(q, &store, &outcome);
+        else
+            put_success(a, &store, outcome.answer[0]);
+    }
     close_store(&store);
-    return outcome.number;
+    return found && outcome.number == 0;
 }

@@ -23,13 +23,18 @@ static int is_change(const struct arguments *a)
 
 /* ---- ways out */
 
-static char *unfinished;     /* the file that is written to; it goes on every way out */
+/* What goes on every way out but that of a change that was made: the file that is written to, and the register if it was made for this
+ * change. */
+static const char *unfinished, *made;
 static sigset_t let_through; /* the signals that were, before a change held them back */
 
 static void remove_unfinished(void)
 {
     if (unfinished != NULL)
         unlink(unfinished);
+    if (made != NULL)
+        unlink(made);
+    unfinished = made = NULL;
 }
 
 static void release_signals(void)
@@ -115,35 +120,45 @@ static void wait_for_lock(const struct store *s)
     hold_signals();
 }
 
-/* Opens the file, or makes it. 0: another process made it meanwhile. */
-static int open_or_make(struct store *s)
+/* Opens the file; a missing one is made if it is asked for. 0: another process made it meanwhile. */
+static int open_or_make(struct store *s, int make)
 {
     s->created = 0;
     s->descriptor = open(s->path, O_RDWR | SAFELY);
-    if (s->descriptor < 0 && errno == ENOENT) {
+    if (s->descriptor < 0 && errno == ENOENT && make) {
         s->descriptor = open(s->path, O_RDWR | O_CREAT | O_EXCL, 0666);
         s->created = 1;
+        if (s->descriptor < 0 && errno == EEXIST)
+            return 0;
     }
-    if (s->descriptor < 0 && errno != EEXIST)
+    if (s->descriptor < 0 && (errno != ENOENT || make))
         fail(s->path, strerror(errno));
-    return s->descriptor >= 0;
+    return 1;
 }
 
-/* Opens the file for a change, once no other process changes it. */
-static void open_locked(struct store *s)
+/* Opens the file for a change, once no other process changes it. A file that was made is removed again while it is surely ours alone. */
+static void open_locked(struct store *s, int make)
 {
     for (;;) {
-        if (!open_or_make(s))
+        if (!open_or_make(s, make))
             continue;
-        if (!take_lock(s, F_SETLK))
-            wait_for_lock(s);
-        if (is_current(s))
+        if (s->descriptor < 0)
             return;
+        made = s->created ? s->path : NULL;
+        if (!take_lock(s, F_SETLK)) {
+            made = NULL;
+            wait_for_lock(s);
+        }
+        if (is_current(s)) {
+            made = s->created ? s->path : NULL;
+            return;
+        }
+        made = NULL;
         close(s->descriptor);
     }
 }
 
-void open_store(const struct arguments *a, struct store *s)
+int open_store(const struct arguments *a, struct store *s)
 {
     struct stat status;
     *s = (struct store){ .path = real_path(a->register_path), .descriptor = -1 };
@@ -151,12 +166,13 @@ void open_store(const struct arguments *a, struct store *s)
         check_regular(s, &status);
     if (is_change(a)) {
         begin_change();
-        open_locked(s);
-        return;
+        open_locked(s, a->action == ADD);
+    } else {
+        s->descriptor = open(s->path, O_RDONLY | SAFELY);
+        if (s->descriptor < 0 && errno != ENOENT)
+            fail(s->path, strerror(errno));
     }
-    s->descriptor = open(s->path, O_RDONLY | SAFELY);
-    if (s->descriptor < 0 && errno != ENOENT)
-        fail(s->path, strerror(errno));
+    return s->descriptor >= 0;
 }
 
 /* What the open file is; its length. */
@@ -174,18 +190,19 @@ static size_t look_at(const struct arguments *a, struct store *s)
     return (size_t)status.st_size;
 }
 
-void read_store(const struct arguments *a, struct store *s)
+void read_store(const struct arguments *a, struct store *s, size_t more)
 {
-    size_t size = s->descriptor < 0 ? 0 : look_at(a, s), done = 0;
-    s->length = a->room > size ? a->room : size;
+    size_t size = look_at(a, s), done = 0;
+    s->room = a->room > size ? a->room : size;
+    s->length = s->room - size > more ? size + more : s->room;
     s->buffer = allocate(s->length);
     while (done < size) {
-        ssize_t more = read(s->descriptor, s->buffer + done, size - done);
-        if (more < 0 && errno != EINTR)
+        ssize_t part = read(s->descriptor, s->buffer + done, size - done);
+        if (part < 0 && errno != EINTR)
             fail(s->path, strerror(errno));
-        if (more == 0)
+        if (part == 0)
             fail(s->path, "it became shorter while it was read");
-        done += more > 0 ? (size_t)more : 0;
+        done += part > 0 ? (size_t)part : 0;
     }
     s->used = size;
 }
@@ -253,7 +270,7 @@ static void replace(const struct store *s)
     if (fchmod(descriptor, keep_owner(s, descriptor)) != 0 || fsync(descriptor) != 0 || close(descriptor) != 0 ||
         rename(path, s->path) != 0)
         fail_at(s, "writing it anew", errno);
-    unfinished = NULL;
+    unfinished = made = NULL;
     free(path);
     sync_folder(s);
 }
@@ -264,8 +281,8 @@ void keep(const struct arguments *a, const struct store *s, int accepted)
         return;
     if (accepted)
         replace(s);
-    else if (s->created)
-        unlink(s->path);
+    else
+        remove_unfinished();
     release_signals();
 }
 

@@ -35,6 +35,13 @@ gives() {
     expect $? "$@"
 }
 
+# makes FILE ARGUMENTS..: adds the first form of a register that is missing, and says that it is new.
+makes() {
+    run "$@"
+    [ "$status" -eq 0 ] && [ "$(cat out)" = 1 ] && [ "$(cat err)" = "govlezna: $1: a new register" ]
+    expect $? "$@"
+}
+
 # holds BYTES FILE: the file's bytes, as printf writes them; nothing that was written on the way lies beside it.
 holds() {
     printf "$1" | cmp -s - "$2" && nothing_left
@@ -82,11 +89,7 @@ misused() {
 }
 
 results() {
-    gives '0\n' names count a
-    gives '' names list
-    [ ! -e names ]
-    expect $? nothing is made by reading
-    gives '1\n' names add a
+    makes names add a
     holds '\1\0\0\0\1\0\0\0a' names
     gives '1\n' names add ½
     gives '2\n' names add a
@@ -121,19 +124,51 @@ results() {
 }
 
 refusals() {
-    refuses 29 'not in the register' none withdraw a
     refuses 5 'not UTF-8: byte 1' none add $'a\xFF'
-    refuses 30 'full' none add a --room 8
-    gives '1\n' small add a --room 9
-    refuses 30 'full' small add b --room 9
-    refuses 30 'full' small add '' --room 0
+    refuses 30 ': 0 bytes are used, the form takes 9 more, and --room allows 8' none add a --room 8
+    makes small add a --room 9
+    refuses 30 ': 9 bytes are used, the form takes 9 more, and --room allows 9' small add b --room 9
+    refuses 30 ': 9 bytes are used, the form takes 8 more, and --room allows 9' small add '' --room 0
     gives '2\n' small add a --room 0 # never less than the file
-    refuses 30 'full' small add b --room 17
+    refuses 29 'not in the register' small withdraw b
+    refuses 30 ': 9 bytes are used, the form takes 9 more, and --room allows 17' small add b --room 17
+    grep -q '"used":9,"needed":9,"room":17}' out
+    expect $? small add b --room 17 --json
     gives '1\n' small add b --room 18
+    gives '1\n' small add c --room 18446744073709551615 # no more memory is taken than the form needs
+    makes large add a --room 18446744073709551615
     printf '\1\0\0\0\377\377\377\377a' >most
-    refuses 30 'full' most add a
+    refuses 30 ": it is the form's count" most add a
     gives '4294967295\n' most count a
     refuses 29 'not in the register' most withdraw b
+}
+
+# A register that is missing: a mistyped path does not read as 0, and a refused or failed change makes none.
+missing() {
+    local action call
+    for action in 'count a' list 'withdraw a'; do
+        run absent $action
+        [ "$status" -eq 1 ] && [ ! -s out ] && [ "$(cat err)" = 'govlezna: absent: there is no such register' ]
+        expect $? absent $action
+        run absent $action --json
+        [ "$status" -eq 1 ] && [ ! -s err ] && [ "$(cat out)" = '{"command":"register","number":null,"words":"there is no such register"}' ]
+        expect $? absent $action --json
+    done
+    for call in write 'fsync file' fchmod rename; do
+        preloaded "FAILS=$call" -- absent add a
+        [ "$status" -eq 2 ] && [ ! -s out ] && [ ! -e absent ] && nothing_left
+        expect $? "$call" fails for a new register
+    done
+    printf '%03000d' 1 >form
+    (ulimit -f 2; "$program" register absent add --file form; echo $?) 2>&1 >out | cat >err
+    [ "$(cat out)" = 2 ] && grep -q 'File too large' err && [ ! -e absent ] && nothing_left
+    expect $? a full disk for a new register
+    preload 'PAUSES=write' -- absent add a
+    "${command[@]}" >out 2>err &
+    sleep 0.5
+    kill $!
+    wait $! 2>/dev/null
+    gives '1\n' absent count a # the signal waited
 }
 
 damage() {
@@ -175,7 +210,7 @@ misuse() {
 # Four processes add at once, and one reads meanwhile: every add counts, and no reader sees half a file.
 at_once() {
     local turn
-    rm -f shared
+    makes shared add all
     for turn in 1 2 3 4; do
         (for _ in {1..25}; do "$program" register shared add "form $turn" && "$program" register shared add all; done >/dev/null) &
     done
@@ -185,14 +220,14 @@ at_once() {
     done
     expect "$status" reading while others write
     wait
-    gives '100\n' shared count all
+    gives '101\n' shared count all
     for turn in 1 2 3 4; do gives '25\n' shared count "form $turn"; done
 }
 
 # A disk that is full in the middle of the file: it stays as it was.
 full_disk() {
     printf '%03000d' 1 >form
-    gives '1\n' long add --file form
+    makes long add --file form
     cp long before
     (trap '' XFSZ; ulimit -f 2; "$program" register long add a) >out 2>err
     [ $? -eq 2 ] && [ ! -s out ] && cmp -s long before && nothing_left
@@ -202,21 +237,21 @@ full_disk() {
 # What lies beside a register has no say, and is left as it is.
 neighbours() {
     local name
-    gives '1\n' a.new add x
-    gives '1\n' a add y
+    makes a.new add x
+    makes a add y
     holds '\1\0\0\0\1\0\0\0x' a.new
     holds '\1\0\0\0\1\0\0\0y' a
     printf kept >precious
     ln -s precious b.new
-    gives '1\n' b add y
+    makes b add y
     holds kept precious
     [ -L b.new ]
     expect $? a link beside the register
     mkdir c.new # as a file of another user, nothing that can be written
-    gives '1\n' c add y
+    makes c add y
     holds '\1\0\0\0\1\0\0\0y' c
     name=$(printf '%0255d' 1) # the longest one
-    gives '1\n' "$name" add y
+    makes "$name" add y
 }
 
 # What fails on the way, or ends the process, leaves the register whole and nothing beside it; but kill -9 may leave the other file.
@@ -260,7 +295,7 @@ is_alone() { # BYTES
 # A change is on the disk before it is told: the file before it has its name, then the folder that has the name.
 on_the_disk() {
     mkdir -p folders/kept
-    gives '1\n' folders/kept/r add a
+    makes folders/kept/r add a
     rm -f calls
     preloaded CALLS=calls -- folders/kept/r add a
     [ "$(cat out)" = 2 ] && [ "$(grep -v fchown calls | tr '\n' ,)" = 'write,fchmod,fsync file,rename,fsync folder,' ]
@@ -278,7 +313,7 @@ on_the_disk() {
 
 # A change keeps the owner and the group where that is allowed, and does not part hard links.
 owners() {
-    gives '1\n' one add a
+    makes one add a
     ln one two
     cp one before
     misused 'it has several hard links, which a change would part' one add a
@@ -347,7 +382,7 @@ at_once_refused() { # WORDS ARGUMENTS..
 # A process that waits for another's change says so after a second, can be stopped, and then has its turn.
 waiting() {
     local changer stopped
-    gives '1\n' waited add a
+    makes waited add a
     preload 'PAUSES=fsync file' -- waited add a
     "${command[@]}" </dev/null >/dev/null 2>&1 &
     changer=$!
@@ -399,6 +434,7 @@ without() { # CLOSED ARGUMENTS..
 cc -std=c11 -O1 -shared -fPIC "$here/register_calls.c" -o calls.so -ldl || exit 2
 results
 refusals
+missing
 damage
 misuse
 at_once
