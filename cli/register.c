@@ -1,6 +1,7 @@
 /* The command register: the calls on a register that a file holds, and their answers. */
 #include "store.h"
 
+#include <errno.h>
 #include <inttypes.h>
 #include <stdlib.h>
 #include <string.h>
@@ -143,6 +144,15 @@ static void put_success(const struct arguments *a, const struct store *s, uint64
     }
 }
 
+/* Whoever does not get the answer is told that it was not for nothing. */
+static void flush_change(void)
+{
+    if (fflush(stdout) == 0 && !ferror(stdout))
+        return;
+    fprintf(stderr, "govlezna: standard output: %s; the change was made\n", strerror(errno));
+    exit(2);
+}
+
 static void put_damage(const struct arguments *a, const struct store *s)
 {
     const char *fault;
@@ -219,6 +229,8 @@ int run_register(const struct request *q)
             put_refusal(q, &store, &outcome);
         else
             put_success(a, &store, outcome.answer[0]);
+        if (outcome.number == 0 && is_change(a))
+            flush_change();
     }
     close_store(&store);
     return found && outcome.number == 0;

@@ -16,7 +16,7 @@
 /* A path that became a link is not followed, and a file that is no regular one is not waited for. */
 #define SAFELY (O_NOFOLLOW | O_NONBLOCK | O_NOCTTY)
 
-static int is_change(const struct arguments *a)
+int is_change(const struct arguments *a)
 {
     return a->action == ADD || a->action == WITHDRAW;
 }
@@ -50,11 +50,12 @@ static void hold_signals(void)
     sigprocmask(SIG_BLOCK, &all, &let_through);
 }
 
-/* A file that may not grow is an error of writing, as a full disk is. */
+/* A file that may not grow and an answer that nobody reads are errors of writing, as a full disk is. */
 static void begin_change(void)
 {
     hold_signals();
     signal(SIGXFSZ, SIG_IGN);
+    signal(SIGPIPE, SIG_IGN);
     atexit(remove_unfinished);
 }
 

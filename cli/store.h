@@ -20,6 +20,7 @@ struct store {
     uint64_t used;
 };
 
+int is_change(const struct arguments *arguments);
 /* Opens the file, for a change locked; add makes one that is missing. 0: there is none. */
 int open_store(const struct arguments *arguments, struct store *store);
 /* Reads the file into a buffer for so many bytes more, but within the room asked for; that is never less than the file. */

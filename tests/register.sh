@@ -292,6 +292,29 @@ is_alone() { # BYTES
     printf "$1" | cmp -s - ends/r && [ "$(ls -A ends)" = r ]
 }
 
+# A change whose answer cannot be told: the message says that it was made, and only then.
+answers_lost() {
+    makes told add a
+    lost /dev/full 'No space left on device; the change was made' told add a
+    lost /dev/full 'No space left on device; the change was made' told withdraw a --json
+    lost /dev/full 'No space left on device' told count a
+    lost /dev/full 'No space left on device' told withdraw b --json
+    (sleep 0.3; "$program" register told add a 2>err; echo $? >status) | true
+    [ "$(cat status err)" = $'2\ngovlezna: standard output: Broken pipe; the change was made' ]
+    expect $? told add a '| true'
+    gives '2\n' told count a
+}
+
+lost() { # WHERE WORDS ARGUMENTS..
+    local where=$1 words=$2
+    shift 2
+    "$program" register "$@" </dev/null >"$where" 2>err
+    status=$?
+    : >out
+    [ "$status" -eq 2 ] && [ "$(cat err)" = "govlezna: standard output: $words" ]
+    expect $? "$@" ">$where"
+}
+
 # A change is on the disk before it is told: the file before it has its name, then the folder that has the name.
 on_the_disk() {
     mkdir -p folders/kept
@@ -441,6 +464,7 @@ at_once
 full_disk
 neighbours
 ends_of_a_change
+answers_lost
 on_the_disk
 owners
 strange_files
