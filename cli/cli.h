@@ -42,6 +42,7 @@ struct arguments {
     const char *register_path, *action_name; /* of register; NULL where they are missing */
     enum action action;
     size_t room;
+    int canonical, empty; /* the text is a value, whose form is meant; the form may be empty */
     int lines, json;
 };
 

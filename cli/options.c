@@ -15,7 +15,7 @@ static const char *const actions[] = { "add", "withdraw", "count", "list" };
 
 enum option {
     LEVEL, VERSION, DEPTH, LIMIT, STRICT, ENTITY, EXTERNAL, MARKED, TABLE, LINES, AT_START, AT_END, AS_ATTRIBUTE, AS_TEXT, ROOM,
-    FROM_FILE, JSON, OPTIONS
+    OF_CANONICAL, TAKE_EMPTY, FROM_FILE, JSON, OPTIONS
 };
 
 #define ON(command) (1u << (command))
@@ -23,6 +23,8 @@ enum option {
 /* Those that read an attribute value, and those that have a table. */
 #define VALUES (ON(NORMALIZE) | ON(CANONICAL) | ON(NMTOKENS) | ON(USED) | ON(LEAST_DEPTH))
 #define TABLES (VALUES | ON(UNESCAPE) | ON(CHECK))
+/* What register takes with --canonical alone. */
+#define OF_VALUES (ON(VERSION) | ON(DEPTH) | ON(LIMIT) | ON(STRICT) | ON(ENTITY) | ON(EXTERNAL) | ON(MARKED) | ON(TABLE))
 
 /* The options: how many values each takes, and which commands take it. */
 static const struct {
@@ -31,20 +33,22 @@ static const struct {
     unsigned commands;
 } options[OPTIONS] = {
     { "--level", 1, ON(ESCAPE) },
-    { "--version", 1, VALUES | ON(EOLS) },
-    { "--depth", 1, VALUES & ~ON(LEAST_DEPTH) },
-    { "--limit", 1, VALUES },
-    { "--strict", 0, ON(NORMALIZE) | ON(CANONICAL) | ON(USED) },
-    { "--entity", 1, TABLES },
-    { "--external", 1, TABLES },
-    { "--marked", 0, TABLES },
-    { "--table", 2, TABLES },
+    { "--version", 1, VALUES | ON(EOLS) | ON(REGISTER) },
+    { "--depth", 1, (VALUES & ~ON(LEAST_DEPTH)) | ON(REGISTER) },
+    { "--limit", 1, VALUES | ON(REGISTER) },
+    { "--strict", 0, ON(NORMALIZE) | ON(CANONICAL) | ON(USED) | ON(REGISTER) },
+    { "--entity", 1, TABLES | ON(REGISTER) },
+    { "--external", 1, TABLES | ON(REGISTER) },
+    { "--marked", 0, TABLES | ON(REGISTER) },
+    { "--table", 2, TABLES | ON(REGISTER) },
     { "--lines", 0, ON(NMTOKENS) },
     { "--start", 0, ON(TRIM) },
     { "--end", 0, ON(TRIM) },
     { "--attribute", 0, ON(C14N) },
     { "--text", 0, ON(C14N) },
     { "--room", 1, ON(REGISTER) },
+    { "--canonical", 0, ON(REGISTER) },
+    { "--empty", 0, ON(REGISTER) },
     { "--file", 1, ALL },
     { "--json", 0, ALL },
 };
@@ -146,6 +150,8 @@ static void set_option(struct arguments *a, enum option option, char **values)
     case AS_ATTRIBUTE: a->node = ATTRIBUTE; break;
     case AS_TEXT: a->node = TEXT; break;
     case ROOM: a->room = read_number(name, values[0], SIZE_MAX); break;
+    case OF_CANONICAL: a->canonical = 1; break;
+    case TAKE_EMPTY: a->empty = 1; break;
     case FROM_FILE: a->file = values[0]; break;
     case JSON: a->json = 1; break;
     case OPTIONS: break;
@@ -171,6 +177,17 @@ static int take_action(struct arguments *a, const char *word)
     return 0;
 }
 
+static void check_register(const struct arguments *a, unsigned seen)
+{
+    if (a->action_name == NULL)
+        bad_usage("register", "expected FILE and one of add, withdraw, count and list");
+    if (a->action == LIST && (a->text != NULL || a->file != NULL || a->canonical || a->empty))
+        bad_usage("list", "takes no form");
+    for (int i = 0; i < OPTIONS && !a->canonical; i++)
+        if (seen & OF_VALUES & ON(i))
+            bad_usage(options[i].name, "goes with --canonical");
+}
+
 static void check_together(const struct arguments *a, unsigned seen)
 {
     if (a->text != NULL && a->file != NULL)
@@ -187,10 +204,8 @@ static void check_together(const struct arguments *a, unsigned seen)
         bad_usage("--attribute", "--text is given too");
     if (a->command == C14N && a->node == NEITHER)
         bad_usage("c14n", "expected --attribute or --text");
-    if (a->command == REGISTER && a->action_name == NULL)
-        bad_usage("register", "expected FILE and one of add, withdraw, count and list");
-    if (a->command == REGISTER && a->action == LIST && (a->text != NULL || a->file != NULL))
-        bad_usage("list", "takes no form");
+    if (a->command == REGISTER)
+        check_register(a, seen);
 }
 
 /* Takes the option at argv[at] with its values; the place after them. */

@@ -213,7 +213,8 @@ static void put_refusal(const struct request *q, struct store *s, const struct o
     }
 }
 
-int run_register(const struct request *q)
+/* The call on the file, for the form that the request has as its text. 0: it was refused. */
+static int run_on_file(const struct request *q)
 {
     const struct arguments *a = q->arguments;
     struct store store;
@@ -234,4 +235,41 @@ int run_register(const struct request *q)
     }
     close_store(&store);
     return found && outcome.number == 0;
+}
+
+/* Puts the canonical form of the request's text in its place. 0: the value is refused, and that was told. */
+static int make_canonical(const struct request *q, struct request *form)
+{
+    struct arguments canonical = *q->arguments;
+    struct request value = *q;
+    struct outcome outcome;
+    canonical.command = CANONICAL;
+    value.arguments = &canonical;
+    if (make_call(&value, &outcome) != 0) {
+        (canonical.json ? json_refusal : report_refusal)(q, &outcome);
+        return 0;
+    }
+    form->text = outcome.bytes;
+    form->text_length = outcome.answer[0];
+    return 1;
+}
+
+/* A pipe hands on the empty text where the command before it failed. */
+static void check_form(const struct request *form)
+{
+    if (form->text_length == 0 && form->arguments->action != LIST && !form->arguments->empty)
+        fail("register", "the form is empty; give --empty if that is meant");
+}
+
+int run_register(const struct request *q)
+{
+    struct request form = *q;
+    int accepted;
+    if (q->arguments->canonical && !make_canonical(q, &form))
+        return 0;
+    check_form(&form);
+    accepted = run_on_file(&form);
+    if (q->arguments->canonical)
+        free(form.text);
+    return accepted;
 }

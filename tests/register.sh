@@ -102,11 +102,11 @@ results() {
     gives '0\n' names withdraw a
     holds '\2\0\0\0\1\0\0\0½' names
     gives '1\n' names add a # at the end again
-    gives '{"command":"register","number":0,"action":"add","count":1,"used":27}\n' names add '' --json
+    gives '{"command":"register","number":0,"action":"add","count":1,"used":27}\n' names add --empty '' --json
     gives '1 ½\n1 a\n1 \n' names list
     gives '1\n' names add -- --room
     gives '1\n' names count --room 0 -- --room
-    for form in ½ a '' --room; do run names withdraw -- "$form"; done
+    for form in ½ a '' --room; do run names withdraw --empty -- "$form"; done
     holds '' names
     printf 'from a file' >form
     gives '1\n' names add --file form
@@ -128,7 +128,7 @@ refusals() {
     refuses 30 ': 0 bytes are used, the form takes 9 more, and --room allows 8' none add a --room 8
     makes small add a --room 9
     refuses 30 ': 9 bytes are used, the form takes 9 more, and --room allows 9' small add b --room 9
-    refuses 30 ': 9 bytes are used, the form takes 8 more, and --room allows 9' small add '' --room 0
+    refuses 30 ': 9 bytes are used, the form takes 8 more, and --room allows 9' small add '' --empty --room 0
     gives '2\n' small add a --room 0 # never less than the file
     refuses 29 'not in the register' small withdraw b
     refuses 30 ': 9 bytes are used, the form takes 9 more, and --room allows 17' small add b --room 17
@@ -141,6 +141,37 @@ refusals() {
     refuses 30 ": it is the form's count" most add a
     gives '4294967295\n' most count a
     refuses 29 'not in the register' most withdraw b
+}
+
+# The canonical form of a value, written and registered in one: a refused value changes nothing, and no form is empty by mistake.
+canonical_forms() {
+    local sail=(--entity 'sail=Gro&#xDF;segel')
+    makes panels add --canonical 'Panel &sail; <3>' "${sail[@]}"
+    holds '\32\0\0\0\1\0\0\0Panel Großsegel &lt;3&gt;' panels
+    "$program" canonical 'Panel &sail; <3>' "${sail[@]}" | "$program" register panels add >out 2>err
+    [ "$(cat out)" = 2 ]
+    expect $? the form that canonical writes
+    gives '2\n' panels count 'Panel &s; &lt;&#51;>' --canonical --entity s=Großsegel
+    printf 'Panel\tGroßsegel <3>' >value
+    gives '1\n' panels withdraw --canonical --file value
+    gives '0\n' panels withdraw --canonical 'Panel Großsegel <3>' --strict --depth 1 --limit 0
+    gives '1\n' panels add --canonical $'a\xC2\x85b' --version 1.1
+    gives '1\n' panels count 'a b'
+    gives '1\n' panels count --canonical $'a\nb'
+    refuses 11 'unknown entity: bytes 7 to 10 of the text, line 1' panels add --canonical 'Panel &boom;'
+    refuses 11 'of the text of the entity e, line 1' panels count --canonical '&e;' --entity 'e=&boom;'
+    refuses 26 'U+0001: byte 0 of the text' panels withdraw --canonical $'\x01' --strict
+    refuses 9 '--entity number 1' panels add --canonical a --entity =x
+    refuses 11 'unknown entity' unmade add --canonical 'Panel &boom;'
+    "$program" canonical 'Panel &boom;' 2>/dev/null | "$program" register unmade add >out 2>err
+    status=$?
+    [ "$status" -eq 2 ] && [ ! -s out ] && [ ! -e unmade ] && [ "$(cat err)" = 'govlezna: register: the form is empty; give --empty if that is meant' ]
+    expect $? the form of a refused value, piped
+    misused 'the form is empty' panels add ''
+    misused 'the form is empty' panels withdraw ''
+    misused 'the form is empty' panels count --canonical '&e;' --entity e=
+    makes unnamed add --canonical '&e;' --entity e= --empty
+    holds '\0\0\0\0\1\0\0\0' unnamed
 }
 
 # A register that is missing: a mistyped path does not read as 0, and a refused or failed change makes none.
@@ -200,6 +231,10 @@ misuse() {
     misused 'a second text' names add a b
     misused 'expected a number' names add a --room x
     misused 'not an option of this command' names add a --level 1
+    misused '--entity: goes with --canonical' names add a --entity e=x
+    misused '--strict: goes with --canonical' names count a --strict
+    misused 'takes no form' names list --canonical
+    misused 'takes no form' names list --empty
     misused 'no regular file' . count a
     misused 'No such file or directory' missing/names add a
     "$program" escape --room 5 a >out 2>err
@@ -457,6 +492,7 @@ without() { # CLOSED ARGUMENTS..
 cc -std=c11 -O1 -shared -fPIC "$here/register_calls.c" -o calls.so -ldl || exit 2
 results
 refusals
+canonical_forms
 missing
 damage
 misuse
