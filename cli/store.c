@@ -34,7 +34,6 @@ static void remove_unfinished(void)
         unlink(unfinished);
     if (made != NULL)
         unlink(made);
-    unfinished = made = NULL;
 }
 
 static void release_signals(void)
@@ -251,12 +250,14 @@ static mode_t keep_owner(const struct store *s, int descriptor)
 static void sync_folder(const struct store *s)
 {
     char *path = name_beside(s->path, ".");
-    int descriptor = open(path, O_RDONLY | O_DIRECTORY);
+    int why = 0, descriptor = open(path, O_RDONLY | O_DIRECTORY);
     if (descriptor < 0 ? errno != EACCES : fsync(descriptor) != 0 && errno != EINVAL)
-        fail_at(s, "the change was made, but its folder may not be on the disk", errno);
+        why = errno;
     if (descriptor >= 0)
         close(descriptor);
     free(path);
+    if (why != 0)
+        fail_at(s, "the change was made, but its folder may not be on the disk", why);
 }
 
 /* Writes the used bytes to another file, and gives it the register's name once they are on the disk. */
@@ -284,6 +285,7 @@ void keep(const struct arguments *a, const struct store *s, int accepted)
         replace(s);
     else
         remove_unfinished();
+    made = NULL;
     release_signals();
 }
 
