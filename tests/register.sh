@@ -65,6 +65,19 @@ preload() {
     command+=("$program" register "${@:2}")
 }
 
+# paused CALL ARGUMENTS..: starts the program, and returns once it waits at this call for the file `go`; `paused` is the process.
+paused() {
+    rm -f go reached
+    preload CALLS=reached "PAUSES=$1" -- "${@:2}"
+    "${command[@]}" </dev/null >paused.out 2>paused.err &
+    paused=$!
+    for _ in {1..500}; do
+        grep -qsx "$1" reached && return
+        sleep 0.02
+    done
+    expect 1 "${@:2}" reaches "$1"
+}
+
 # refuses NUMBER WORDS FILE ARGUMENTS..: status 1, the number and the words, in JSON too; the file stays what it is, or missing.
 refuses() {
     local number=$1 words=$2 file=$3 before=missing
@@ -194,11 +207,10 @@ missing() {
     (ulimit -f 2; "$program" register absent add --file form; echo $?) 2>&1 >out | cat >err
     [ "$(cat out)" = 2 ] && grep -q 'File too large' err && [ ! -e absent ] && nothing_left
     expect $? a full disk for a new register
-    preload 'PAUSES=write' -- absent add a
-    "${command[@]}" >out 2>err &
-    sleep 0.5
-    kill $!
-    wait $! 2>/dev/null
+    paused write absent add a
+    kill $paused
+    touch go
+    wait $paused 2>/dev/null
     gives '1\n' absent count a # the signal waited
 }
 
@@ -299,13 +311,11 @@ ends_of_a_change() {
         [ "$status" -eq 2 ] && [ ! -s out ] && [[ $(cat err) == *': Input/output error' ]] && is_alone "$one"
         expect $? "$call" fails
     done
-    preload 'PAUSES=fsync file' -- ends/r add b
     for signal in HUP TERM; do
-        "${command[@]}" >out 2>err &
-        sleep 0.5
-        kill "-$signal" $!
-        wait $!
-        status=$?
+        paused 'fsync file' ends/r add b
+        kill "-$signal" $paused
+        touch go
+        wait $paused
         run ends/r list
         [ "$status" -eq 0 ] && [ "$(ls -A ends)" = r ]
         expect $? "$signal" during a change
@@ -321,6 +331,9 @@ ends_of_a_change() {
         expect $? killed at "$call"
         gives '2\n' ends/r add a
     done
+    preloaded KILLED=write -- ends/killed add a
+    gives '' ends/killed list # the empty register
+    gives '1\n' ends/killed add a
 } 2>/dev/null # where the shell says which processes were killed
 
 is_alone() { # BYTES
@@ -439,23 +452,31 @@ at_once_refused() { # WORDS ARGUMENTS..
 
 # A process that waits for another's change says so after a second, can be stopped, and then has its turn.
 waiting() {
-    local changer stopped
+    local waiter
     makes waited add a
-    preload 'PAUSES=fsync file' -- waited add a
-    "${command[@]}" </dev/null >/dev/null 2>&1 &
-    changer=$!
-    sleep 0.3
+    paused 'fsync file' waited add a
     "$program" register waited add a </dev/null >/dev/null 2>&1 &
-    stopped=$!
+    waiter=$!
     sleep 0.1
-    kill $stopped
-    wait $stopped 2>/dev/null
-    [ $? -eq 143 ] && kill -0 $changer
+    kill $waiter
+    wait $waiter 2>/dev/null
+    [ $? -eq 143 ] && kill -0 $paused
     expect $? who waits can be stopped
-    run waited add a
-    [ "$status" -eq 0 ] && [ "$(cat out)" = 3 ] && [ "$(cat err)" = "govlezna: $room/waited: waiting for another process that changes it" ]
+    : >out >err
+    "$program" register waited add a </dev/null >out 2>err &
+    waiter=$!
+    for _ in {1..500}; do
+        [ ! -s err ] || break
+        sleep 0.02
+    done
+    [ ! -s out ] && [ "$(cat err)" = "govlezna: $room/waited: waiting for another process that changes it" ]
     expect $? waiting for another process
-    wait $changer
+    touch go
+    wait $paused
+    wait $waiter
+    status=$?
+    [ "$status" -eq 0 ] && [ "$(cat out)" = 3 ]
+    expect $? a turn after another process
 }
 
 # Whatever of standard input, output and error is closed: no message gets into a register, and a result that is lost is told.

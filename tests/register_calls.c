@@ -1,6 +1,6 @@
 /*
  * Preloaded into the program by tests/register.sh: what a change of a register asks of the system. The file that CALLS names gets a line for
- * each. FAILS names the one that fails, KILLED the one before which the process is killed, PAUSES the one that first takes two seconds.
+ * each. FAILS names the one that fails, KILLED the one before which the process is killed, PAUSES the one that waits until there is a file `go`.
  */
 #define _GNU_SOURCE
 
@@ -31,8 +31,8 @@ static int reach(const char *call)
     }
     if (is_named("KILLED", call))
         raise(SIGKILL);
-    if (is_named("PAUSES", call))
-        sleep(2);
+    for (int pauses = 0; is_named("PAUSES", call) && pauses < 3000 && access("go", F_OK) != 0; pauses++)
+        usleep(10000);
     if (!is_named("FAILS", call))
         return 0;
     errno = EIO;
