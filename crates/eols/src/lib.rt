@@ -88,7 +88,7 @@ fn normalize_eol_step(text: &[u8], i: usize, newer: bool) -> Step
 }
 
 // The length of the text with its line ends normalized.
-fn eols_length(text: &[u8], newer: bool) -> usize
+pub fn eols_length(text: &[u8], newer: bool) -> usize
     ensures { λ r. ⌜ r ≡ length (eols (ruleFor newer) (now (text .entry))) ⌝ }
 {
     let mut n: usize = 0;

@@ -39,6 +39,15 @@ pub const NO_ROOM: u32 = 19;
 
 pub const CURSOR_OUTSIDE: u32 = 20;
 
+// A text that departs from the form of declarations.
+pub const MALFORMED_DECLARATION: u32 = 21;
+
+// A name, a value or the number of declarations that passes its limit.
+pub const DECLARATION_TOO_LARGE: u32 = 22;
+
+// List or pool too small for the declarations, or the pool too long for a table.
+pub const NO_TABLE_ROOM: u32 = 23;
+
 // A reference to a character outside Char.
 pub const FORBIDDEN_REFERENCE: u32 = 25;
 

@@ -1,0 +1,3 @@
+pub mod EntityValue
+pub mod EntityDecl
+pub mod TableWritten

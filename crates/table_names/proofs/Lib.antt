@@ -1,0 +1,5 @@
+pub mod AsciiNames
+pub mod TailBits
+pub mod CharWidths
+pub mod NamesPast
+pub mod WideNames

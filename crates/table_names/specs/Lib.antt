@@ -1,0 +1,2 @@
+pub mod NameChars
+pub mod NameTerms
