@@ -76,7 +76,8 @@ module _ (newer : Bool) (t : List ℕ) (i : ℕ) (old : List ℕ) where
           value = [];
           is =
               definition-by (left newer t i)
-              (value-bare (z .byte) (left newer t i) (z .rest) (z .is) (z .other 34 (eqb-false (getD t i 0) 34 (n .0)) (λ q. absurd (omega arith))) (z .other 39 (eqb-false (getD t i 0) 39 (n .1)) (λ q. absurd (omega arith))));
+              (value-bare (z .byte) (left newer t i) (z .rest) (z .is) (z .other 34 (eqb-false (getD t i 0) 34 (n .0)) (λ q. absurd (omega arith)))
+              (z .other 39 (eqb-false (getD t i 0) 39 (n .1)) (λ q. absurd (omega arith))));
           kept = (omega arith, refl);
         }
 
@@ -86,7 +87,8 @@ module _ (newer : Bool) (t : List ℕ) (i : ℕ) (old : List ℕ) where
       opened e =
           let a = quote-ascii (getD t i 0) q in
           definition-by (left newer t i)
-          (value-quoted (getD t i 0) (left newer t i) (left newer t (i + 1)) (left-ascii newer t i h (omega (arith, a .0)) (omega (arith, a .1))) (one-of (eqb (getD t i 0) 34) (eqb (getD t i 0) 39) q) ∙ e)
+          (value-quoted (getD t i 0) (left newer t i) (left newer t (i + 1)) (left-ascii newer t i h (omega (arith, a .0)) (omega (arith, a .1)))
+          (one-of (eqb (getD t i 0) 34) (eqb (getD t i 0) 39) q) ∙ e)
 
       pub definition-stopped : {new : List ℕ} (step : Step) → Stops step → Meets newer t (i + 1) (valueFrom (getD t i 0) [] 0 (left newer t (i + 1))) old new step → length new ≡ length old
           → Meets newer t i (definition (left newer t i)) old new step
@@ -189,7 +191,9 @@ module _ (newer : Bool) (t : List ℕ) (i : ℕ) (old : List ℕ) where
           record {
             entity = nobody;
             is = defined-by (m .is) ∙ fault-on newer t (m .value) step s (λ v t3. read (record { name = n .value; value = v }) t3);
-            kept = fault-kept t next (m .value) (midOf w (length new - w) new) part old (putMid w (length new - w) new part) step s (m .kept) (put-same w new part (omega (arith, fits)) e ∙ new-length);
+            kept =
+                fault-kept t next (m .value) (midOf w (length new - w) new) part old (putMid w (length new - w) new part) step s (m .kept)
+                (put-same w new part (omega (arith, fits)) e ∙ new-length);
           }
 
       pub entity-declared : {part : List ℕ} {at more : ℕ} → Meets newer t next (definition (left newer t next)) (midOf w (length new - w) new) part (Next at more)

@@ -196,9 +196,15 @@ module _ {newer : Bool} {t list pool list′ pool′ : List ℕ} {i count used :
               record {
                 found = [];
                 is =
-                    g .on ∙ ap (after (g .found)) (spare-one k q ∙ ap (λ (r : Read Entity). onward r (λ e rest. onward (entitiesAt k (afterSpace rest)) (λ es end. read (e ∷ es) end))) (m .is) ∙ fault-onward newer t step (λ e rest. onward (entitiesAt k (afterSpace rest)) (λ es end. read (e ∷ es) end)))
+                    g .on ∙ ap (after (g .found)) (spare-one k q ∙ ap (λ (r : Read Entity). onward r
+                    (λ e rest. onward (entitiesAt k (afterSpace rest)) (λ es end. read (e ∷ es) end))) (m .is) ∙ fault-onward newer t step
+                    (λ e rest. onward (entitiesAt k (afterSpace rest)) (λ es end. read (e ∷ es) end)))
                     ∙ after-fault (g .found) newer t step;
-                kept = (fault-same t (midOf w (length pool′ - w) pool′) part pool (putMid w (length pool′ - w) pool′ part) step (m .kept) (put-same w pool′ part (omega (arith, least)) e ∙ gathered-pool), gathered-list);
+                kept = (
+                  fault-same t (midOf w (length pool′ - w) pool′) part pool (putMid w (length pool′ - w) pool′ part) step (m .kept)
+                      (put-same w pool′ part (omega (arith, least)) e ∙ gathered-pool),
+                  gathered-list,
+                );
               }
 
       pub gathered-more : {at name value next v : ℕ} {command : List ℕ} → MeetsEntity newer t i (entity (left newer t i)) (midOf w (length pool′ - w) pool′) part (Follows at name value)
@@ -224,11 +230,21 @@ module _ {newer : Bool} {t list pool list′ pool′ : List ℕ} {i count used :
                     ∙ after-one (g .found) e (entitiesAt k (left newer t next));
                 counted = omega (arith, g .counted, length-append (g .found) (e ∷ []));
                 spare = omega (arith, g .spare, q);
-                sized = omega (arith, g .sized, ap length (pool-append (g .found) e), length-append (poolOf (g .found)) (e .name ++ e .value), length-append (e .name) (e .value), m .kept .named, m .kept .valued);
+                sized =
+                    omega (
+                      arith,
+                      g .sized,
+                      ap length (pool-append (g .found) e),
+                      length-append (poolOf (g .found)) (e .name ++ e .value),
+                      length-append (e .name) (e .value),
+                      m .kept .named,
+                      m .kept .valued,
+                    );
                 small = omega (arith, g .small, m .kept .small, s .from);
                 commands =
                     over-more (commandsFrom 0 (g .found)) (commandAt used name value) list (g .commands) (omega (arith, commands-length 0 (g .found), g .counted)) fits c
-                    ∙ ap (λ (l : List ℕ). over l list) (ap (λ (l : List ℕ). commandsFrom 0 (g .found) ++ l) (command-same e {x = 0 + length (poolOf (g .found))} (omega (arith, g .sized)) (m .kept .named) (m .kept .valued)) ∙ sym (commands-append 0 (g .found) e));
+                    ∙ ap (λ (l : List ℕ). over l list) (ap (λ (l : List ℕ). commandsFrom 0 (g .found) ++ l)
+                    (command-same e {x = 0 + length (poolOf (g .found))} (omega (arith, g .sized)) (m .kept .named) (m .kept .valued)) ∙ sym (commands-append 0 (g .found) e));
                 texts =
                     over-more (poolOf (g .found)) (e .name ++ e .value) pool (g .texts) (g .sized) least (m .kept .holds)
                     ∙ ap (λ (l : List ℕ). over l pool) (sym (pool-append (g .found) e));

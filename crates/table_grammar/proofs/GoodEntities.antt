@@ -35,7 +35,8 @@ Well P (departs rest) = Unit {0}
 Well P (exceeds rest) = Unit {0}
 Well P (refused number first) = Unit {0}
 
-well-onward : {A B : Type 0} (P : A → Type 0) (Q : B → Type 0) (r : Read A) (more : A → List ℕ → Read B) → Well P r → ((a : A) (rest : List ℕ) → P a → WellFormed rest → Well Q (more a rest)) → Well Q (onward r more)
+well-onward : {A B : Type 0} (P : A → Type 0) (Q : B → Type 0) (r : Read A) (more : A → List ℕ → Read B) → Well P r
+    → ((a : A) (rest : List ℕ) → P a → WellFormed rest → Well Q (more a rest)) → Well Q (onward r more)
 well-onward P Q (read a rest) more p f = f a rest (p .0) (p .1)
 well-onward P Q (departs rest) more p f = tt
 well-onward P Q (exceeds rest) more p f = tt
@@ -239,7 +240,8 @@ list-onward e (departs rest) p q = tt
 list-onward e (exceeds rest) p q = tt
 list-onward e (refused number first) p q = tt
 
-entity-onward : (r : Read Entity) (more : Entity → List ℕ → Read (List Entity)) → Well GoodEntity r → ((e : Entity) (rest : List ℕ) → GoodEntity e → WellFormed rest → GoodList (more e rest)) → GoodList (onward r more)
+entity-onward : (r : Read Entity) (more : Entity → List ℕ → Read (List Entity)) → Well GoodEntity r
+    → ((e : Entity) (rest : List ℕ) → GoodEntity e → WellFormed rest → GoodList (more e rest)) → GoodList (onward r more)
 entity-onward (read e rest) more p f = f e rest (p .0) (p .1)
 entity-onward (departs rest) more p f = tt
 entity-onward (exceeds rest) more p f = tt

@@ -14,7 +14,7 @@ use Rattle.text.specs.declared.Answer.{Answer}
 use Rattle.text.specs.declared.Answer.the-variants.{Done, Refused}
 use Rattle.charref.specs.CharRef.{charNumber, anyCharacter, numberAnswer}
 use Rattle.table_names.specs.NameChars.{nameLength}
-use Rattle.table_grammar.specs.EntityValue.{Read, read, departs, exceeds, refused, onward, literal, name, nameOf, numbered, charRefFrom, entityRef, reference}
+use Rattle.table_grammar.specs.EntityValue.{Read, read, departs, exceeds, refused, onward, literal, name, nameOf, numbered, charRefFrom, entityRef, reference, valueFrom}
 
 pub record Tail (rest t : List ℕ) : Type 0 where
   pub place : ℕ
@@ -87,3 +87,10 @@ unfolding reference
 reference-ends quote [] = entity-ref-ends []
 reference-ends quote (b ∷ bs) =
     pick-by (Ends (b ∷ bs)) (eqb b 35) (λ e. ends-next bs b (charRefFrom quote [] bs) (char-ref-ends quote bs [])) (λ e. entity-ref-ends (b ∷ bs))
+
+-- a value goes on behind the bytes that were taken
+pub value-skip : (quote : ℕ) (v : List ℕ) (k : ℕ) (t : List ℕ) → valueFrom quote v k t ≡ valueFrom quote v 0 (drop k t)
+unfolding valueFrom
+value-skip quote v zero t = refl
+value-skip quote v (suc k) [] = refl
+value-skip quote v (suc k) (b ∷ bs) = value-skip quote v k bs

@@ -28,7 +28,8 @@ Gives P (departs rest) = Unit {0}
 Gives P (exceeds rest) = Unit {0}
 Gives P (refused number first) = Unit {0}
 
-gives-onward : {A B : Type 0} (P : A → Type 0) (Q : B → Type 0) (r : Read A) (more : A → List ℕ → Read B) → Gives P r → ((a : A) (rest : List ℕ) → P a → Gives Q (more a rest)) → Gives Q (onward r more)
+gives-onward : {A B : Type 0} (P : A → Type 0) (Q : B → Type 0) (r : Read A) (more : A → List ℕ → Read B) → Gives P r
+    → ((a : A) (rest : List ℕ) → P a → Gives Q (more a rest)) → Gives Q (onward r more)
 gives-onward P Q (read a rest) more p f = f a rest p
 gives-onward P Q (departs rest) more p f = tt
 gives-onward P Q (exceeds rest) more p f = tt
@@ -80,7 +81,8 @@ value-short quote (b ∷ bs) v zero =
     (λ e. pick-by (Gives Short) (ltb 65535 (length v)) {a = exceeds (b ∷ bs)} {b = read v bs} (λ f. tt) (λ f. let z = ltb-false 65535 (length v) f in omega arith)) λ e.
     pick-by (Gives Short) (eqb b 37) {a = departs (b ∷ bs)} (λ f. tt) λ f.
     pick-by (Gives Short) (eqb b 38)
-    (λ g. gives-onward Any Short (reference quote bs) (λ w rest. valueFrom quote (v ++ w) (length bs - length rest) bs) (gives-any (reference quote bs)) (λ w rest p. value-short quote bs (v ++ w) (length bs - length rest)))
+    (λ g. gives-onward Any Short (reference quote bs) (λ w rest. valueFrom quote (v ++ w) (length bs - length rest) bs)
+    (gives-any (reference quote bs)) (λ w rest p. value-short quote bs (v ++ w) (length bs - length rest)))
     (λ g. value-short quote bs (v ++ b ∷ []) zero)
 
 entity-value-short : (t : List ℕ) → Gives Short (entityValue t)
@@ -96,7 +98,7 @@ definition-short t =
 
 -- ---- entities
 
-abbrev SmallEntity : Entity → Type 0
+abbrev pub SmallEntity : Entity → Type 0
 SmallEntity e = (0 < length (e .name)) × (length (e .name) < 256) × (length (e .value) < 65536)
 
 entity-small : (t : List ℕ) → Gives SmallEntity (entity t)

@@ -1,3 +1,4 @@
 pub mod EntityValue
 pub mod EntityDecl
 pub mod TableWritten
+pub mod Productions

@@ -63,7 +63,7 @@ abbrev is-none : Option ℕ → Bool
 is-none none = true
 is-none (some k) = false
 
-none-some : (m : ℕ) → none ≡ some m → ⊥
+pub none-some : (m : ℕ) → none ≡ some m → ⊥
 none-some m q = true≢false (ap is-none q)
 
 module _ {s t : State} {lo hi : ℕ} (w : Waits s lo hi t) (bottom : 0x80 ≤ lo) (top : hi ≤ 0xBF) where
@@ -81,7 +81,7 @@ module _ {s t : State} {lo hi : ℕ} (w : Waits s lo hi t) (bottom : 0x80 ≤ lo
   narrower b e = inside 0x80 0xBF b (omega (arith, within-low lo hi b e)) (omega (arith, within-top lo hi b e))
 
   -- the next byte is a tail
-  is-tail : (n m b : ℕ) (bs : List ℕ) → charFrom s n (b ∷ bs) ≡ some m → within lo hi b ≡ true
+  pub is-tail : (n m b : ℕ) (bs : List ℕ) → charFrom s n (b ∷ bs) ≡ some m → within lo hi b ≡ true
   is-tail n m b bs e = go (within lo hi b) refl
     where
       go : (x : Bool) → within lo hi b ≡ x → within lo hi b ≡ true
@@ -106,7 +106,7 @@ module _ {s t : State} {lo hi : ℕ} (w : Waits s lo hi t) (bottom : 0x80 ≤ lo
       go true e true f false g =
           ap (charFrom s n) (eols-tail r b bs e) ∙ tail-more w n b (eolsFrom r 0 bs) g f ∙ ih (64 * n + (b - 0x80)) bs g ∙ sym (tail-more w n b bs g f)
 
-char-nothing : (s : State) (n : ℕ) → charFrom s n [] ≡ none
+pub char-nothing : (s : State) (n : ℕ) → charFrom s n [] ≡ none
 unfolding charFrom
 char-nothing s n = refl
 
@@ -123,7 +123,8 @@ tailed-more : (r : Rule) (w b : ℕ) (bs : List ℕ) → within 0x80 0xBF b ≡ 
 tailed-more r w b bs e x = record { fits = omega (arith, x .fits); kept = eols-tail r b bs e ∙ ap (λ (l : List ℕ). b ∷ l) (x .kept) }
 
 module _ {s t : State} {lo hi : ℕ} (w : Waits s lo hi t) (bottom : 0x80 ≤ lo) (top : hi ≤ 0xBF) (r : Rule) where
-  tailed-by : (k n m : ℕ) (bs : List ℕ) → charFrom s n bs ≡ some m → ((j : ℕ) (cs : List ℕ) → isBetween t ≡ false → charFrom t j cs ≡ some m → Tailed r k cs) → (isBetween t ≡ true → k ≡ 0) → Tailed r (suc k) bs
+  tailed-by : (k n m : ℕ) (bs : List ℕ) → charFrom s n bs ≡ some m
+      → ((j : ℕ) (cs : List ℕ) → isBetween t ≡ false → charFrom t j cs ≡ some m → Tailed r k cs) → (isBetween t ≡ true → k ≡ 0) → Tailed r (suc k) bs
   tailed-by k n m [] e ih z = absurd (none-some m (sym (char-nothing s n) ∙ e))
   tailed-by k n m (b ∷ bs) e ih z = tailed-more r k b bs (narrower w bottom top b f) (go (isBetween t) refl)
     where
@@ -165,7 +166,7 @@ record Headed (r : Rule) (b : ℕ) (bs : List ℕ) : Type 0 where
   tails : (m : ℕ) → charFrom between 0 (b ∷ bs) ≡ some m → Tailed r more bs
   past : charFrom between 0 (b ∷ eolsFrom r 0 bs) ≡ charFrom between 0 (b ∷ bs)
 
-size-1 : (b : ℕ) → b < 0x80 → charSize b ≡ 1
+pub size-1 : (b : ℕ) → b < 0x80 → charSize b ≡ 1
 unfolding charSize
 size-1 b h = let h′ : b ≤ 0x7F = omega arith in rw (le-leb b 0x7F h′)
 
@@ -192,7 +193,7 @@ size-4 b h =
     let k′ : 0xEF < b = omega arith in
     rw (lt-leb b 0x7F h′, lt-leb b 0xDF h″, lt-leb b 0xEF k′)
 
-lead-broken : (b : ℕ) (bs : List ℕ) → first b ≡ broken → charFrom between 0 (b ∷ bs) ≡ none
+pub lead-broken : (b : ℕ) (bs : List ℕ) → first b ≡ broken → charFrom between 0 (b ∷ bs) ≡ none
 unfolding charFrom
 lead-broken b bs e = unfold next in unfold isBetween in rw (e, char-broken (bits between 0 b) bs)
 
@@ -273,9 +274,9 @@ module _ (r : Rule) (b : ℕ) (bs : List ℕ) where
 zero-suc : {w : ℕ} → 0 ≡ suc w → ⊥
 zero-suc e = absurd (omega arith)
 
-record Number (o : Option ℕ) : Type 0 where
-  number : ℕ
-  is : o ≡ some number
+pub record Number (o : Option ℕ) : Type 0 where
+  pub number : ℕ
+  pub is : o ≡ some number
 
 -- ---- the width of a character that passes a test which no line end's character passes
 
@@ -298,7 +299,9 @@ next-line-read : (bs : List ℕ) → charFrom between 0 (0xC2 ∷ 0x85 ∷ bs) �
 next-line-read bs = lead-2 0xC2 (0x85 ∷ bs) (omega arith) (omega arith) ∙ tail-done waits-one 2 0x85 bs (unfold isBetween in refl) refl
 
 line-separator-read : (bs : List ℕ) → charFrom between 0 (0xE2 ∷ 0x80 ∷ 0xA8 ∷ bs) ≡ some 0x2028
-line-separator-read bs = lead-3 waits-two 0xE2 (0x80 ∷ 0xA8 ∷ bs) (first-two 0xE2 (omega arith) (omega arith) (λ q. absurd (omega arith))) (omega arith) (omega arith) ∙ last-two waits-two 2 0x80 0xA8 bs refl refl
+line-separator-read bs =
+    lead-3 waits-two 0xE2 (0x80 ∷ 0xA8 ∷ bs) (first-two 0xE2 (omega arith) (omega arith) (λ q. absurd (omega arith))) (omega arith) (omega arith)
+    ∙ last-two waits-two 2 0x80 0xA8 bs refl refl
 
 module _ (test : ℕ → Bool) (p : Past test) (r : Rule) where
   -- what starts a line end does not pass
@@ -356,14 +359,14 @@ module _ (test : ℕ → Bool) (p : Past test) (r : Rule) where
     pub fits : w ≤ length bs
     pub kept : eolsFrom r 0 (b ∷ bs) ≡ b ∷ (take w bs ++ eolsFrom r 0 (drop w bs))
 
-  width-some : (b : ℕ) {w : ℕ} (o : Option ℕ) → pick (passes test o) (charSize b) 0 ≡ suc w → (passes test o ≡ true) × (charSize b ≡ suc w)
+  pub width-some : (b : ℕ) {w : ℕ} (o : Option ℕ) → pick (passes test o) (charSize b) 0 ≡ suc w → (passes test o ≡ true) × (charSize b ≡ suc w)
   width-some b {w} o e = go (passes test o) refl
     where
       go : (x : Bool) → passes test o ≡ x → (passes test o ≡ true) × (charSize b ≡ suc w)
       go true f = (f, ap (λ (x : Bool). pick x (charSize b) 0) (sym f) ∙ e)
       go false f = absurd (zero-suc (ap (λ (x : Bool). pick x (charSize b) 0) (sym f) ∙ e))
 
-  is-some : (o : Option ℕ) → passes test o ≡ true → Number o
+  pub is-some : (o : Option ℕ) → passes test o ≡ true → Number o
   is-some none e = absurd (true≢false (sym e))
   is-some (some n) e = record { number = n; is = refl }
 
@@ -376,7 +379,12 @@ module _ (test : ℕ → Bool) (p : Past test) (r : Rule) where
       let h = char-head r b bs in
       let t = h .tails (n .number) (n .is) in
       let same : h .more ≡ w = omega (arith, sym (h .size) ∙ s .1) in
-      record { fits = subst (λ (k : ℕ). k ≤ length bs) same (t .fits); kept = keeps (lineEnd r (b ∷ bs)) refl (s .0) ∙ ap (λ (l : List ℕ). b ∷ l) (t .kept ∙ ap (λ (k : ℕ). take k bs ++ eolsFrom r 0 (drop k bs)) same) }
+      record {
+        fits = subst (λ (k : ℕ). k ≤ length bs) same (t .fits);
+        kept =
+            keeps (lineEnd r (b ∷ bs)) refl (s .0)
+            ∙ ap (λ (l : List ℕ). b ∷ l) (t .kept ∙ ap (λ (k : ℕ). take k bs ++ eolsFrom r 0 (drop k bs)) same);
+      }
     where
       keeps : (v : ℕ) → lineEnd r (b ∷ bs) ≡ v → passes test (charFrom between 0 (b ∷ bs)) ≡ true → eolsFrom r 0 (b ∷ bs) ≡ b ∷ eolsFrom r 0 bs
       keeps zero f g = eols-kept r b bs f

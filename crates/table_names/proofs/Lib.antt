@@ -3,3 +3,4 @@ pub mod TailBits
 pub mod CharWidths
 pub mod NamesPast
 pub mod WideNames
+pub mod Spelled

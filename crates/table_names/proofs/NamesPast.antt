@@ -25,7 +25,7 @@ char-past = record { lf = refl; cr = refl; next-line = refl; line-separator = re
 
 -- ---- how name characters go on
 
-chars-skip : (w : ℕ) (bs : List ℕ) → w ≤ length bs → nameChars w bs ≡ w + nameChars 0 (drop w bs)
+pub chars-skip : (w : ℕ) (bs : List ℕ) → w ≤ length bs → nameChars w bs ≡ w + nameChars 0 (drop w bs)
 chars-skip zero bs h = omega arith
 chars-skip (suc w) [] h = absurd (omega arith)
 chars-skip (suc w) (b ∷ bs) h = unfolded ∙ ap suc (chars-skip w bs (omega arith)) ∙ omega arith
@@ -40,27 +40,27 @@ chars-front (b ∷ front) rest = unfolded ∙ ap suc (chars-front front rest) �
     unfolded : nameChars (suc (length front)) (b ∷ (front ++ rest)) ≡ suc (nameChars (length front) (front ++ rest))
     unfolded = unfold nameChars in refl
 
-chars-none : (b : ℕ) (bs : List ℕ) → charWidth isNameChar (b ∷ bs) ≡ 0 → nameChars 0 (b ∷ bs) ≡ 0
+pub chars-none : (b : ℕ) (bs : List ℕ) → charWidth isNameChar (b ∷ bs) ≡ 0 → nameChars 0 (b ∷ bs) ≡ 0
 unfolding nameChars
 chars-none b bs e = rw (e, nameChars)
 
-chars-some : (b w : ℕ) (bs : List ℕ) → charWidth isNameChar (b ∷ bs) ≡ suc w → nameChars 0 (b ∷ bs) ≡ suc (nameChars w bs)
+pub chars-some : (b w : ℕ) (bs : List ℕ) → charWidth isNameChar (b ∷ bs) ≡ suc w → nameChars 0 (b ∷ bs) ≡ suc (nameChars w bs)
 unfolding nameChars
 chars-some b w bs e = rw (e, nameChars)
 
-chars-nothing : nameChars 0 [] ≡ 0
+pub chars-nothing : nameChars 0 [] ≡ 0
 unfolding nameChars
 chars-nothing = refl
 
-length-none : (b : ℕ) (bs : List ℕ) → charWidth isNameStart (b ∷ bs) ≡ 0 → nameLength (b ∷ bs) ≡ 0
+pub length-none : (b : ℕ) (bs : List ℕ) → charWidth isNameStart (b ∷ bs) ≡ 0 → nameLength (b ∷ bs) ≡ 0
 unfolding nameLength
 length-none b bs e = rw (e, nameLength)
 
-length-some : (b w : ℕ) (bs : List ℕ) → charWidth isNameStart (b ∷ bs) ≡ suc w → nameLength (b ∷ bs) ≡ suc (nameChars w bs)
+pub length-some : (b w : ℕ) (bs : List ℕ) → charWidth isNameStart (b ∷ bs) ≡ suc w → nameLength (b ∷ bs) ≡ suc (nameChars w bs)
 unfolding nameLength
 length-some b w bs e = rw (e, nameLength)
 
-length-nothing : nameLength [] ≡ 0
+pub length-nothing : nameLength [] ≡ 0
 unfolding nameLength
 length-nothing = refl
 

@@ -101,7 +101,8 @@ module _ (b : ℕ) (bs : List ℕ) where
 
   line-bytes : (newer : Bool) (w : ℕ) → suc w ≡ lineEnd (ruleFor newer) (b ∷ bs) → LineBytes w b bs
   line-bytes newer w e =
-      go newer e (eqb b 13) refl (eqb b 10) refl (eqb b 0xC2) refl (eqb b 0xE2) refl (begins (10 ∷ []) bs) refl (begins (0xC2 ∷ 0x85 ∷ []) bs) refl (begins (0x85 ∷ []) bs) refl (begins (0x80 ∷ 0xA8 ∷ []) bs) refl
+      go newer e (eqb b 13) refl (eqb b 10) refl (eqb b 0xC2) refl (eqb b 0xE2) refl (begins (10 ∷ []) bs) refl (begins (0xC2 ∷ 0x85 ∷ []) bs) refl
+      (begins (0x85 ∷ []) bs) refl (begins (0x80 ∷ 0xA8 ∷ []) bs) refl
     where
       never : {X : Type 0} {v : ℕ} → suc w ≡ v → v ≡ 0 → X
       never p q = absurd (omega arith)
@@ -110,7 +111,8 @@ module _ (b : ℕ) (bs : List ℕ) where
       far-10 ds = (λ g k. omega arith, tt)
 
       go : (v : Bool) → suc w ≡ lineEnd (ruleFor v) (b ∷ bs) → (a : Bool) → eqb b 13 ≡ a → (c : Bool) → eqb b 10 ≡ c → (d : Bool) → eqb b 0xC2 ≡ d → (f : Bool) → eqb b 0xE2 ≡ f
-          → (x : Bool) → begins (10 ∷ []) bs ≡ x → (y : Bool) → begins (0xC2 ∷ 0x85 ∷ []) bs ≡ y → (z : Bool) → begins (0x85 ∷ []) bs ≡ z → (u : Bool) → begins (0x80 ∷ 0xA8 ∷ []) bs ≡ u → LineBytes w b bs
+          → (x : Bool) → begins (10 ∷ []) bs ≡ x → (y : Bool) → begins (0xC2 ∷ 0x85 ∷ []) bs ≡ y → (z : Bool) → begins (0x85 ∷ []) bs ≡ z → (u : Bool)
+          → begins (0x80 ∷ 0xA8 ∷ []) bs ≡ u → LineBytes w b bs
       go v e true ea c ec d ed f ef true ex y ey z ez u eu =
           let q = eqb-true b 13 ea in bytes-of e q odd-13 (begun-one 10 bs ex) 1 (cr-lf b bs v q ex) (far-10 (drop 1 bs))
       go false e true ea c ec d ed f ef false ex y ey z ez u eu = let q = eqb-true b 13 ea in bytes-of e q odd-13 {cs = bs} refl 0 (cr-alone10 b bs q ex) tt
@@ -123,7 +125,8 @@ module _ (b : ℕ) (bs : List ℕ) where
           let q = eqb-true b 0xC2 ed in bytes-of e q odd-c2 (begun-one 0x85 bs ez) 1 (nel b bs (eqb-false b 13 ea) (eqb-false b 10 ec) q ez) (λ g k. absurd (omega arith), tt)
       go true e false ea false ec true ed f ef x ex y ey false ez u eu = never e (not-nel b bs (eqb-false b 13 ea) (eqb-false b 10 ec) (eqb-true b 0xC2 ed) ez)
       go true e false ea false ec false ed true ef x ex y ey z ez true eu =
-          let q = eqb-true b 0xE2 ef in bytes-of e q odd-e2 (begun-two 0x80 0xA8 bs eu) 2 (ls b bs (eqb-false b 13 ea) (eqb-false b 10 ec) q eu) (λ g k. absurd (omega arith), (λ g k. absurd (omega arith), tt))
+          let q = eqb-true b 0xE2 ef in
+          bytes-of e q odd-e2 (begun-two 0x80 0xA8 bs eu) 2 (ls b bs (eqb-false b 13 ea) (eqb-false b 10 ec) q eu) (λ g k. absurd (omega arith), (λ g k. absurd (omega arith), tt))
       go true e false ea false ec false ed true ef x ex y ey z ez false eu = never e (not-ls b bs (eqb-false b 13 ea) (eqb-false b 10 ec) (eqb-true b 0xE2 ef) eu)
       go true e false ea false ec false ed false ef x ex y ey z ez u eu = never e (none11 b bs (eqb-false b 13 ea) (eqb-false b 10 ec) (eqb-false b 0xC2 ed) (eqb-false b 0xE2 ef))
 
@@ -141,7 +144,8 @@ alike-more raw past xs ys (settled g) f =
 
 alike-odd : (raw past : List ℕ) (a h : ℕ) (xs ys : List ℕ) → Alike raw past → Odd a → Odd h → Alike (raw ++ a ∷ xs) (past ++ h ∷ ys)
 alike-odd raw past a h xs ys (same e) p q =
-    settled (λ us vs. ap (charNumber anyCharacter) (append-assoc raw (a ∷ xs) us ∙ ap (λ (l : List ℕ). l ++ a ∷ (xs ++ us)) e) ∙ number-settled a h p q (xs ++ us) (ys ++ vs) past ∙ ap (charNumber anyCharacter) (sym (append-assoc past (h ∷ ys) vs)))
+    settled (λ us vs. ap (charNumber anyCharacter) (append-assoc raw (a ∷ xs) us ∙ ap (λ (l : List ℕ). l ++ a ∷ (xs ++ us)) e) ∙ number-settled a h p
+    q (xs ++ us) (ys ++ vs) past ∙ ap (charNumber anyCharacter) (sym (append-assoc past (h ∷ ys) vs)))
 alike-odd raw past a h xs ys (settled g) p q =
     settled (λ us vs. ap (charNumber anyCharacter) (append-assoc raw (a ∷ xs) us) ∙ g (a ∷ (xs ++ us)) (h ∷ (ys ++ vs)) ∙ ap (charNumber anyCharacter) (sym (append-assoc past (h ∷ ys) vs)))
 
@@ -200,7 +204,8 @@ module _ (quote : ℕ) (newer : Bool) (t : List ℕ) (from end : ℕ) (ascii : Q
           let z : getD (drop (k + 1) t) m 0 ≡ getD t end 0 = getD-drop (k + 1) t m 0 ∙ ap (λ (j : ℕ). getD t j 0) q in
           absurd (far-at w (drop (k + 1) t) (b .far) m (omega arith) (omega (arith, length-drop (k + 1) t)) (omega (arith, z, a .0)) (omega (arith, z, a .1)))
 
-  reach-more : (k : ℕ) → k < end → Reaching quote newer t from k → (n : ℕ) → end - k ≤ suc n → ((j : ℕ) → Reaching quote newer t from j → j ≤ end → end - j ≤ n → Reaching quote newer t from end) → Reaching quote newer t from end
+  reach-more : (k : ℕ) → k < end → Reaching quote newer t from k → (n : ℕ) → end - k ≤ suc n
+      → ((j : ℕ) → Reaching quote newer t from j → j ≤ end → end - j ≤ n → Reaching quote newer t from end) → Reaching quote newer t from end
   reach-more k l x n f again = go (lineEnd (ruleFor newer) (drop k t)) refl
     where
       inside : k < length t
@@ -214,7 +219,9 @@ module _ (quote : ℕ) (newer : Bool) (t : List ℕ) (from end : ℕ) (ascii : Q
             past = x .past ++ getD t k 0 ∷ [];
             order = omega (arith, x .order);
             on = x .on ∙ ref-on quote (getD t k 0) (x .past) (left newer t k) (left newer t (k + 1)) (left-kept newer t k inside e) (s .0) (s .1);
-            alike = subst (λ (l : List ℕ). Alike l (x .past ++ getD t k 0 ∷ [])) (raw-more k 1 (x .order)) (alike-more (take (k - from) (drop from t)) (x .past) (take 1 (drop k t)) (getD t k 0 ∷ []) (x .alike) (ap (take 1) (at-head t k inside)));
+            alike =
+                subst (λ (l : List ℕ). Alike l (x .past ++ getD t k 0 ∷ [])) (raw-more k 1 (x .order))
+                (alike-more (take (k - from) (drop from t)) (x .past) (take 1 (drop k t)) (getD t k 0 ∷ []) (x .alike) (ap (take 1) (at-head t k inside)));
           })
           (omega arith) (omega arith)
       go (suc w) e =
@@ -224,7 +231,9 @@ module _ (quote : ℕ) (newer : Bool) (t : List ℕ) (from end : ℕ) (ascii : Q
           (record {
             past = x .past ++ 10 ∷ [];
             order = omega (arith, x .order);
-            on = x .on ∙ ref-on quote 10 (x .past) (left newer t k) (left newer t (k + suc w)) (left-ended newer t k (suc w) inside (λ q. absurd (omega arith)) e) (λ q. absurd (omega arith)) (λ q. absurd (omega (arith, ascii .0)));
+            on =
+                x .on ∙ ref-on quote 10 (x .past) (left newer t k) (left newer t (k + suc w))
+                (left-ended newer t k (suc w) inside (λ q. absurd (omega arith)) e) (λ q. absurd (omega arith)) (λ q. absurd (omega (arith, ascii .0)));
             alike =
                 subst (λ (l : List ℕ). Alike l (x .past ++ 10 ∷ [])) (ap (λ (l : List ℕ). take (k - from) (drop from t) ++ take (suc w) l) (sym (at-head t k inside)) ∙ raw-more k (suc w) (x .order))
                 (alike-odd (take (k - from) (drop from t)) (x .past) (getD t k 0) 10 (take w (drop (k + 1) t)) [] (x .alike) (b .odd) odd-10);

@@ -27,7 +27,7 @@ use Rattle.table_values.specs.declared.Step.{Step}
 use Rattle.table_values.specs.declared.Step.the-variants.{Next, Misplaced, Excessive, Refused as Wrong}
 use Rattle.table_values.proofs.LeftPlaces.{left-end, left-byte, left-ascii, left-kept, left-ended, ended-inside}
 use Rattle.table_values.proofs.Literals.{headed}
-use Rattle.table_grammar.proofs.ReferenceEnds.{Ends, tail-drop, reference-ends}
+use Rattle.table_grammar.proofs.ReferenceEnds.{Ends, tail-drop, reference-ends, value-skip}
 use Rattle.table_values.proofs.ValueStops.{value-lines}
 
 -- ---- steps that stop
@@ -57,12 +57,6 @@ put-same w out part h e =
     ∙ omega (arith, length-take-le w out h, e, ap length (rest-part w out), length-drop w out)
 
 -- ---- one byte of a value, and the step at a stop
-
-value-skip : (quote : ℕ) (v : List ℕ) (k : ℕ) (t : List ℕ) → valueFrom quote v k t ≡ valueFrom quote v 0 (drop k t)
-unfolding valueFrom
-value-skip quote v zero t = refl
-value-skip quote v (suc k) [] = refl
-value-skip quote v (suc k) (b ∷ bs) = value-skip quote v k bs
 
 value-over : (quote : ℕ) (v : List ℕ) → valueFrom quote v 0 [] ≡ departs []
 unfolding valueFrom
@@ -126,7 +120,8 @@ module _ (quote : ℕ) (newer : Bool) (t : List ℕ) where
       ap (valueFrom quote v 0) (left-byte newer t i h (value-lines quote newer (getD t i 0) e))
       ∙ value-plain quote (getD t i 0) v (left newer t (i + 1)) (s .0) (s .1) (s .2)
       ∙ value-run n (i + 1) (record { from = omega arith; to = omega arith; none = λ k g l. p .none k (omega arith) (omega arith) }) (v ++ getD t i 0 ∷ [])
-      ∙ ap (λ (l : List ℕ). valueFrom quote l 0 (left newer t (i + 1 + n))) (append-assoc v (getD t i 0 ∷ []) (take n (drop (i + 1) t)) ∙ ap (λ (l : List ℕ). v ++ take (suc n) l) (sym (at-head t i h)))
+      ∙ ap (λ (l : List ℕ). valueFrom quote l 0 (left newer t (i + 1 + n)))
+      (append-assoc v (getD t i 0 ∷ []) (take n (drop (i + 1) t)) ∙ ap (λ (l : List ℕ). v ++ take (suc n) l) (sym (at-head t i h)))
       ∙ ap (λ (k : ℕ). valueFrom quote (v ++ take (suc n) (drop i t)) 0 (left newer t k)) q
 
 -- ---- a reader of a value: what it has so far
@@ -223,12 +218,15 @@ module _ {quote : ℕ} {newer : Bool} {t : List ℕ} {from : ℕ} {old out : Lis
             }
 
         -- one that stops the reading
-        pub valuing-stopped : (step : Step) → Stops step → length part ≡ length (midOf w (length out - w) out) → Meets newer t e (valueStep quote (left newer t e)) (midOf w (length out - w) out) part step
+        pub valuing-stopped : (step : Step) → Stops step → length part ≡ length (midOf w (length out - w) out)
+            → Meets newer t e (valueStep quote (left newer t e)) (midOf w (length out - w) out) part step
             → Meets newer t from (valueFrom quote [] 0 (left newer t from)) old (putMid w (length out - w) out part) step
         valuing-stopped step stops same s =
             record {
               value = [];
-              is = x .on ∙ other-stop ∙ ap (λ (r : Read (List ℕ)). onward r (λ w rest. valueFrom quote (x .value ++ w) 0 rest)) (s .is) ∙ stops-on newer t (s .value) [] step stops (λ w rest. valueFrom quote (x .value ++ w) 0 rest);
+              is =
+                  x .on ∙ other-stop ∙ ap (λ (r : Read (List ℕ)). onward r (λ w rest. valueFrom quote (x .value ++ w) 0 rest)) (s .is) ∙ stops-on
+                  newer t (s .value) [] step stops (λ w rest. valueFrom quote (x .value ++ w) 0 rest);
               kept = stops-kept t e from (s .value) [] (midOf w (length out - w) out) part old (putMid w (length out - w) out part) step stops (s .kept) (put-length ∙ valuing-length x);
             }
           where

@@ -1,3 +1,4 @@
+-- `beyond` tells a `<`, which is 22, from any other character, which is 21 (`beyond-open`, `beyond-other`).
 use mathlib.Core.Path.{refl}
 use native.Mathlib.Omega.{arith}
 use Rattle.table_declarations.proofs.Definitions.{beyond-open, beyond-other}

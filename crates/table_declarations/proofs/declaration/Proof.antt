@@ -25,7 +25,10 @@ returns c =
     entity-unopened (s .args .newer) (s .args .text .now) (s .args .i) (s .args .out .now) (r .result) (stops-by (r .result) (c .match .keys2)) (r .ensures (s .args .out .now))
 
 name-step-requires : tie.Need-name-step-requires
-name-step-requires c κs = let s = c .before .before .before .before .before .before .before in (meets-told (c .before .before .start .given .1) (c .before .before .before .before .opening-step .ensures (s .args .out .now)) .kept .to, s .pre .1)
+name-step-requires c κs =
+    let after-opening-step = c .before .before .before .before in
+    let s = after-opening-step .before .before .before in
+    (meets-told (c .before .before .start .given .1) (after-opening-step .opening-step .ensures (s .args .out .now)) .kept .to, s .pre .1)
 
 enum-known-name : tie.Need-enum-known-name
 enum-known-name c = search needs
@@ -35,10 +38,15 @@ same-length c = search needs
 
 returns-2 : tie.Need-returns-2
 returns-2 c =
-    let s = c .before .before .before .before .before .before .before .before .before .before .before in
-    let r = c .before .before .before .name-step in
+    let after-name-step = c .before .before .before in
+    let after-start = after-name-step .before .before .before in
+    let after-opening-step = after-start .before .before in
+    let s = after-opening-step .before .before .before in
+    let r = after-name-step .name-step in
     let k = stops-by (r .result) (c .match2 .keys2) in
-    entity-unnamed (s .args .newer) (s .args .text .now) (s .args .i) (s .args .out .now) (meets-told (c .before .before .before .before .before .before .start .given .1) (c .before .before .before .before .before .before .before .before .opening-step .ensures (s .args .out .now))) (r .result) k (r .ensures) (stopped-length (r .result) k (r .ensures))
+    entity-unnamed (s .args .newer) (s .args .text .now) (s .args .i) (s .args .out .now)
+    (meets-told (after-start .start .given .1) (after-opening-step .opening-step .ensures (s .args .out .now))) (r .result) k (r .ensures)
+    (stopped-length (r .result) k (r .ensures))
 
 least-requires : tie.Need-least-requires
 least-requires c κs = search needs
@@ -53,7 +61,11 @@ part-definition-step-end : tie.Need-part-definition-step-end
 part-definition-step-end c = search needs
 
 definition-step-requires : tie.Need-definition-step-requires
-definition-step-requires c κs = let s = c .before .before .before .before .before .before .before .before .before .before .before .before .before .before .before in (meets-told (c .before .before .before .name .given .1) (c .before .before .before .before .before .before .before .name-step .ensures) .kept .to, s .pre .1)
+definition-step-requires c κs =
+    let after-name = c .before .before .before in
+    let after-name-step = after-name .before .before .before .before in
+    let s = after-name-step .before .before .before .before .before .before .before .before in
+    (meets-told (after-name .name .given .1) (after-name-step .name-step .ensures) .kept .to, s .pre .1)
 
 enum-known-value : tie.Need-enum-known-value
 enum-known-value c = search needs
@@ -63,20 +75,36 @@ same-length-2 c = search needs
 
 returns-3 : tie.Need-returns-3
 returns-3 c =
-    let s = c .before .before .before .before .before .before .before .before .before .before .before .before .before .before .before .before .before .before .before in
-    let r = c .before .before .before .definition-step in
+    let after-definition-step = c .before .before .before in
+    let after-least = after-definition-step .before .before in
+    let after-name = after-least .before .before in
+    let after-name-step = after-name .before .before .before .before in
+    let after-start = after-name-step .before .before .before in
+    let after-opening-step = after-start .before .before in
+    let s = after-opening-step .before .before .before in
+    let r = after-definition-step .definition-step in
     let k = stops-by (r .result) (c .match3 .keys2) in
-    entity-undefined (s .args .newer) (s .args .text .now) (s .args .i) (s .args .out .now) (meets-told (c .before .before .before .before .before .before .before .before .before .before .before .before .before .before .start .given .1) (c .before .before .before .before .before .before .before .before .before .before .before .before .before .before .before .before .opening-step .ensures (s .args .out .now)))
-    (meets-told (c .before .before .before .before .before .before .before .name .given .1) (c .before .before .before .before .before .before .before .before .before .before .before .name-step .ensures)) (c .before .before .before .before .before .least .ensures) (r .result) k (r .ensures) (stopped-length (r .result) k (r .ensures))
+    entity-undefined (s .args .newer) (s .args .text .now) (s .args .i) (s .args .out .now)
+    (meets-told (after-start .start .given .1) (after-opening-step .opening-step .ensures (s .args .out .now)))
+    (meets-told (after-name .name .given .1) (after-name-step .name-step .ensures)) (after-least .least .ensures) (r .result) k (r .ensures)
+    (stopped-length (r .result) k (r .ensures))
 
 same-length-3 : tie.Need-same-length-3
 same-length-3 c = search needs
 
 returns-4 : tie.Need-returns-4
 returns-4 c =
-    let s = c .before .before .before .before .before .before .before .before .before .before .before .before .before .before .before .before .before .before .before .before .before in
-    entity-declared (s .args .newer) (s .args .text .now) (s .args .i) (s .args .out .now) (meets-told (c .before .before .before .before .before .before .before .before .before .before .before .before .before .before .before .before .start .given .1) (c .before .before .before .before .before .before .before .before .before .before .before .before .before .before .before .before .before .before .opening-step .ensures (s .args .out .now)))
-    (meets-told (c .before .before .before .before .before .before .before .before .before .name .given .1) (c .before .before .before .before .before .before .before .before .before .before .before .before .before .name-step .ensures)) (c .before .before .before .before .before .before .before .least .ensures) (meets-told (c .before .value .given .1) (c .before .before .before .before .before .definition-step .ensures))
+    let after-definition-step = c .before .before .before .before .before in
+    let after-least = after-definition-step .before .before in
+    let after-name = after-least .before .before in
+    let after-name-step = after-name .before .before .before .before in
+    let after-start = after-name-step .before .before .before in
+    let after-opening-step = after-start .before .before in
+    let s = after-opening-step .before .before .before in
+    entity-declared (s .args .newer) (s .args .text .now) (s .args .i) (s .args .out .now)
+    (meets-told (after-start .start .given .1) (after-opening-step .opening-step .ensures (s .args .out .now)))
+    (meets-told (after-name .name .given .1) (after-name-step .name-step .ensures)) (after-least .least .ensures)
+    (meets-told (c .before .value .given .1) (after-definition-step .definition-step .ensures))
 
 pub declaration-spec : {M : Type 1} → statement M
 declaration-spec =

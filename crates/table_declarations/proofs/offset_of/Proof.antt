@@ -1,3 +1,4 @@
+-- `offset_of` takes what is left from the place on off the whole, both counted after line ends.
 use native.Mathlib.Omega.{arith}
 use Rattle.table_declarations.proofs.Offsets.{whole-counts, rest-counts}
 use borrow.Author.Needs.{needs}

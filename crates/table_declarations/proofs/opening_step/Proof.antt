@@ -30,19 +30,30 @@ space-end-requires c κs = search needs
 
 returns-2 : tie.Need-returns-2
 returns-2 c =
-    let l = c .before .before .before .literal-end .ensures in
+    let after-literal-end = c .before .before .before in
+    let start = after-literal-end .before .before .before in
+    let given = start .args in
+    let l = after-literal-end .literal-end .ensures in
     let p = c .before .space-end .ensures in
-    λ old. record { value = []; is = opening-space (c .before .before .before .before .before .before .args .newer) _ (c .before .before .before .before .before .before .args .text .now) _ _ (l .whole (omega (arith, l .most, c .before .before .if1 .left))) (p .none (c .if2 .taken)) (c .if2 .taken); kept = (p .to, refl) }
+    λ old. record {
+      value = [];
+      is = opening-space (given .newer) _ (given .text .now) _ _
+          (l .whole (omega (arith, l .most, c .before .before .if1 .left))) (p .none (c .if2 .taken)) (c .if2 .taken);
+      kept = (p .to, refl);
+    }
 
 returns-3 : tie.Need-returns-3
 returns-3 c =
-    let l = c .before .before .before .literal-end .ensures in
+    let after-if1 = c .before .before in
+    let after-literal-end = after-if1 .before in
+    let l = after-literal-end .literal-end .ensures in
     let p = c .before .space-end .ensures in
-    λ old.
-    record {
+    λ old. record {
       value = [];
-      is = opening-done _ _ _ (l .whole (omega (arith, l .most, c .before .before .if1 .left))) (p .some (omega (arith, p .from, c .if2 .left)));
-      kept = record { on = omega (arith, l .most, c .before .before .if1 .left, p .from); to = p .to; size = refl; small = omega (arith, c .before .before .if1 .left, p .from); holds = refl };
+      is = opening-done _ _ _ (l .whole (omega (arith, l .most, after-if1 .if1 .left)))
+          (p .some (omega (arith, p .from, c .if2 .left)));
+      kept = record
+          { on = omega (arith, l .most, after-if1 .if1 .left, p .from); to = p .to; size = refl; small = omega (arith, after-if1 .if1 .left, p .from); holds = refl };
     }
 
 pub opening-step-spec : {M : Type 1} → statement M

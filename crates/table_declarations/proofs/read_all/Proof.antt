@@ -95,30 +95,50 @@ put-command-requires c κs =
 
 add-used : tie.Need-add-used Inv-loop μ-loop
 add-used c =
-    let k = told (c .before .before .before .before .before .before .read .given .1) (c .before .before .before .before .before .before .before .before .before .before .declaration .ensures) .kept in
-    omega (arith, k .small, k .to, c .before .before .before .before .before .before .before .before .before .before .before .before .before .before .before .before .before .before .before .before .pre)
+    let after-read = c .before .before .before .before .before .before in
+    let after-declaration = after-read .before .before .before .before in
+    let start = after-declaration .before .before .before .before .before .before .before .before .before .before in
+    let k = told (after-read .read .given .1) (after-declaration .declaration .ensures) .kept in
+    omega (arith, k .small, k .to, start .pre)
 
 add-used-2 : tie.Need-add-used-2 Inv-loop μ-loop
 add-used-2 c =
-    let k = told (c .before .before .before .before .before .before .read .given .1) (c .before .before .before .before .before .before .before .before .before .before .declaration .ensures) .kept in
-    let g = c .before .before .before .before .before .before .before .before .before .before .before .before .before .before .before .loop .inv in
-    omega (arith, k .small, k .to, g .small, c .before .before .before .before .before .before .before .before .before .before .before .before .before .before .before .before .before .before .before .before .pre)
+    let after-read = c .before .before .before .before .before .before in
+    let after-declaration = after-read .before .before .before .before in
+    let turn = after-declaration .before .before .before .before .before in
+    let start = turn .before .before .before .before .before in
+    let k = told (after-read .read .given .1) (after-declaration .declaration .ensures) .kept in
+    let g = turn .loop .inv in
+    omega (arith, k .small, k .to, g .small, start .pre)
 
 add-count : tie.Need-add-count Inv-loop μ-loop
 add-count c = omega (arith, c .before .before .before .before .before .before .before .before .before .before .before .before .before .before .before .loop .inv .spare)
 
 space-end-requires-2 : tie.Need-space-end-requires-2 Inv-loop μ-loop
-space-end-requires-2 c κs = told (c .before .before .before .before .before .before .read .given .1) (c .before .before .before .before .before .before .before .before .before .before .declaration .ensures) .kept .to
+space-end-requires-2 c κs =
+    let after-read = c .before .before .before .before .before .before in
+    let after-declaration = after-read .before .before .before .before in
+    told (after-read .read .given .1) (after-declaration .declaration .ensures) .kept .to
 
 loop-less : tie.Need-loop-less Inv-loop μ-loop
 loop-less c =
-    let k = told (c .before .before .before .before .before .before .before .read .given .1) (c .before .before .before .before .before .before .before .before .before .before .before .declaration .ensures) .kept in
+    let after-read = c .before .before .before .before .before .before .before in
+    let after-declaration = after-read .before .before .before .before in
+    let k = told (after-read .read .given .1) (after-declaration .declaration .ensures) .kept in
     omega (arith, k .on, c .space-end2 .ensures .from, c .space-end2 .ensures .to)
 
 loop-again : tie.Need-loop-again Inv-loop μ-loop
 loop-again c =
-    gathered-more (c .before .before .before .before .before .before .before .before .before .before .before .before .before .before .before .before .loop .inv) (c .before .before .before .before .before .before .before .before .before .before .before .before .before .before .before .loop-test .taken) (c .before .before .before .before .before .before .before .before .before .before .before .before .before .before .if1 .left) (c .before .before .before .before .before .before .before .before .before .before .before .before .before .least .ensures) (told (c .before .before .before .before .before .before .before .read .given .1) (c .before .before .before .before .before .before .before .before .before .before .before .declaration .ensures))
-    (c .before .before .before .before .before .least2 .ensures) (c .before .before .before .put-command .ensures) (c .space-end2 .ensures)
+    let after-put-command = c .before .before .before in
+    let after-least2 = after-put-command .before .before in
+    let after-read = after-least2 .before .before in
+    let after-declaration = after-read .before .before .before .before in
+    let after-least = after-declaration .before .before in
+    let after-if1 = after-least .before in
+    let after-loop-test = after-if1 .before in
+    let turn = after-loop-test .before in
+    gathered-more (turn .loop .inv) (after-loop-test .loop-test .taken) (after-if1 .if1 .left) (after-least .least .ensures)
+    (told (after-read .read .given .1) (after-declaration .declaration .ensures)) (after-least2 .least2 .ensures) (after-put-command .put-command .ensures) (c .space-end2 .ensures)
 
 enum-known-read-2 : tie.Need-enum-known-read-2 Inv-loop μ-loop
 enum-known-read-2 c = search needs
@@ -127,11 +147,22 @@ same-length-3 : tie.Need-same-length-3 Inv-loop μ-loop
 same-length-3 c = gathered-list (c .before .before .before .before .before .before .before .before .before .before .loop .inv)
 
 same-length-4 : tie.Need-same-length-4 Inv-loop μ-loop
-same-length-4 c = put-same (c .before .before .before .before .before .before .before .least .result) (c .before .before .before .before .before .before .before .before .before .before .loop .pool) (c .before .before .before .before .before .declaration .last .1 .1 .1 .0) (omega (arith, c .before .before .before .before .before .before .before .least .ensures)) (c .before .before .before .before .before .declaration .kept .1 .1 .1 .0) ∙ gathered-pool (c .before .before .before .before .before .before .before .before .before .before .loop .inv)
+same-length-4 c =
+    let at-least = c .before .before .before .before .before .before .before .least in
+    let kept-2 = c .before .before .before .before .before .before .before .before .before .before .loop in
+    let at-declaration = c .before .before .before .before .before .declaration in
+    put-same (at-least .result) (kept-2 .pool) (at-declaration .last .1 .1 .1 .0) (omega (arith, at-least .ensures)) (at-declaration .kept .1 .1 .1 .0) ∙ gathered-pool (kept-2 .inv)
 
 returns-2 : tie.Need-returns-2 Inv-loop μ-loop
 returns-2 c =
-    gathered-stopped (c .before .before .before .before .before .before .before .before .before .before .loop .inv) (c .before .before .before .before .before .before .before .before .before .loop-test .taken) (c .before .before .before .before .before .before .before .before .if1 .left) (c .before .before .before .before .before .before .before .least .ensures) (told (c .before .read2 .given .1) (c .before .before .before .before .before .declaration .ensures)) (c .before .before .before .before .before .declaration .kept .1 .1 .1 .0)
+    let after-declaration = c .before .before .before .before .before in
+    let after-least = after-declaration .before .before in
+    let after-if1 = after-least .before in
+    let after-loop-test = after-if1 .before in
+    let turn = after-loop-test .before in
+    let at-declaration = after-declaration .declaration in
+    gathered-stopped (turn .loop .inv) (after-loop-test .loop-test .taken) (after-if1 .if1 .left) (after-least .least .ensures)
+    (told (c .before .read2 .given .1) (at-declaration .ensures)) (at-declaration .kept .1 .1 .1 .0)
 
 same-length-5 : tie.Need-same-length-5 Inv-loop μ-loop
 same-length-5 c = gathered-list (c .before .loop .inv)

@@ -47,16 +47,26 @@ same-length-2 c = search needs
 
 returns : tie.Need-returns
 returns c =
-    let s = c .before .before .before .before .before .before .before .before .before .before .before .before .before .before in
-    let p = nothing-before (c .before .before .before .before .before .before .before .before .read-all .last .1 .1 .0) (s .args .list .now) (c .before .before .before .before .before .before .before .before .read-all .kept .1 .1 .0) in
-    let q = nothing-before (c .before .before .before .before .before .before .before .before .read-all .last .1 .1 .1 .0) (s .args .pool .now) (c .before .before .before .before .before .before .before .before .read-all .kept .1 .1 .1 .0) in
-    answer-short _ _ (s .args .text .now) (version-rule (s .args .version) _ refl) (all-told (c .before .before .counted .given .1) (c .before .before .before .before .before .before .before .before .read-all .ensures)) (c .before .before .before .before .before .before .before .before .read-all .last .1 .1 .0 ++ s .args .list .now) (c .before .before .before .before .before .before .before .before .read-all .last .1 .1 .1 .0 ++ s .args .pool .now) (c .if1 .taken)
-    ∙ ap₂ (readDeclarations (ruleOf (s .args .version)) (s .args .text .now)) p q
+    let after-read-all = c .before .before .before .before .before .before .before .before in
+    let s = after-read-all .before .before .before .before .before .before in
+    let at-read-all = after-read-all .read-all in
+    let p = nothing-before (at-read-all .last .1 .1 .0) (s .args .list .now) (at-read-all .kept .1 .1 .0) in
+    let q = nothing-before (at-read-all .last .1 .1 .1 .0) (s .args .pool .now) (at-read-all .kept .1 .1 .1 .0) in
+    answer-short _ _ (s .args .text .now) (version-rule (s .args .version) _ refl)
+    (all-told (c .before .before .counted .given .1) (at-read-all .ensures)) (at-read-all .last .1 .1 .0 ++ s .args .list .now)
+    (at-read-all .last .1 .1 .1 .0 ++ s .args .pool .now) (c .if1 .taken) ∙ ap₂ (readDeclarations (ruleOf (s .args .version)) (s .args .text .now)) p q
 
 write-all-requires : tie.Need-write-all-requires
 write-all-requires c κs =
-    let s = c .before .before .before .before .before .before .before .before .before .before .before .before .before .before .before .before in
-    (s .pre, answer-ready _ _ (s .args .text .now) (version-rule (s .args .version) _ refl) (all-told (c .before .before .before .before .counted .given .1) (c .before .before .before .before .before .before .before .before .before .before .read-all .ensures)) (c .before .before .before .before .before .before .before .before .before .before .read-all .last .1 .1 .0 ++ s .args .list .now) (c .before .before .before .before .before .before .before .before .before .before .read-all .last .1 .1 .1 .0 ++ s .args .pool .now) (c .before .before .if1 .left))
+    let after-counted = c .before .before .before .before in
+    let after-read-all = after-counted .before .before .before .before .before .before in
+    let s = after-read-all .before .before .before .before .before .before in
+    let at-read-all = after-read-all .read-all in (
+      s .pre,
+      answer-ready _ _ (s .args .text .now) (version-rule (s .args .version) _ refl)
+          (all-told (after-counted .counted .given .1) (at-read-all .ensures)) (at-read-all .last .1 .1 .0 ++ s .args .list .now)
+          (at-read-all .last .1 .1 .1 .0 ++ s .args .pool .now) (c .before .before .if1 .left),
+    )
 
 enum-known-counted-2 : tie.Need-enum-known-counted-2
 enum-known-counted-2 c = search needs
@@ -72,11 +82,17 @@ same-length-4 c = search needs
 
 returns-2 : tie.Need-returns-2
 returns-2 c =
-    let s = c .before .before .before .before .before .before .before .before .before .before .before .before .before .before .before .before .before .before .before .before .before in
-    let p = nothing-before (c .before .before .before .before .before .before .before .before .before .before .before .before .before .before .before .read-all .last .1 .1 .0) (s .args .list .now) (c .before .before .before .before .before .before .before .before .before .before .before .before .before .before .before .read-all .kept .1 .1 .0) in
-    let q = nothing-before (c .before .before .before .before .before .before .before .before .before .before .before .before .before .before .before .read-all .last .1 .1 .1 .0) (s .args .pool .now) (c .before .before .before .before .before .before .before .before .before .before .before .before .before .before .before .read-all .kept .1 .1 .1 .0) in
-    answer-done _ _ (s .args .text .now) (version-rule (s .args .version) _ refl) (all-told (c .before .before .before .before .before .before .before .before .before .counted .given .1) (c .before .before .before .before .before .before .before .before .before .before .before .before .before .before .before .read-all .ensures)) (c .before .before .before .before .before .before .before .before .before .before .before .before .before .before .before .read-all .last .1 .1 .0 ++ s .args .list .now) (c .before .before .before .before .before .before .before .before .before .before .before .before .before .before .before .read-all .last .1 .1 .1 .0 ++ s .args .pool .now) (c .before .before .before .before .before .before .before .if1 .left) (c .before .before .before .before .write-all .ensures)
-    ∙ ap₂ (readDeclarations (ruleOf (s .args .version)) (s .args .text .now)) p q
+    let after-write-all = c .before .before .before .before in
+    let after-if1 = after-write-all .before .before .before in
+    let after-counted = after-if1 .before .before in
+    let after-read-all = after-counted .before .before .before .before .before .before in
+    let s = after-read-all .before .before .before .before .before .before in
+    let at-read-all = after-read-all .read-all in
+    let p = nothing-before (at-read-all .last .1 .1 .0) (s .args .list .now) (at-read-all .kept .1 .1 .0) in
+    let q = nothing-before (at-read-all .last .1 .1 .1 .0) (s .args .pool .now) (at-read-all .kept .1 .1 .1 .0) in
+    answer-done _ _ (s .args .text .now) (version-rule (s .args .version) _ refl) (all-told (after-counted .counted .given .1) (at-read-all .ensures))
+    (at-read-all .last .1 .1 .0 ++ s .args .list .now) (at-read-all .last .1 .1 .1 .0 ++ s .args .pool .now) (after-if1 .if1 .left)
+    (after-write-all .write-all .ensures) ∙ ap₂ (readDeclarations (ruleOf (s .args .version)) (s .args .text .now)) p q
 
 same-length-5 : tie.Need-same-length-5
 same-length-5 c = search needs
@@ -86,11 +102,14 @@ same-length-6 c = search needs
 
 returns-3 : tie.Need-returns-3
 returns-3 c =
-    let s = c .before .before .before .before .before .before .before .before .before .before .before .before .before .before in
-    let p = nothing-before (c .before .before .before .before .before .before .before .before .read-all .last .1 .1 .0) (s .args .list .now) (c .before .before .before .before .before .before .before .before .read-all .kept .1 .1 .0) in
-    let q = nothing-before (c .before .before .before .before .before .before .before .before .read-all .last .1 .1 .1 .0) (s .args .pool .now) (c .before .before .before .before .before .before .before .before .read-all .kept .1 .1 .1 .0) in
-    answer-broken _ _ (s .args .text .now) (version-rule (s .args .version) _ refl) _ (c .step-answer .result) (all-told (c .before .before .counted2 .given .1) (c .before .before .before .before .before .before .before .before .read-all .ensures)) (c .before .before .before .before .before .before .before .before .read-all .last .1 .1 .0 ++ s .args .list .now) (c .before .before .before .before .before .before .before .before .read-all .last .1 .1 .1 .0 ++ s .args .pool .now) (c .step-answer .ensures)
-    ∙ ap₂ (readDeclarations (ruleOf (s .args .version)) (s .args .text .now)) p q
+    let after-read-all = c .before .before .before .before .before .before .before .before in
+    let s = after-read-all .before .before .before .before .before .before in
+    let at-read-all = after-read-all .read-all in
+    let p = nothing-before (at-read-all .last .1 .1 .0) (s .args .list .now) (at-read-all .kept .1 .1 .0) in
+    let q = nothing-before (at-read-all .last .1 .1 .1 .0) (s .args .pool .now) (at-read-all .kept .1 .1 .1 .0) in
+    answer-broken _ _ (s .args .text .now) (version-rule (s .args .version) _ refl) _ (c .step-answer .result)
+    (all-told (c .before .before .counted2 .given .1) (at-read-all .ensures)) (at-read-all .last .1 .1 .0 ++ s .args .list .now)
+    (at-read-all .last .1 .1 .1 .0 ++ s .args .pool .now) (c .step-answer .ensures) ∙ ap₂ (readDeclarations (ruleOf (s .args .version)) (s .args .text .now)) p q
 
 pub read-declarations-spec : {M : Type 1} → statement M
 read-declarations-spec =

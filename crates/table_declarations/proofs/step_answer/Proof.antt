@@ -1,3 +1,4 @@
+-- `step_answer` answers each kind of step as the definition does (`answer-next`, `answer-misplaced`, `answer-excessive`, and a number's refusal).
 use mathlib.Core.Path.{_≡_, subst}
 use mathlib.Core.List.{List}
 use Prim.Native.Nat.{ℕ}
@@ -36,13 +37,19 @@ enum-known-step-4 : tie.Need-enum-known-step-4
 enum-known-step-4 c = search needs
 
 returns : tie.Need-returns
-returns c = let s = c .before .before .before .before .before in λ list pool. answer-next (s .args .newer) (s .args .text .now) list pool (s .args .step) _ (c .before .before .step .given .1) (c .refused .ensures)
+returns c =
+    let s = c .before .before .before .before .before in
+    λ list pool. answer-next (s .args .newer) (s .args .text .now) list pool (s .args .step) _ (c .before .before .step .given .1) (c .refused .ensures)
 
 returns-2 : tie.Need-returns-2
-returns-2 c = let s = c .before .before .before .before .before in λ list pool. answer-misplaced (s .args .newer) (s .args .text .now) list pool (s .args .step) _ (c .before .before .step2 .given .1) (c .refused2 .ensures)
+returns-2 c =
+    let s = c .before .before .before .before .before in
+    λ list pool. answer-misplaced (s .args .newer) (s .args .text .now) list pool (s .args .step) _ (c .before .before .step2 .given .1) (c .refused2 .ensures)
 
 returns-3 : tie.Need-returns-3
-returns-3 c = let s = c .before .before .before .before .before in λ list pool. answer-excessive (s .args .newer) (s .args .text .now) list pool (s .args .step) _ (c .before .before .step3 .given .1) (c .refused3 .ensures)
+returns-3 c =
+    let s = c .before .before .before .before .before in
+    λ list pool. answer-excessive (s .args .newer) (s .args .text .now) list pool (s .args .step) _ (c .before .before .step3 .given .1) (c .refused3 .ensures)
 
 returns-4 : tie.Need-returns-4
 returns-4 c = let s = c .before .before .before .before in λ list pool. answer-refused (s .args .newer) (s .args .text .now) list pool (s .args .step) (c .before .step4 .given .1)

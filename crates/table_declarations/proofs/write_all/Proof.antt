@@ -33,8 +33,12 @@ read-all-requires c κs = search needs
 
 slice-write-list : tie.Need-slice-write-list
 slice-write-list c =
-    let k = c .before .before .before .before .before .before .before .before .before .before .pre .1 in
-    put-inside (c .before .before .before .before .before .before .before .before .before .before .args .list .now) (c .before .before .before .before .read-all .last .1 .1 .0) (omega (arith, k .length-is, k .list-fits, list-length (k .found))) (c .before .before .before .before .read-all .kept .1 .1 .0) (omega (arith, k .length-is, k .list-fits, list-length (k .found)))
+    let after-read-all = c .before .before .before .before in
+    let start = after-read-all .before .before .before .before .before .before in
+    let at-read-all = after-read-all .read-all in
+    let k = start .pre .1 in
+    put-inside (start .args .list .now) (at-read-all .last .1 .1 .0) (omega (arith, k .length-is, k .list-fits, list-length (k .found)))
+    (at-read-all .kept .1 .1 .0) (omega (arith, k .length-is, k .list-fits, list-length (k .found)))
 
 sub-list : tie.Need-sub-list
 sub-list c =
@@ -43,8 +47,12 @@ sub-list c =
 
 slice-write-list-2 : tie.Need-slice-write-list-2
 slice-write-list-2 c =
-    let k = c .before .before .before .before .before .before .before .before .before .before .pre .1 in
-    set-inside (c .before .before .before .before .before .before .before .before .before .before .args .list .now) (c .before .before .before .before .read-all .last .1 .1 .0) 3 (omega (arith, k .length-is, k .list-fits, list-length (k .found))) (c .before .before .before .before .read-all .kept .1 .1 .0) (omega (arith, k .length-is, k .list-fits, list-length (k .found)))
+    let after-read-all = c .before .before .before .before in
+    let start = after-read-all .before .before .before .before .before .before in
+    let at-read-all = after-read-all .read-all in
+    let k = start .pre .1 in
+    set-inside (start .args .list .now) (at-read-all .last .1 .1 .0) 3 (omega (arith, k .length-is, k .list-fits, list-length (k .found)))
+    (at-read-all .kept .1 .1 .0) (omega (arith, k .length-is, k .list-fits, list-length (k .found)))
 
 same-length : tie.Need-same-length
 same-length c = search needs
@@ -54,13 +62,14 @@ same-length-2 c = search needs
 
 returns : tie.Need-returns
 returns c =
+    let at-read-all = c .before .before .before .before .read-all in
     let k = c .before .before .before .before .before .before .before .before .before .before .pre .1 in
     let s = c .before .before .before .before .before .before .before .before .before .before in
     λ es e.
-    let w = written-again es e (c .before .before .before .before .read-all .ensures) in
+    let w = written-again es e (at-read-all .ensures) in
     let same : k .found ≡ es = found-same (sym (k .is) ∙ e) in (
-      list-whole es (s .args .list .now) (c .before .before .before .before .read-all .last .1 .1 .0) (s .args .size) (k .length-is ∙ ap (λ (l : List Entity). length (listOf l)) same) (k .list-fits) (w .0),
-      pool-whole es (s .args .pool .now) (c .before .before .before .before .read-all .last .1 .1 .1 .0) (subst (λ (l : List Entity). length (poolOf l) ≤ length (s .args .pool .now)) same (k .pool-fits)) (w .1),
+      list-whole es (s .args .list .now) (at-read-all .last .1 .1 .0) (s .args .size) (k .length-is ∙ ap (λ (l : List Entity). length (listOf l)) same) (k .list-fits) (w .0),
+      pool-whole es (s .args .pool .now) (at-read-all .last .1 .1 .1 .0) (subst (λ (l : List Entity). length (poolOf l) ≤ length (s .args .pool .now)) same (k .pool-fits)) (w .1),
     )
 
 pub write-all-spec : {M : Type 1} → statement M

@@ -1,3 +1,4 @@
+-- `is_name` asks for the test that is wanted.
 use mathlib.Core.Path.{sym, ap, _∙_}
 use mathlib.Core.Bool.{Bool}
 use Rattle.text.specs.Bytes.{pick}

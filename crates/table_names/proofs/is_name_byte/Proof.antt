@@ -1,3 +1,4 @@
+-- `is_name_byte`: below U+0080 the ranges above have no say (`char-ascii`).
 use mathlib.Core.Path.{ap, _∙_}
 use mathlib.Core.Bool.{Bool, _||_}
 use lib.Dec.{eqb}

@@ -1,3 +1,4 @@
+-- `is_name_start_byte`: below U+0080 the ranges above have no say (`start-ascii`).
 use Rattle.table_names.proofs.AsciiNames.{start-ascii}
 use Rattle.table_names.proofs.is_name_start_byte.Statement.{statement}
 use Rattle.table_names.proofs.is_name_start_byte.Tie as tie

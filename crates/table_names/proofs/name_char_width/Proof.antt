@@ -18,7 +18,9 @@ shared-slice-read-b c = search needs
 returns : tie.Need-returns
 returns c =
     let s = c .before .before .before in
-    sym (width-ascii isNameChar (s .args .text .now) (s .args .i) (s .pre) (omega (arith, within-top 0x61 0x7A (getD (s .args .text .now) (s .args .i) 0) (c .if1 .taken))) ∙ ap (λ (x : Bool). pick x 1 0) (letter-char (getD (s .args .text .now) (s .args .i) 0) (c .if1 .taken)))
+    sym (width-ascii isNameChar (s .args .text .now) (s .args .i) (s .pre)
+    (omega (arith, within-top 0x61 0x7A (getD (s .args .text .now) (s .args .i) 0) (c .if1 .taken))) ∙ ap (λ (x : Bool). pick x 1 0)
+    (letter-char (getD (s .args .text .now) (s .args .i) 0) (c .if1 .taken)))
 
 is-name-byte-requires : tie.Need-is-name-byte-requires
 is-name-byte-requires c κs = search needs
@@ -26,12 +28,14 @@ is-name-byte-requires c κs = search needs
 returns-2 : tie.Need-returns-2
 returns-2 c =
     let s = c .before .before .before .before .before .before in
-    sym (width-ascii isNameChar (s .args .text .now) (s .args .i) (s .pre) (c .before .before .if2 .taken) ∙ ap (λ (x : Bool). pick x 1 0) (sym (c .before .is-name-byte .ensures) ∙ c .if3 .taken))
+    sym (width-ascii isNameChar (s .args .text .now) (s .args .i) (s .pre) (c .before .before .if2 .taken) ∙ ap (λ (x : Bool). pick x 1 0)
+    (sym (c .before .is-name-byte .ensures) ∙ c .if3 .taken))
 
 returns-3 : tie.Need-returns-3
 returns-3 c =
     let s = c .before .before .before .before .before .before in
-    sym (width-ascii isNameChar (s .args .text .now) (s .args .i) (s .pre) (c .before .before .if2 .taken) ∙ ap (λ (x : Bool). pick x 1 0) (sym (c .before .is-name-byte .ensures) ∙ c .if3 .left))
+    sym (width-ascii isNameChar (s .args .text .now) (s .args .i) (s .pre) (c .before .before .if2 .taken) ∙ ap (λ (x : Bool). pick x 1 0)
+    (sym (c .before .is-name-byte .ensures) ∙ c .if3 .left))
 
 wide-width-requires : tie.Need-wide-width-requires
 wide-width-requires c κs = search needs

@@ -26,11 +26,28 @@ name-char-width-requires c κs = c .loop-test .taken
 
 returns : tie.Need-returns Inv-loop μ-loop
 returns c =
-    let k = c .before .before .before .loop in
-    (k .inv .0, omega (arith, k .inv .1, chars-stop xml10 (c .before .before .before .before .before .args .text .now) (k .i) (c .before .before .loop-test .taken) (c .before .name-char-width .ensures) (c .if1 .taken)))
+    let turn = c .before .before .before in
+    let start = turn .before .before in
+    let k = turn .loop in (
+      k .inv .0,
+      omega (
+        arith,
+        k .inv .1,
+        chars-stop xml10 (start .args .text .now) (k .i) (c .before .before .loop-test .taken)
+            (c .before .name-char-width .ensures) (c .if1 .taken),
+      ),
+    )
 
-on : (c : tie.Else1 Inv-loop μ-loop) → On xml10 (c .before .before .before .before .before .args .text .now) (c .before .before .before .loop .i) (c .before .before .loop-test .taken) (nameChars 0 (drop (c .before .before .before .loop .i) (c .before .before .before .before .before .args .text .now))) (c .before .name-char-width .result)
-on c = chars-on xml10 (c .before .before .before .before .before .args .text .now) (c .before .before .before .loop .i) (c .before .before .loop-test .taken) (c .before .name-char-width .result) (c .before .name-char-width .ensures) (c .if1 .left)
+on : (c : tie.Else1 Inv-loop μ-loop)
+    → On xml10 (c .before .before .before .before .before .args .text .now) (c .before .before .before .loop .i) (c .before .before .loop-test .taken)
+    (nameChars 0 (drop (c .before .before .before .loop .i) (c .before .before .before .before .before .args .text .now)))
+    (c .before .name-char-width .result)
+on c =
+    let tested = c .before .before in
+    let turn = tested .before in
+    let start = turn .before .before in
+    chars-on xml10 (start .args .text .now) (turn .loop .i) (tested .loop-test .taken) (c .before .name-char-width .result)
+    (c .before .name-char-width .ensures) (c .if1 .left)
 
 add-i : tie.Need-add-i Inv-loop μ-loop
 add-i c = omega (arith, on c .fits)

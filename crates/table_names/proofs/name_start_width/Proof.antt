@@ -1,3 +1,4 @@
+-- `name_start_width` is by the byte below U+0080 (`width-ascii`), by `wide_width` above.
 use mathlib.Core.Path.{sym, ap, _∙_}
 use mathlib.Core.Bool.{Bool}
 use Rattle.text.specs.Bytes.{pick}
@@ -20,12 +21,14 @@ is-name-start-byte-requires c κs = search needs
 returns : tie.Need-returns
 returns c =
     let s = c .before .before .before .before .before in
-    sym (width-ascii isNameStart (s .args .text .now) (s .args .i) (s .pre) (c .before .before .if1 .taken) ∙ ap (λ (x : Bool). pick x 1 0) (sym (c .before .is-name-start-byte .ensures) ∙ c .if2 .taken))
+    sym (width-ascii isNameStart (s .args .text .now) (s .args .i) (s .pre) (c .before .before .if1 .taken) ∙ ap (λ (x : Bool). pick x 1 0)
+    (sym (c .before .is-name-start-byte .ensures) ∙ c .if2 .taken))
 
 returns-2 : tie.Need-returns-2
 returns-2 c =
     let s = c .before .before .before .before .before in
-    sym (width-ascii isNameStart (s .args .text .now) (s .args .i) (s .pre) (c .before .before .if1 .taken) ∙ ap (λ (x : Bool). pick x 1 0) (sym (c .before .is-name-start-byte .ensures) ∙ c .if2 .left))
+    sym (width-ascii isNameStart (s .args .text .now) (s .args .i) (s .pre) (c .before .before .if1 .taken) ∙ ap (λ (x : Bool). pick x 1 0)
+    (sym (c .before .is-name-start-byte .ensures) ∙ c .if2 .left))
 
 wide-width-requires : tie.Need-wide-width-requires
 wide-width-requires c κs = search needs

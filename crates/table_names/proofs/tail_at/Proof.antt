@@ -1,3 +1,4 @@
+-- `tail_at` is what a UTF8-tail adds (`tail-is`), or 64 (`tail-not`).
 use mathlib.Core.Path.{sym}
 use lib.Dec.{leb}
 use borrow.Author.Tests.{leb-true}

@@ -1,3 +1,4 @@
+-- `wide_width` goes by the first byte: one that starts no character (`low-width`), or of two, three or four bytes.
 use native.Mathlib.Omega.{arith}
 use Rattle.text.specs.Bytes.{pick}
 use Rattle.table_names.specs.NameChars.{isNameStart, isNameChar}
@@ -15,7 +16,9 @@ shared-slice-read-b : tie.Need-shared-slice-read-b
 shared-slice-read-b c = search needs
 
 returns : tie.Need-returns
-returns c = let s = c .before .before .before in low-width (pick (s .args .first) isNameStart isNameChar) (name-scalar (s .args .first)) (s .args .text .now) (s .args .i) (s .pre .0) (s .pre .1) (c .if1 .taken)
+returns c =
+    let s = c .before .before .before in
+    low-width (pick (s .args .first) isNameStart isNameChar) (name-scalar (s .args .first)) (s .args .text .now) (s .args .i) (s .pre .0) (s .pre .1) (c .if1 .taken)
 
 two-width-requires : tie.Need-two-width-requires
 two-width-requires c κs = search needs
@@ -30,7 +33,10 @@ returns-3 : tie.Need-returns-3
 returns-3 c = search needs
 
 four-width-requires : tie.Need-four-width-requires
-four-width-requires c κs = let s = c .before .before .before .before .before in (s .pre .0, c .if3 .left, omega (arith, c .before .before .before .before .shared-slice-known .given (s .args .i)))
+four-width-requires c κs =
+    let after-shared-slice-known = c .before .before .before .before in
+    let s = after-shared-slice-known .before in
+    (s .pre .0, c .if3 .left, omega (arith, after-shared-slice-known .shared-slice-known .given (s .args .i)))
 
 returns-4 : tie.Need-returns-4
 returns-4 c = search needs

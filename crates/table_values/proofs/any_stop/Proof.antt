@@ -26,7 +26,8 @@ returns-3 c =
     let two = c .before .before .before in
     let one = two .before .before in
     let s = one .before .before in
-    λ e. plain-three _ (λ b. none-newer (s .args .quote) b (s .args .newer)) (one .any-of .ensures (two .before .if1 .left)) (two .any-of2 .ensures (c .before .before .if2 .left)) (c .any-of3 .ensures e)
+    λ e. plain-three _ (λ b. none-newer (s .args .quote) b (s .args .newer)) (one .any-of .ensures (two .before .if1 .left))
+    (two .any-of2 .ensures (c .before .before .if2 .left)) (c .any-of3 .ensures e)
 
 returns-4 : tie.Need-returns-4
 returns-4 c =

@@ -26,13 +26,21 @@ add-if1 : tie.Need-add-if1
 add-if1 c = search needs
 
 returns : tie.Need-returns
-returns c = let s = c .before .before .before .before in ref-none (s .args .i) (name-past (s .args .newer) (s .args .text .now) (s .args .i + 1) (c .before .name-end .result) (omega (arith, s .pre .0)) (c .before .name-end .ensures .1)) (s .args .out .now) (c .if1 .taken)
+returns c =
+    let s = c .before .before .before .before in
+    ref-none (s .args .i) (name-past (s .args .newer) (s .args .text .now) (s .args .i + 1) (c .before .name-end .result) (omega (arith, s .pre .0))
+    (c .before .name-end .ensures .1)) (s .args .out .now) (c .if1 .taken)
 
 byte-at-requires : tie.Need-byte-at-requires
 byte-at-requires c κs = search needs
 
 returns-2 : tie.Need-returns-2
-returns-2 c = let s = c .before .before .before .before .before .before in ref-open (s .args .i) (name-past (s .args .newer) (s .args .text .now) (s .args .i + 1) (c .before .before .before .name-end .result) (omega (arith, s .pre .0)) (c .before .before .before .name-end .ensures .1)) (s .args .out .now) (c .before .before .if1 .left) (sym (c .before .byte-at .ensures) ∙ not-true (c .before .byte-at .result) (c .if2 .taken))
+returns-2 c =
+    let after-name-end = c .before .before .before in
+    let s = after-name-end .before .before .before in
+    let at-name-end = after-name-end .name-end in
+    ref-open (s .args .i) (name-past (s .args .newer) (s .args .text .now) (s .args .i + 1) (at-name-end .result) (omega (arith, s .pre .0))
+    (at-name-end .ensures .1)) (s .args .out .now) (c .before .before .if1 .left) (sym (c .before .byte-at .ensures) ∙ not-true (c .before .byte-at .result) (c .if2 .taken))
 
 add-put-over : tie.Need-add-put-over
 add-put-over c = search needs
@@ -44,7 +52,14 @@ part-put-over-start : tie.Need-part-put-over-start
 part-put-over-start c = search needs
 
 part-put-over-end : tie.Need-part-put-over-end
-part-put-over-end c = let s = c .before .before .before .before .before .before in omega (arith, stands-inside (s .args .newer) (s .args .text .now) (c .before .before .before .name-end .result) 59 [] (omega arith) (omega arith) (sym (c .before .byte-at .ensures) ∙ not-false (c .before .byte-at .result) (c .if2 .left)))
+part-put-over-end c =
+    let after-name-end = c .before .before .before in
+    let s = after-name-end .before .before .before in
+    omega (
+      arith,
+      stands-inside (s .args .newer) (s .args .text .now) (after-name-end .name-end .result) 59 [] (omega arith) (omega arith)
+          (sym (c .before .byte-at .ensures) ∙ not-false (c .before .byte-at .result) (c .if2 .left)),
+    )
 
 put-over-requires : tie.Need-put-over-requires
 put-over-requires c κs = search needs
@@ -62,7 +77,17 @@ same-length : tie.Need-same-length
 same-length c = search needs
 
 returns-3 : tie.Need-returns-3
-returns-3 c = let s = c .before .before .before .before .before .before .before .before .before .before .before in ref-closed (s .args .i) (name-past (s .args .newer) (s .args .text .now) (s .args .i + 1) (c .before .before .before .before .before .before .before .before .name-end .result) (omega (arith, s .pre .0)) (c .before .before .before .before .before .before .before .before .name-end .ensures .1)) (s .args .out .now) (c .before .before .before .before .before .before .before .if1 .left) (s .pre .0) (s .pre .1) (sym (c .before .before .before .before .before .before .byte-at .ensures) ∙ not-false (c .before .before .before .before .before .before .byte-at .result) (c .before .before .before .before .before .if2 .left)) (c .before .before .put-over .ensures)
+returns-3 c =
+    let after-if2 = c .before .before .before .before .before in
+    let after-byte-at = after-if2 .before in
+    let after-if1 = after-byte-at .before in
+    let after-name-end = after-if1 .before in
+    let s = after-name-end .before .before .before in
+    let at-name-end = after-name-end .name-end in
+    let at-byte-at = after-byte-at .byte-at in
+    ref-closed (s .args .i) (name-past (s .args .newer) (s .args .text .now) (s .args .i + 1) (at-name-end .result) (omega (arith, s .pre .0))
+    (at-name-end .ensures .1)) (s .args .out .now) (after-if1 .if1 .left) (s .pre .0) (s .pre .1)
+    (sym (at-byte-at .ensures) ∙ not-false (at-byte-at .result) (after-if2 .if2 .left)) (c .before .before .put-over .ensures)
 
 pub entity-step-spec : {M : Type 1} → statement M
 entity-step-spec =

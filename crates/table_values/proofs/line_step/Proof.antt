@@ -27,10 +27,12 @@ same-length c = search needs
 
 returns : tie.Need-returns
 returns c =
-    let w = c .before .before .before .before .before .before .eol-width in
-    let s = c .before .before .before .before .before .before .before .before .before in
-    meets-put (c .before .before .put-byte .ensures)
-    (line-kept (s .args .quote) (s .args .newer) (s .args .text .now) (s .args .i) (w .result) (s .args .out .now) (s .pre .0) (s .pre .1) (s .pre .2) (c .before .before .before .before .before .if1 .taken) (w .ensures))
+    let after-if1 = c .before .before .before .before .before in
+    let after-eol-width = after-if1 .before in
+    let s = after-eol-width .before .before .before in
+    let w = after-eol-width .eol-width in
+    meets-put (c .before .before .put-byte .ensures) (line-kept (s .args .quote) (s .args .newer) (s .args .text .now) (s .args .i) (w .result)
+    (s .args .out .now) (s .pre .0) (s .pre .1) (s .pre .2) (after-if1 .if1 .taken) (w .ensures))
 
 put-byte-requires-2 : tie.Need-put-byte-requires-2
 put-byte-requires-2 c κs = search needs

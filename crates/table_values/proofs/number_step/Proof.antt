@@ -20,13 +20,29 @@ number-end-requires : tie.Need-number-end-requires
 number-end-requires c κs = search needs
 
 returns : tie.Need-returns
-returns c = let s = c .before .before .before .before in record { value = []; is = number-unended (s .args .quote) (s .args .newer) (s .args .text .now) (s .args .from) (c .before .number-end .result) (s .pre .1) (c .before .number-end .ensures) (c .if1 .taken); kept = (c .before .number-end .ensures .run .to, refl) }
+returns c =
+    let s = c .before .before .before .before in
+    record {
+      value = [];
+      is = number-unended (s .args .quote) (s .args .newer) (s .args .text .now) (s .args .from) (c .before .number-end .result)
+          (s .pre .1) (c .before .number-end .ensures) (c .if1 .taken);
+      kept = (c .before .number-end .ensures .run .to, refl);
+    }
 
 shared-slice-read-if2 : tie.Need-shared-slice-read-if2
 shared-slice-read-if2 c = search needs
 
 returns-2 : tie.Need-returns-2
-returns-2 c = let s = c .before .before .before .before .before .before in record { value = []; is = number-quoted (s .args .quote) (s .args .newer) (s .args .text .now) (s .args .from) (c .before .before .before .number-end .result) (s .pre .1) (c .before .before .before .number-end .ensures) (omega (arith, c .before .before .before .number-end .ensures .run .to, c .before .before .if1 .left)) (c .if2 .taken); kept = (c .before .before .before .number-end .ensures .run .to, refl) }
+returns-2 c =
+    let after-number-end = c .before .before .before in
+    let s = after-number-end .before .before .before in
+    let at-number-end = after-number-end .number-end in
+    record {
+      value = [];
+      is = number-quoted (s .args .quote) (s .args .newer) (s .args .text .now) (s .args .from) (at-number-end .result) (s .pre .1)
+          (at-number-end .ensures) (omega (arith, at-number-end .ensures .run .to, c .before .before .if1 .left)) (c .if2 .taken);
+      kept = (at-number-end .ensures .run .to, refl);
+    }
 
 sub-parse-number : tie.Need-sub-parse-number
 sub-parse-number c = search needs
@@ -47,16 +63,26 @@ enum-known-number : tie.Need-enum-known-number
 enum-known-number c = search needs
 
 cast-char-step : tie.Need-cast-char-step
-cast-char-step c = let z = character-most _ (c .before .before .before .answer-of .result) (c .before .before .before .answer-of .ensures ∙ ap numberAnswer (c .before .before .before .before .parse-number .ensures)) (c .before .number .given .1) in omega (arith, z)
+cast-char-step c =
+    let after-answer-of = c .before .before .before in
+    let after-parse-number = after-answer-of .before in
+    let at-answer-of = after-answer-of .answer-of in
+    let z = character-most _ (at-answer-of .result) (at-answer-of .ensures ∙ ap numberAnswer (after-parse-number .parse-number .ensures)) (c .before .number .given .1) in
+    omega (arith, z)
 
 add-char-step : tie.Need-add-char-step
 add-char-step c = search needs
 
 char-step-requires : tie.Need-char-step-requires
 char-step-requires c κs =
-    let z = character-most _ (c .before .before .before .before .answer-of .result) (c .before .before .before .before .answer-of .ensures ∙ ap numberAnswer (c .before .before .before .before .before .parse-number .ensures)) (c .before .before .number .given .1) in
-    let r = c .before .before .before .before .before .before .before .before .before .before .number-end .ensures .run in
-    (omega (arith, r .from), omega (arith, r .to, c .before .before .before .before .before .before .before .before .before .if1 .left), z)
+    let after-answer-of = c .before .before .before .before in
+    let after-parse-number = after-answer-of .before in
+    let after-if1 = after-parse-number .before .before .before .before in
+    let after-number-end = after-if1 .before in
+    let at-answer-of = after-answer-of .answer-of in
+    let z = character-most _ (at-answer-of .result) (at-answer-of .ensures ∙ ap numberAnswer (after-parse-number .parse-number .ensures)) (c .before .before .number .given .1) in
+    let r = after-number-end .number-end .ensures .run in
+    (omega (arith, r .from), omega (arith, r .to, after-if1 .if1 .left), z)
 
 enum-known-number-2 : tie.Need-enum-known-number-2
 enum-known-number-2 c = search needs
@@ -66,16 +92,37 @@ same-length c = search needs
 
 returns-3 : tie.Need-returns-3
 returns-3 c =
-    let s = c .before .before .before .before .before .before .before .before .before .before .before .before .before .before .before .before in
-    let r = c .before .before .before .before .before .before .before .before .before .before .before .before .before .number-end in
-    meets-as (number-read (s .args .quote) (s .args .newer) (s .args .text .now) (s .args .from) (r .result) (s .pre .1) (r .ensures) (omega (arith, r .ensures .run .to, c .before .before .before .before .before .before .before .before .before .before .before .before .if1 .left)) (c .before .before .before .before .before .before .before .answer-of .result) (c .before .before .before .before .before .before .before .answer-of .ensures ∙ ap numberAnswer (c .before .before .before .before .before .before .before .before .parse-number .ensures)) (c .before .before .before .before .before .number .given .1) (c .before .before .before .before .before .before .before .before .before .before .if2 .left))
+    let after-number = c .before .before .before .before .before in
+    let after-answer-of = after-number .before .before in
+    let after-parse-number = after-answer-of .before in
+    let after-if2 = after-parse-number .before .before in
+    let after-if1 = after-if2 .before .before in
+    let after-number-end = after-if1 .before in
+    let s = after-number-end .before .before .before in
+    let at-answer-of = after-answer-of .answer-of in
+    let r = after-number-end .number-end in
+    meets-as (number-read (s .args .quote) (s .args .newer) (s .args .text .now) (s .args .from) (r .result) (s .pre .1) (r .ensures)
+    (omega (arith, r .ensures .run .to, after-if1 .if1 .left)) (at-answer-of .result)
+    (at-answer-of .ensures ∙ ap numberAnswer (after-parse-number .parse-number .ensures)) (after-number .number .given .1) (after-if2 .if2 .left))
     (c .before .before .char-step .ensures)
 
 returns-4 : tie.Need-returns-4
 returns-4 c =
-    let s = c .before .before .before .before .before .before .before .before .before .before .before .before in
-    let r = c .before .before .before .before .before .before .before .before .before .number-end in
-    record { value = []; is = number-refused (s .args .quote) (s .args .newer) (s .args .text .now) (s .args .from) (r .result) (s .pre .1) (r .ensures) (omega (arith, r .ensures .run .to, c .before .before .before .before .before .before .before .before .if1 .left)) (c .before .before .before .answer-of .result) (c .before .before .before .answer-of .ensures ∙ ap numberAnswer (c .before .before .before .before .parse-number .ensures)) (c .before .number2 .given .1) (c .before .before .before .before .before .before .if2 .left); kept = refl }
+    let after-answer-of = c .before .before .before in
+    let after-parse-number = after-answer-of .before in
+    let after-if2 = after-parse-number .before .before in
+    let after-if1 = after-if2 .before .before in
+    let after-number-end = after-if1 .before in
+    let s = after-number-end .before .before .before in
+    let at-answer-of = after-answer-of .answer-of in
+    let r = after-number-end .number-end in
+    record {
+      value = [];
+      is = number-refused (s .args .quote) (s .args .newer) (s .args .text .now) (s .args .from) (r .result) (s .pre .1)
+          (r .ensures) (omega (arith, r .ensures .run .to, after-if1 .if1 .left)) (at-answer-of .result)
+          (at-answer-of .ensures ∙ ap numberAnswer (after-parse-number .parse-number .ensures)) (c .before .number2 .given .1) (after-if2 .if2 .left);
+      kept = refl;
+    }
 
 pub number-step-spec : {M : Type 1} → statement M
 number-step-spec =

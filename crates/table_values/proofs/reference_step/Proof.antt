@@ -27,18 +27,29 @@ add-number-step : tie.Need-add-number-step
 add-number-step c = search needs
 
 number-step-requires : tie.Need-number-step-requires
-number-step-requires c κs = let s = c .before .before .before .before .before in
-    (omega (arith, stands-inside (s .args .newer) (s .args .text .now) (s .args .i + 1) 35 [] (omega arith) (omega arith) (sym (c .before .before .byte-at .ensures) ∙ c .before .if1 .taken)), s .pre .2, s .pre .3)
+number-step-requires c κs =
+    let s = c .before .before .before .before .before in (
+      omega (
+        arith,
+        stands-inside (s .args .newer) (s .args .text .now) (s .args .i + 1) 35 [] (omega arith) (omega arith)
+            (sym (c .before .before .byte-at .ensures) ∙ c .before .if1 .taken),
+      ),
+      s .pre .2,
+      s .pre .3,
+    )
 
 same-length : tie.Need-same-length
 same-length c = search needs
 
 returns : tie.Need-returns
 returns c =
-    let s = c .before .before .before .before .before .before .before .before in
+    let after-if1 = c .before .before .before .before in
+    let after-byte-at = after-if1 .before in
+    let s = after-byte-at .before .before .before in
     let q : s .args .i + 1 + 1 ≡ s .args .i + 2 = omega arith in
-    meets-as (reference-number (s .args .quote) (s .args .newer) (s .args .text .now) (s .args .i + 1) (sym (c .before .before .before .before .before .byte-at .ensures) ∙ c .before .before .before .before .if1 .taken) ∙ ap (λ (k : ℕ). charRefFrom (s .args .quote) [] (left (s .args .newer) (s .args .text .now) k)) q)
-    (meets-earlier (omega arith) (c .before .before .number-step .ensures))
+    meets-as (reference-number (s .args .quote) (s .args .newer) (s .args .text .now) (s .args .i + 1)
+    (sym (after-byte-at .byte-at .ensures) ∙ after-if1 .if1 .taken) ∙ ap
+    (λ (k : ℕ). charRefFrom (s .args .quote) [] (left (s .args .newer) (s .args .text .now) k)) q) (meets-earlier (omega arith) (c .before .before .number-step .ensures))
 
 entity-step-requires : tie.Need-entity-step-requires
 entity-step-requires c κs = search needs
@@ -48,8 +59,11 @@ same-length-2 c = search needs
 
 returns-2 : tie.Need-returns-2
 returns-2 c =
-    let s = c .before .before .before .before .before .before .before .before in
-    meets-as (reference-entity (s .args .quote) (s .args .newer) (s .args .text .now) (s .args .i + 1) (sym (c .before .before .before .before .before .byte-at .ensures) ∙ c .before .before .before .before .if1 .left)) (c .before .before .entity-step .ensures)
+    let after-if1 = c .before .before .before .before in
+    let after-byte-at = after-if1 .before in
+    let s = after-byte-at .before .before .before in
+    meets-as (reference-entity (s .args .quote) (s .args .newer) (s .args .text .now) (s .args .i + 1)
+    (sym (after-byte-at .byte-at .ensures) ∙ after-if1 .if1 .left)) (c .before .before .entity-step .ensures)
 
 pub reference-step-spec : {M : Type 1} → statement M
 reference-step-spec =

@@ -1,3 +1,4 @@
+-- `put_command` writes the twelve bytes of the definition, each a remainder of a quotient.
 use Rattle.table_grammar.specs.TableWritten.{commandAt}
 use borrow.Author.Needs.{needs}
 use Rattle.table_declarations.proofs.commands.put_command.Statement.{statement}
