@@ -29,6 +29,7 @@ use Rattle.nmtokens.specs.Nmtokens.{collapsed}
 use Rattle.charref.specs.CharRef.{charNumber, anyCharacter, numberAnswer}
 use Rattle.walk_depths.specs.LeastDepth.{leastDepth}
 use Rattle.register.specs.RegisterCalls.{addCall, withdrawCall, countCall}
+use Rattle.table_grammar.specs.TableWritten.{readDeclarations}
 
 -- document 01, UTF-8: 1 and 5, else the text's length
 unfoldable pub checkUtf8Call : List ℕ → Called
@@ -151,3 +152,8 @@ registerCountCall form buffer used = countCall form buffer used
 unfoldable pub leastDepthCall : List ℕ → ℕ → ℕ → List ℕ → List ℕ → Called
 leastDepthCall text version limit list pool =
     guarded (walkCheck text version 128 limit list pool) [] (callOf (leastDepth (readingOf (ruleOf version) list pool limit) text) [])
+
+-- document 02, K3: 1, 4 and 5, then the leftmost of 12 to 15, 21 and 22, then 23, else list and pool
+unfoldable pub readDeclarationsCall : List ℕ → ℕ → List ℕ → List ℕ → Called
+readDeclarationsCall text version list pool =
+    guarded (argumentCheck text (versionCheck version)) (list ∷ pool ∷ []) (readDeclarations (ruleOf version) text list pool)

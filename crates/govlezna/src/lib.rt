@@ -12,6 +12,7 @@ ghost use Rattle.govlezna.specs.Calls.{leastDepthCall};
 ghost use Rattle.govlezna.specs.declared.CDataNext.{CDataNext};
 ghost use Rattle.utils.specs.Trim.{trimStart, trimEnd, trimSpaces};
 ghost use Rattle.register.specs.RegisterCalls.{lent};
+ghost use Rattle.govlezna.specs.Calls.{readDeclarationsCall};
 
 // All that `govlezna_cdata_next` leaves behind: its number, the answer words and the cursor.
 pub struct CDataNext {
@@ -487,6 +488,31 @@ pub extern "C" fn govlezna_least_depth(
     };
     put(
         walk_least_depth::least_of(text, simple, version, limit, list, pool),
+        answer,
+    )
+}
+
+// A text of entity declarations as a table. Success: the length of the list, of the pool.
+#[no_mangle]
+pub extern "C" fn govlezna_read_declarations(
+    text: &[u8],
+    version: u8,
+    list: &mut [u8],
+    pool: &mut [u8],
+    answer: &mut [u64; 2],
+) -> u32
+    ensures { λ r. ⌜ called r (now (answer .exit)) (now (list .exit) ∷ now (pool .exit) ∷ []) ≡ readDeclarationsCall (now (text .entry)) version (now (list .entry)) (now (pool .entry)) ⌝ }
+{
+    let declared_checked = checks::check_eols(text, version);
+    let Answer::Done {
+        first: _,
+        second: _,
+    } = declared_checked
+    else {
+        return put(declared_checked, answer);
+    };
+    put(
+        table_declarations::read_declarations(text, version, list, pool),
         answer,
     )
 }
