@@ -30,7 +30,7 @@ struct entity {
 /* The arguments, taken apart. Pointers are into argv; the entities are in the order given, of either option. */
 struct arguments {
     enum command command;
-    const char *text, *file, *list, *pool;
+    const char *operand, *text, *file, *list, *pool; /* the operand is the text, or - */
     struct entity *entities;
     size_t entity_count;
     int marked, strict;
@@ -41,7 +41,7 @@ struct arguments {
     const char *register_path, *action_name; /* of register; NULL where they are missing */
     enum action action;
     size_t room;
-    int lines, json;
+    int chomp, lines, json;
 };
 
 /* One call to make: the arguments with their text and table read. The buffers are owned. */

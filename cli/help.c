@@ -5,7 +5,9 @@
 static const char commands_and_options[] =
     "govlezna COMMAND [OPTIONS] [TEXT]: text of XML job files\n"
     "\n"
-    "The text is TEXT, or the bytes of --file PATH, or else of standard input: UTF-8, at most 16,777,216 bytes.\n"
+    "The text is TEXT, or the bytes of --file PATH, or else, or where TEXT is -, of standard input: UTF-8, at most 16,777,216\n"
+    "bytes. A line end at its end is a part of it: `echo name | govlezna canonical` is the form of another name than `name`;\n"
+    "--chomp drops it.\n"
     "\n"
     "  escape      characters as references                 --level\n"
     "  c14n        the same as Canonical XML has it         --attribute, --text\n"
@@ -38,6 +40,7 @@ static const char commands_and_options[] =
     "  --start, --end      trim at this end alone\n"
     "  --room BYTES        how long the register may become; 1,048,576 if not given, and never less than it is\n"
     "  --file PATH         read the text from a file; - is standard input\n"
+    "  --chomp             drop one line end, LF, CR or CR LF, at the end of a text from a file or standard input\n"
     "  --json              answer by one line of JSON on standard output, refusals too\n"
     "  --                  what follows is TEXT, even if it starts with -\n"
     "\n";

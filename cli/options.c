@@ -15,7 +15,7 @@ static const char *const actions[] = { "add", "withdraw", "count", "list" };
 
 enum option {
     LEVEL, VERSION, DEPTH, LIMIT, STRICT, ENTITY, EXTERNAL, MARKED, TABLE, LINES, AT_START, AT_END, AS_ATTRIBUTE, AS_TEXT, ROOM,
-    FROM_FILE, JSON, OPTIONS
+    FROM_FILE, CHOMP, JSON, OPTIONS
 };
 
 #define ON(command) (1u << (command))
@@ -46,6 +46,7 @@ static const struct {
     { "--text", 0, ON(C14N) },
     { "--room", 1, ON(REGISTER) },
     { "--file", 1, ALL },
+    { "--chomp", 0, ALL },
     { "--json", 0, ALL },
 };
 
@@ -147,6 +148,7 @@ static void set_option(struct arguments *a, enum option option, char **values)
     case AS_TEXT: a->node = TEXT; break;
     case ROOM: a->room = read_number(name, values[0], SIZE_MAX); break;
     case FROM_FILE: a->file = values[0]; break;
+    case CHOMP: a->chomp = 1; break;
     case JSON: a->json = 1; break;
     case OPTIONS: break;
     }
@@ -171,10 +173,22 @@ static int take_action(struct arguments *a, const char *word)
     return 0;
 }
 
+/* The text, or - for standard input; after -- that is a text too. */
+static void take_operand(struct arguments *a, const char *word, int options_end)
+{
+    if (a->operand != NULL)
+        bad_usage(word, "a second text; put one text in quotes");
+    a->operand = word;
+    if (options_end || strcmp(word, "-") != 0)
+        a->text = word;
+}
+
 static void check_together(const struct arguments *a, unsigned seen)
 {
-    if (a->text != NULL && a->file != NULL)
+    if (a->operand != NULL && a->file != NULL)
         bad_usage("--file", "the text is given too");
+    if (a->chomp && a->text != NULL)
+        bad_usage("--chomp", "the text is no file, and is taken as it is");
     if (a->entity_count > 0 && a->list != NULL)
         bad_usage(seen & ON(ENTITY) ? "--entity" : "--external", "--table is given too");
     if (a->marked && a->list != NULL)
@@ -189,7 +203,7 @@ static void check_together(const struct arguments *a, unsigned seen)
         bad_usage("c14n", "expected --attribute or --text");
     if (a->command == REGISTER && a->action_name == NULL)
         bad_usage("register", "expected FILE and one of add, withdraw, count and list");
-    if (a->command == REGISTER && a->action == LIST && (a->text != NULL || a->file != NULL))
+    if (a->command == REGISTER && a->action == LIST && (a->operand != NULL || a->file != NULL))
         bad_usage("list", "takes no form");
 }
 
@@ -237,10 +251,8 @@ void read_arguments(int argc, char **argv, struct arguments *a)
             at = take_option(a, &seen, argc, argv, at);
         else if (take_action(a, argv[at]))
             at++;
-        else if (a->text != NULL)
-            bad_usage(argv[at], "a second text; put one text in quotes");
         else
-            a->text = argv[at++];
+            take_operand(a, argv[at++], options_end);
     }
     check_together(a, seen);
 }

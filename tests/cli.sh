@@ -144,7 +144,7 @@ results() {
     gives $'UTF-8, 1 bytes\ntable valid, 2 definitions\n' check a --marked --external a --entity b=c
     gives $'UTF-8, 1 bytes\ntable valid, 0 definitions\n' check a --marked
     gives '--level' escape -- --level
-    gives '-' escape -
+    gives '-' escape -- -
 }
 
 # The names that reading a value asks the table for: those of replacement texts too, each once, and none after a refusal.
@@ -323,7 +323,9 @@ files() {
     input=$room/text
     gives 'a&lt;b' escape
     gives 'a&lt;b' escape --file -
+    gives 'a&lt;b' escape -
     input=/dev/null
+    line_ends_dropped
     gives 'sail' unescape '&e;' --table "$room/list" "$room/pool"
     gives $'UTF-8, 0 bytes\ntable valid, 1 definitions\n' check --table "$room/list" "$room/pool"
     refuses 7 ': byte 0 of the list' check a --table "$room/text" "$room/pool"
@@ -361,6 +363,35 @@ files() {
     misused "$room: Is a directory" escape --file "$room"
     full_disk escape a
     full_disk --help
+}
+
+# One line end at the end of a file or of standard input, and none of an argument; nothing of a text that is too long.
+line_ends_dropped() {
+    local end
+    for end in '' '\n' '\r\n' '\r'; do
+        printf "name$end" >"$room/line"
+        gives name escape --chomp --file "$room/line"
+        input=$room/line
+        gives name escape --chomp
+        gives name escape - --chomp
+        input=/dev/null
+        printf "name\n$end" >"$room/line"
+        [ -z "$end" ] || gives $'name\n' escape --chomp --file "$room/line" --level 1
+    done
+    printf 'name\n' >"$room/line"
+    gives 'name&#10;' escape --level 3 --file "$room/line"
+    gives '' escape --chomp --file /dev/null
+    misused '--chomp: the text is no file' escape --chomp a
+    misused '--chomp: the text is no file' escape --chomp -- -
+    bytes 16777216 "$room/line"
+    printf '\r\n' >>"$room/line"
+    gives $'UTF-8, 16777216 bytes\n' check --chomp --file "$room/line"
+    refuses 1 'over 16,777,216 bytes' check --file "$room/line"
+    printf b >>"$room/line"
+    refuses 1 'over 16,777,216 bytes' check --chomp --file "$room/line"
+    bytes 16777216 "$room/line"
+    printf '\nb' >>"$room/line"
+    refuses 1 'over 16,777,216 bytes' check --chomp --file "$room/line"
 }
 
 # full_disk ARGUMENTS..: status 2, and the reason, where nothing can be written.
@@ -466,6 +497,10 @@ usage() {
     misused 'given twice' escape a --level 1 --level 2
     misused 'a second text' escape a b
     misused 'the text is given too' escape a --file b
+    misused 'the text is given too' escape - --file b
+    misused 'a second text' escape - a
+    misused 'a second text' escape a -
+    misused 'given twice' escape --chomp --chomp -
     misused 'expected --attribute or --text' c14n a
     misused '--text is given too' c14n a --attribute --text
     misused 'not an option of this command' escape a --text

@@ -92,6 +92,9 @@ results() {
     printf 'from a file' | "$program" register names add >out 2>err
     [ "$(cat out)" = 2 ]
     expect $? a form from standard input
+    printf 'from a file\n' | "$program" register names count - --chomp >out 2>err
+    [ "$(cat out)" = 2 ]
+    expect $? a form from standard input without its line end
     chmod 640 names
     gives '3\n' names add 'from a file'
     [ "$(stat -c %a names)" = 640 ]
@@ -144,6 +147,7 @@ misuse() {
     misused 'expected FILE and one of add' names
     misused 'expected add, withdraw, count or list' names put a
     misused 'takes no form' names list a
+    misused 'takes no form' names list -
     misused 'a second text' names add a b
     misused 'expected a number' names add a --room x
     misused 'not an option of this command' names add a --level 1
