@@ -41,7 +41,7 @@ struct arguments {
     const char *register_path, *action_name; /* of register; NULL where they are missing */
     enum action action;
     size_t room;
-    int chomp, lines, json;
+    int chomp, lines, null, json;
 };
 
 /* One call to make: the arguments with their text and table read. The buffers are owned. */
@@ -125,6 +125,8 @@ int next_token(struct span result, size_t *offset, struct span *token);
 struct place find_place(const struct request *request, const struct outcome *outcome);
 /* 0: it was no text that was refused. */
 int find_trail(const struct request *request, const struct outcome *outcome, struct trail *trail);
+/* The number and the length of the character here, in UTF-8 that was checked. */
+uint64_t decode(struct span text, size_t at, size_t *length);
 /* What a name is bound to in a table that was checked, and the table's text. */
 enum bound look_up(const struct request *request, struct span name, struct span *text);
 /* The name that an attribute's reference asks the table for. 0: it asks for none, as &#1; and &amp; do, and & without ;. */
@@ -143,6 +145,8 @@ int is_forbidden(uint32_t number);
 size_t line_of(struct span text, size_t offset);
 /* The name with ? for what a terminal would not print. */
 void show_name(FILE *to, struct span name);
+/* A text of checked UTF-8 on one line, whatever is in it; with `null` as it is, ended by a zero byte. */
+void put_line(struct span text, int null);
 void report_refusal(const struct request *request, const struct outcome *outcome);
 
 /* register.c: the whole command, its answer too; the number of that */

@@ -14,7 +14,7 @@ static const char *const actions[] = { "add", "withdraw", "count", "list" };
 #define ROOM_IF_NOT_GIVEN ((size_t)1048576)
 
 enum option {
-    LEVEL, VERSION, DEPTH, LIMIT, STRICT, ENTITY, EXTERNAL, MARKED, TABLE, LINES, AT_START, AT_END, AS_ATTRIBUTE, AS_TEXT, ROOM,
+    LEVEL, VERSION, DEPTH, LIMIT, STRICT, ENTITY, EXTERNAL, MARKED, TABLE, LINES, WITH_NULL, AT_START, AT_END, AS_ATTRIBUTE, AS_TEXT, ROOM,
     FROM_FILE, CHOMP, JSON, OPTIONS
 };
 
@@ -40,6 +40,7 @@ static const struct {
     { "--marked", 0, TABLES },
     { "--table", 2, TABLES },
     { "--lines", 0, ON(NMTOKENS) },
+    { "--null", 0, ON(NMTOKENS) | ON(REGISTER) },
     { "--start", 0, ON(TRIM) },
     { "--end", 0, ON(TRIM) },
     { "--attribute", 0, ON(C14N) },
@@ -142,6 +143,7 @@ static void set_option(struct arguments *a, enum option option, char **values)
     case MARKED: a->marked = 1; break;
     case TABLE: a->list = values[0], a->pool = values[1]; break;
     case LINES: a->lines = 1; break;
+    case WITH_NULL: a->null = 1; break;
     case AT_START: a->side = START; break;
     case AT_END: a->side = END; break;
     case AS_ATTRIBUTE: a->node = ATTRIBUTE; break;
@@ -193,8 +195,10 @@ static void check_together(const struct arguments *a, unsigned seen)
         bad_usage(seen & ON(ENTITY) ? "--entity" : "--external", "--table is given too");
     if (a->marked && a->list != NULL)
         bad_usage("--marked", "--table is given too; a marked list starts with the byte 3");
-    if (a->lines && a->json)
-        bad_usage("--lines", "--json is given too, which has the tokens");
+    if ((a->lines || a->null) && a->json)
+        bad_usage(a->lines ? "--lines" : "--null", "--json is given too, which has the tokens or entries");
+    if (a->null && a->command == REGISTER && a->action != LIST)
+        bad_usage("--null", "only list takes it");
     if (seen & ON(AT_START) && seen & ON(AT_END))
         bad_usage("--start", "--end is given too; for both ends give neither");
     if (seen & ON(AS_ATTRIBUTE) && seen & ON(AS_TEXT))

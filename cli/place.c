@@ -209,8 +209,7 @@ static void mark(struct place *place, uint32_t number, struct range reference)
         place->start++, place->end--;
 }
 
-/* The number and the length of the character here, in UTF-8 that was checked. */
-static uint64_t decode(struct span text, size_t at, size_t *length)
+uint64_t decode(struct span text, size_t at, size_t *length)
 {
     uint8_t byte = text.bytes[at];
     uint64_t character = byte;

@@ -102,6 +102,21 @@ void show_name(FILE *to, struct span name)
     }
 }
 
+void put_line(struct span text, int null)
+{
+    size_t length;
+    for (size_t at = 0; at < text.length; at += length) {
+        uint64_t number = decode(text, at, &length);
+        if (!null && control(text.bytes + at, length))
+            printf("\\u%04" PRIx64, number);
+        else if (!null && number == '\\')
+            fputs("\\\\", stdout);
+        else
+            fwrite(text.bytes + at, 1, length, stdout);
+    }
+    putchar(null ? '\0' : '\n');
+}
+
 static void show_place(const struct request *q, const struct place *place)
 {
     struct span given = { q->text, q->text_length };

@@ -34,6 +34,15 @@ gives() {
     expect $? "$@"
 }
 
+# nulls RESULT ARGUMENTS..: the same, where each . of the result is a zero byte.
+nulls() {
+    local result=$1
+    shift
+    run "$@"
+    [ "$status" -eq 0 ] && printf %s "$result" | tr . '\0' | cmp -s - "$room/out" && [ ! -s "$room/err" ]
+    expect $? "$@"
+}
+
 # refuses NUMBER PLACE ARGUMENTS..: status 1, nothing on standard output, the number and the place on standard error; and the
 # same number in JSON.
 refuses() {
@@ -123,7 +132,12 @@ results() {
     gives $'&lt;\x01' canonical '<&#1;' --strict --version 1.1
     gives 'p1 p2' nmtokens $'  p1 \t p2\n'
     gives $'p1 p2\np3' nmtokens ' p1  p2&#10;p3 '
-    gives $'p1\np2\tq\np3\n' nmtokens --lines ' p1  p2&#9;q &e;' --entity 'e=  p3 '
+    gives $'p1\np2\\u0009q\np3\n' nmtokens --lines ' p1  p2&#9;q &e;' --entity 'e=  p3 '
+    gives $'p1\\u000a\\u000dp2\n\\\\u000a\n' nmtokens --lines 'p1&#10;&#13;p2 \u000a'
+    gives $'\\u0001\\u007f\\u0085\\u009f\\u2028\\u2029\\ufffe\xC2\xA0ß€𝄞\n' nmtokens --lines '&#1;&#x7F;&#x85;&#x9F;&#x2028;&#x2029;&#xFFFE;&#xA0;ß€𝄞'
+    nulls $'p1\n\\\x01.p2.' nmtokens --null 'p1&#10;\&#1;  p2'
+    nulls $'a.b.' nmtokens --null --lines 'a b'
+    gives '' nmtokens --null ' '
     gives '' nmtokens --lines $' \t '
     gives '' nmtokens ''
     gives 'A B' nmtokens '&d;&d;A&a;&#x20;&a;B&da;' --marked --entity d=$'\r' --entity a=$'\n' --entity da=$'\r\n'
@@ -482,6 +496,8 @@ usage() {
     misused 'not an option of this command' normalize a --lines
     misused 'not an option of this command' nmtokens a --strict
     misused '--json is given too' nmtokens a --lines --json
+    misused '--json is given too' nmtokens a --null --json
+    misused 'not an option of this command' normalize a --null
     misused 'govlezna COMMAND'
     misused 'no such command' frobnicate a
     misused 'no such option' escape a --frobnicate

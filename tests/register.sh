@@ -85,6 +85,10 @@ results() {
     gives '1 ½\n1 a\n1 \n' names list
     gives '1\n' names add -- --room
     gives '1\n' names count --room 0 -- --room
+    gives '1\n' names add $'a\n2 b\\'
+    gives '1 ½\n1 a\n1 \n1 --room\n1 a\\u000a2 b\\\\\n' names list
+    gives '1 ½\0001 a\0001 \0001 --room\0001 a\n2 b\\\0' names list --null
+    run names withdraw $'a\n2 b\\'
     for form in ½ a '' --room; do run names withdraw -- "$form"; done
     holds '' names
     printf 'from a file' >form
@@ -148,6 +152,8 @@ misuse() {
     misused 'expected add, withdraw, count or list' names put a
     misused 'takes no form' names list a
     misused 'takes no form' names list -
+    misused '--null: only list' names count a --null
+    misused '--json is given too' names list --null --json
     misused 'a second text' names add a b
     misused 'expected a number' names add a --room x
     misused 'not an option of this command' names add a --level 1
