@@ -99,6 +99,8 @@ void put_help(FILE *to);
 
 /* options.c */
 const char *command_name(enum command command);
+/* What may stand as the value of --level, and of --version. */
+extern const char expected_level[], expected_version[];
 void read_arguments(int argc, char **argv, struct arguments *arguments);
 
 /* input.c. Whatever goes wrong ends the program with status 2. */
@@ -139,10 +141,15 @@ struct names find_names(const struct request *request, const struct outcome *out
 /* words.c. No words for a number that the header has not. */
 const char *words_of(uint32_t number);
 
+/* width.c. How many columns of a terminal it takes: 0, 1 or 2. */
+int width_of(uint64_t character);
+
 /* report.c */
 /* Is it refused for a character that the XML version does not allow? */
 int is_forbidden(uint32_t number);
 size_t line_of(struct span text, size_t offset);
+/* The option that gave the command of the list for which a table is refused, and which of its kind it is, from 1; NULL: a file did. */
+const char *refused_option(const struct request *request, const struct outcome *outcome, size_t *occurrence);
 /* The name with ? for what a terminal would not print. */
 void show_name(FILE *to, struct span name);
 /* A text of checked UTF-8 on one line, whatever is in it; with `null` as it is, ended by a zero byte. */

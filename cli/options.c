@@ -51,15 +51,23 @@ static const struct {
     { "--json", 0, ALL },
 };
 
+const char expected_level[] = "0, 1, 2 or 3", expected_version[] = "1.0 or 1.1";
+
 const char *command_name(enum command command)
 {
     return commands[command];
 }
 
+static void end_usage(void)
+{
+    fputs("\ngovlezna --help says how it is used\n", stderr);
+    exit(2);
+}
+
 static void bad_usage(const char *what, const char *why)
 {
-    fprintf(stderr, "govlezna: %s: %s\ngovlezna --help says how it is used\n", what, why);
-    exit(2);
+    fprintf(stderr, "govlezna: %s: %s", what, why);
+    end_usage();
 }
 
 static enum command read_command(const char *word)
@@ -67,37 +75,69 @@ static enum command read_command(const char *word)
     for (size_t i = 0; i < COMMANDS; i++)
         if (strcmp(word, commands[i]) == 0)
             return (enum command)i;
-    bad_usage(word, "no such command");
+    fprintf(stderr, "govlezna: %s: no such command, expected ", word);
+    for (size_t i = 0; i < COMMANDS; i++)
+        fprintf(stderr, "%s%s", i == 0 ? "" : i + 1 < COMMANDS ? ", " : " or ", commands[i]);
+    end_usage();
     return CHECK;
 }
 
+static void bad_option(const struct arguments *a, const char *word, const char *why)
+{
+    const char *between = " ";
+    fprintf(stderr, "govlezna: %s: %s, %s takes", word, why, commands[a->command]);
+    for (int i = 0; i < OPTIONS; i++)
+        if (options[i].commands & ON(a->command)) {
+            fprintf(stderr, "%s%s", between, options[i].name);
+            between = ", ";
+        }
+    end_usage();
+}
+
+static const char *expected(enum option option)
+{
+    switch (option) {
+    case LEVEL: return expected_level;
+    case VERSION: return expected_version;
+    case DEPTH: return "a number from 0 to 128";
+    case LIMIT: return "a number from 0 to 1,000,000";
+    case ENTITY: return "NAME=TEXT";
+    case EXTERNAL: return "NAME";
+    case TABLE: return "two files, LIST and POOL";
+    case ROOM: return "a number of bytes";
+    default: return "PATH";
+    }
+}
+
+static void bad_value(enum option option, const char *value)
+{
+    fprintf(stderr, "govlezna: %s %s: expected %s", options[option].name, value, expected(option));
+    end_usage();
+}
+
 /* A decimal number of at most 64 bits: a larger one is not the library's to refuse. */
-static uint64_t read_number(const char *option, const char *value, uint64_t most)
+static uint64_t read_number(enum option option, const char *value, uint64_t most)
 {
     char *end;
     unsigned long long number;
-    if (*value < '0' || *value > '9')
-        bad_usage(option, "expected a number");
     errno = 0;
     number = strtoull(value, &end, 10);
-    if (*end != '\0')
-        bad_usage(option, "expected a number");
-    if (errno != 0 || number > most)
-        bad_usage(option, most == UINT8_MAX ? "expected a number under 256" : "the number is over 64 bits");
+    if (*value < '0' || *value > '9' || *end != '\0' || errno != 0 || number > most)
+        bad_value(option, value);
     return number;
 }
 
-static uint8_t read_version(const char *option, const char *value)
+static uint8_t read_version(const char *value)
 {
     if (strcmp(value, "1.0") == 0)
         return 1;
     if (strcmp(value, "1.1") == 0)
         return 2;
-    return (uint8_t)read_number(option, value, UINT8_MAX);
+    return (uint8_t)read_number(VERSION, value, UINT8_MAX);
 }
 
 /* The option that the word names, which may have a value after =. */
-static enum option read_option(const char *word, const char **value)
+static enum option read_option(const struct arguments *a, const char *word, const char **value)
 {
     const char *equals = strchr(word, '=');
     size_t length = equals == NULL ? strlen(word) : (size_t)(equals - word);
@@ -105,7 +145,7 @@ static enum option read_option(const char *word, const char **value)
     for (int i = 0; i < OPTIONS; i++)
         if (strlen(options[i].name) == length && memcmp(word, options[i].name, length) == 0)
             return (enum option)i;
-    bad_usage(word, "no such option");
+    bad_option(a, word, "no such option");
     return OPTIONS;
 }
 
@@ -123,7 +163,7 @@ static void set_entity(struct arguments *a, const char *value)
 {
     const char *equals = strchr(value, '=');
     if (equals == NULL)
-        bad_usage("--entity", "expected NAME=TEXT");
+        bad_value(ENTITY, value);
     else
         add_entity(a, "--entity", value, (size_t)(equals - value), equals + 1);
 }
@@ -133,10 +173,10 @@ static void set_option(struct arguments *a, enum option option, char **values)
 {
     const char *name = options[option].name;
     switch (option) {
-    case LEVEL: a->level = (uint8_t)read_number(name, values[0], UINT8_MAX); break;
-    case VERSION: a->version = read_version(name, values[0]); break;
-    case DEPTH: a->depth = read_number(name, values[0], UINT64_MAX); break;
-    case LIMIT: a->limit = read_number(name, values[0], UINT64_MAX); break;
+    case LEVEL: a->level = (uint8_t)read_number(option, values[0], UINT8_MAX); break;
+    case VERSION: a->version = read_version(values[0]); break;
+    case DEPTH: a->depth = read_number(option, values[0], UINT64_MAX); break;
+    case LIMIT: a->limit = read_number(option, values[0], UINT64_MAX); break;
     case STRICT: a->strict = 1; break;
     case ENTITY: set_entity(a, values[0]); break;
     case EXTERNAL: add_entity(a, name, values[0], strlen(values[0]), NULL); break;
@@ -148,7 +188,7 @@ static void set_option(struct arguments *a, enum option option, char **values)
     case AT_END: a->side = END; break;
     case AS_ATTRIBUTE: a->node = ATTRIBUTE; break;
     case AS_TEXT: a->node = TEXT; break;
-    case ROOM: a->room = read_number(name, values[0], SIZE_MAX); break;
+    case ROOM: a->room = read_number(option, values[0], SIZE_MAX); break;
     case FROM_FILE: a->file = values[0]; break;
     case CHOMP: a->chomp = 1; break;
     case JSON: a->json = 1; break;
@@ -215,18 +255,20 @@ static void check_together(const struct arguments *a, unsigned seen)
 static int take_option(struct arguments *a, unsigned *seen, int argc, char **argv, int at)
 {
     const char *inside;
-    enum option option = read_option(argv[at], &inside);
+    enum option option = read_option(a, argv[at], &inside);
     int values = options[option].values;
     char *value = argv[at] + strlen(options[option].name) + 1;
     if (!(options[option].commands & ON(a->command)))
-        bad_usage(options[option].name, "not an option of this command");
+        bad_option(a, options[option].name, "not an option of this command");
     if (option != ENTITY && option != EXTERNAL && *seen & ON(option))
         bad_usage(options[option].name, "given twice");
     *seen |= ON(option);
     if (inside != NULL && values != 1)
         bad_usage(options[option].name, "takes no value after =");
-    if (inside == NULL && argc - at - 1 < values)
-        bad_usage(options[option].name, values == 1 ? "its value is missing" : "expected two files, LIST and POOL");
+    if (inside == NULL && argc - at - 1 < values) {
+        fprintf(stderr, "govlezna: %s: its value is missing, expected %s", options[option].name, expected(option));
+        end_usage();
+    }
     set_option(a, option, inside != NULL ? &value : argv + at + 1);
     return inside != NULL ? at + 1 : at + 1 + values;
 }
