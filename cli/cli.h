@@ -127,8 +127,6 @@ int next_token(struct span result, size_t *offset, struct span *token);
 struct place find_place(const struct request *request, const struct outcome *outcome);
 /* 0: it was no text that was refused. */
 int find_trail(const struct request *request, const struct outcome *outcome, struct trail *trail);
-/* The number and the length of the character here, in UTF-8 that was checked. */
-uint64_t decode(struct span text, size_t at, size_t *length);
 /* What a name is bound to in a table that was checked, and the table's text. */
 enum bound look_up(const struct request *request, struct span name, struct span *text);
 /* The name that an attribute's reference asks the table for. 0: it asks for none, as &#1; and &amp; do, and & without ;. */
@@ -147,6 +145,8 @@ int width_of(uint64_t character);
 /* report.c */
 /* Is it refused for a character that the XML version does not allow? */
 int is_forbidden(uint32_t number);
+/* The number and the length of the character here, in UTF-8 that was checked. */
+uint64_t decode(struct span text, size_t at, size_t *length);
 size_t line_of(struct span text, size_t offset);
 /* The option that gave the command of the list for which a table is refused, and which of its kind it is, from 1; NULL: a file did. */
 const char *refused_option(const struct request *request, const struct outcome *outcome, size_t *occurrence);

@@ -33,6 +33,18 @@ static size_t character(struct span text, size_t at)
     return 0;
 }
 
+uint64_t decode(struct span text, size_t at, size_t *length)
+{
+    uint8_t byte = text.bytes[at];
+    uint64_t character = byte;
+    *length = byte < 0x80 ? 1 : byte < 0xE0 ? 2 : byte < 0xF0 ? 3 : 4;
+    if (*length > 1)
+        character &= 0x7Fu >> *length;
+    for (size_t i = 1; i < *length; i++)
+        character = character << 6 | (text.bytes[at + i] & 0x3F);
+    return character;
+}
+
 /* Would the terminal take the character as something else than one to print? */
 static int control(const uint8_t *bytes, size_t length)
 {
