@@ -358,10 +358,14 @@ struct govlezna_cursor {
  * `finished` becomes 1 and the offset stays.
  * Refusals, in this order: TOO_LONG; NOT_UTF8; CURSOR_OUTSIDE (the offset is past the end or inside a character;
  * answer[0]: the offset). After these, where the last piece was handed over before, NO_MORE. The cursor stays as it is.
- * Time: each call checks all that it is handed, so the pieces of a text that is handed over whole take the square of its
- * length. Check a long text once, by govlezna_check_utf8, and hand over windows of it, each with a cursor { 0, 0 }: from
- * the last cut on, or from the last window's end where it had none, up to an end between two characters and not within
- * `]]>`. The last piece of a window goes on in the next window.
+ * Time: each call checks all that it is handed, so the pieces of a text that is handed over whole, or from the last cut on,
+ * take the square of its length. Check a long text once, by govlezna_check_utf8, and hand over windows of it, each with a
+ * cursor { 0, 0 }, at first from 0 on:
+ *   1. the window goes to behind the next > after its first byte, or else to the text's end: within no character and no `]]>`
+ *   2. the call's piece is the next part of the piece of the whole text
+ *   3. where the cursor is not finished, a piece ends here, and the next window begins at this cut
+ *   4. where it is, the next window begins at this one's end; at the text's end the last piece ends
+ * Example: `]]>]]>` by the windows 0 to 3 (2 bytes, a cut), 2 to 6 (3 bytes, a cut) and 5 to 6 (1 byte, finished).
  */
 uint32_t govlezna_cdata_next(const uint8_t *text, size_t text_length, struct govlezna_cursor *cursor,
                              uint64_t answer[2]);
