@@ -97,6 +97,9 @@ struct names {
 /* help.c */
 void put_help(FILE *to);
 
+/* about.c */
+void put_about(void);
+
 /* options.c */
 const char *command_name(enum command command);
 /* What may stand as the value of --level, and of --version. */

@@ -3,7 +3,7 @@
 
 /* Two strings, since a compiler need not take one of more than 4,095 characters. */
 static const char commands_and_options[] =
-    "govlezna COMMAND [OPTIONS] [TEXT]: text of XML job files\n"
+    "govlezna COMMAND [OPTIONS] [TEXT]: text of XML job files; govlezna --about: the version, the library's calls, the limits\n"
     "\n"
     "The text is TEXT, or the bytes of --file PATH, or else, or where TEXT is -, of standard input: UTF-8, at most 16,777,216\n"
     "bytes. A line end at its end is a part of it: `echo name | govlezna canonical` is the form of another name than `name`;\n"

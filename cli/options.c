@@ -287,6 +287,13 @@ void read_arguments(int argc, char **argv, struct arguments *a)
             flush_output();
             exit(0);
         }
+    if (strcmp(argv[1], "--about") == 0) {
+        if (argc > 2)
+            bad_usage(argv[2], "--about stands alone");
+        put_about();
+        flush_output();
+        exit(0);
+    }
     *a = (struct arguments){ .command = read_command(argv[1]), .depth = 128, .limit = 10000,
                               .room = ROOM_IF_NOT_GIVEN };
     a->entities = allocate((size_t)argc * sizeof *a->entities);

@@ -32,6 +32,9 @@
 #include <stddef.h>
 #include <stdint.h>
 
+/* Of this header and of the library that comes with it; the first number changes where a caller has to change. */
+#define GOVLEZNA_VERSION "1.0.0"
+
 #ifdef __cplusplus
 extern "C" {
 #endif

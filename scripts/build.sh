@@ -1,7 +1,7 @@
 # Sourced by the scripts, after tools.sh: builds what is missing or older than its sources. `root` is the repository's
 # folder. Progress goes to standard error.
 
-version=1.0.0
+version=$(sed -n 's/^#define GOVLEZNA_VERSION "\(.*\)"$/\1/p' "$root/include/govlezna.h")
 build=$root/target/build
 archive=$root/target/staticlib/libgovlezna.a
 started=$root/target/library.start # while the library is proved and compiled; where nobody does that, it was cut off

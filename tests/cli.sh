@@ -402,6 +402,7 @@ files() {
     misused "$room: Is a directory" escape --file "$room"
     full_disk escape a
     full_disk --help
+    full_disk --about
 }
 
 # One line end at the end of a file or of standard input, and none of an argument; nothing of a text that is too long.
@@ -524,6 +525,7 @@ usage() {
     misused '--json is given too' nmtokens a --null --json
     misused 'not an option of this command' normalize a --null
     misused 'govlezna COMMAND'
+    misused 'a: --about stands alone' --about a
     misused 'frobnicate: no such command, expected escape, unescape, ' frobnicate a
     misused '--frobnicate: no such option, escape takes --level, --file, --chomp, --json' escape a --frobnicate
     misused '-x: no such option, eols takes --version, --file' eols a -x
