@@ -247,7 +247,7 @@ static void check_together(const struct arguments *a, unsigned seen)
         bad_usage("c14n", "expected --attribute or --text");
     if (a->command == REGISTER && a->action_name == NULL)
         bad_usage("register", "expected FILE and one of add, withdraw, count and list");
-    if (a->command == REGISTER && a->action == LIST && (a->operand != NULL || a->file != NULL))
+    if (a->command == REGISTER && a->action == LIST && (a->operand != NULL || a->file != NULL || a->chomp))
         bad_usage("list", "takes no form");
 }
 

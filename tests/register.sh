@@ -152,6 +152,7 @@ misuse() {
     misused 'expected add, withdraw, count or list' names put a
     misused 'takes no form' names list a
     misused 'takes no form' names list -
+    misused 'takes no form' names list --chomp
     misused '--null: only list' names count a --null
     misused '--json is given too' names list --null --json
     misused 'a second text' names add a b
