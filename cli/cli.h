@@ -31,7 +31,7 @@ struct entity {
 /* The arguments, taken apart. Pointers are into argv; the entities are in the order given, of either option. */
 struct arguments {
     enum command command;
-    const char *text, *file, *list, *pool;
+    const char *operand, *text, *file, *list, *pool; /* the operand is the text, or - */
     struct entity *entities;
     size_t entity_count;
     int marked, strict;
@@ -43,7 +43,7 @@ struct arguments {
     enum action action;
     size_t room;
     int canonical, empty; /* the text is a value, whose form is meant; the form may be empty */
-    int lines, json;
+    int chomp, lines, null, json;
 };
 
 /* One call to make: the arguments with their text and table read. The buffers are owned. */
@@ -102,8 +102,13 @@ void open_standard_descriptors(void);
 /* help.c */
 void put_help(FILE *to);
 
+/* about.c */
+void put_about(void);
+
 /* options.c */
 const char *command_name(enum command command);
+/* What may stand as the value of --level, and of --version. */
+extern const char expected_level[], expected_version[];
 void read_arguments(int argc, char **argv, struct arguments *arguments);
 
 /* input.c. Whatever goes wrong ends the program with status 2. */
@@ -144,12 +149,21 @@ struct names find_names(const struct request *request, const struct outcome *out
 /* words.c. No words for a number that the header has not. */
 const char *words_of(uint32_t number);
 
+/* width.c. How many columns of a terminal it takes: 0, 1 or 2. */
+int width_of(uint64_t character);
+
 /* report.c */
 /* Is it refused for a character that the XML version does not allow? */
 int is_forbidden(uint32_t number);
+/* The number and the length of the character here, in UTF-8 that was checked. */
+uint64_t decode(struct span text, size_t at, size_t *length);
 size_t line_of(struct span text, size_t offset);
+/* The option that gave the command of the list for which a table is refused, and which of its kind it is, from 1; NULL: a file did. */
+const char *refused_option(const struct request *request, const struct outcome *outcome, size_t *occurrence);
 /* The name with ? for what a terminal would not print. */
 void show_name(FILE *to, struct span name);
+/* A text of checked UTF-8 on one line, whatever is in it; with `null` as it is, ended by a zero byte. */
+void put_line(struct span text, int null);
 void report_refusal(const struct request *request, const struct outcome *outcome);
 
 /* register.c: the whole command, its answer too. 0: it was refused. */

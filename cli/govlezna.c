@@ -24,15 +24,12 @@ static void put_sections(const struct request *q)
     }
 }
 
-/* One to a line. */
-static void put_tokens(struct span result)
+static void put_tokens(struct span result, int null)
 {
     struct span token;
     size_t offset = 0;
-    while (next_token(result, &offset, &token)) {
-        put(token.bytes, token.length);
-        putchar('\n');
-    }
+    while (next_token(result, &offset, &token))
+        put_line(token, null);
 }
 
 static void put_check(const struct request *q, const struct outcome *o)
@@ -57,8 +54,8 @@ static void put_success(const struct request *q, const struct outcome *o)
     switch (q->arguments->command) {
     case CHECK: put_check(q, o); return;
     case NMTOKENS:
-        if (q->arguments->lines) {
-            put_tokens((struct span){ o->bytes, o->answer[0] });
+        if (q->arguments->lines || q->arguments->null) {
+            put_tokens((struct span){ o->bytes, o->answer[0] }, q->arguments->null);
             return;
         }
         put(o->bytes, o->answer[0]);

@@ -60,8 +60,21 @@ static uint8_t *read_file(const char *path, size_t most, size_t *length)
     return bytes;
 }
 
+/* Drops one line end at the end of the text: LF, CR or both. */
+static void chomp(struct request *request)
+{
+    size_t length = request->text_length;
+    if (length > 0 && request->text[length - 1] == '\n')
+        length--;
+    if (length > 0 && request->text[length - 1] == '\r')
+        length--;
+    request->text_length = length;
+}
+
+/* To drop a line end, so much is read that what is left of a text that is too long is too long. */
 static void read_text(const struct arguments *a, struct request *request)
 {
+    size_t most = a->chomp ? TEXT_MOST + 2 : TEXT_MOST;
     if (a->command == REGISTER && a->action == LIST) {
         request->text = allocate(0);
     } else if (a->text != NULL) {
@@ -69,10 +82,12 @@ static void read_text(const struct arguments *a, struct request *request)
         request->text = allocate(request->text_length);
         memcpy(request->text, a->text, request->text_length);
     } else if (a->file != NULL && strcmp(a->file, "-") != 0) {
-        request->text = read_file(a->file, TEXT_MOST, &request->text_length);
+        request->text = read_file(a->file, most, &request->text_length);
     } else {
-        request->text = read_stream(stdin, "standard input", TEXT_MOST, &request->text_length);
+        request->text = read_stream(stdin, "standard input", most, &request->text_length);
     }
+    if (a->chomp)
+        chomp(request);
 }
 
 const uint8_t *first_command(const struct request *request)

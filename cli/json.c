@@ -124,10 +124,16 @@ static void put_depth(const struct request *q)
 void json_refusal(const struct request *q, const struct outcome *o)
 {
     struct place place = find_place(q, o);
+    size_t occurrence;
+    const char *option = refused_option(q, o, &occurrence);
     begin(q, o->number);
     printf(",\"words\":\"%s\"", words_of(o->number));
     json_number("first", o->answer[0]);
     json_number("second", o->answer[1]);
+    if (option != NULL) {
+        printf(",\"option\":\"%s\"", option);
+        json_number("occurrence", occurrence);
+    }
     if (place.known) {
         if (place.entity.length > 0) {
             printf(",\"entity\":");

@@ -14,8 +14,8 @@ static const char *const actions[] = { "add", "withdraw", "count", "list" };
 #define ROOM_IF_NOT_GIVEN ((size_t)1048576)
 
 enum option {
-    LEVEL, VERSION, DEPTH, LIMIT, STRICT, ENTITY, EXTERNAL, MARKED, TABLE, LINES, AT_START, AT_END, AS_ATTRIBUTE, AS_TEXT, ROOM,
-    OF_CANONICAL, TAKE_EMPTY, FROM_FILE, JSON, OPTIONS
+    LEVEL, VERSION, DEPTH, LIMIT, STRICT, ENTITY, EXTERNAL, MARKED, TABLE, LINES, WITH_NULL, AT_START, AT_END, AS_ATTRIBUTE, AS_TEXT, ROOM,
+    OF_CANONICAL, TAKE_EMPTY, FROM_FILE, CHOMP, JSON, OPTIONS
 };
 
 #define ON(command) (1u << (command))
@@ -42,6 +42,7 @@ static const struct {
     { "--marked", 0, TABLES | ON(REGISTER) },
     { "--table", 2, TABLES | ON(REGISTER) },
     { "--lines", 0, ON(NMTOKENS) },
+    { "--null", 0, ON(NMTOKENS) | ON(REGISTER) },
     { "--start", 0, ON(TRIM) },
     { "--end", 0, ON(TRIM) },
     { "--attribute", 0, ON(C14N) },
@@ -50,18 +51,27 @@ static const struct {
     { "--canonical", 0, ON(REGISTER) },
     { "--empty", 0, ON(REGISTER) },
     { "--file", 1, ALL },
+    { "--chomp", 0, ALL },
     { "--json", 0, ALL },
 };
+
+const char expected_level[] = "0, 1, 2 or 3", expected_version[] = "1.0 or 1.1";
 
 const char *command_name(enum command command)
 {
     return commands[command];
 }
 
+static void end_usage(void)
+{
+    fputs("\ngovlezna --help says how it is used\n", stderr);
+    exit(2);
+}
+
 static void bad_usage(const char *what, const char *why)
 {
-    fprintf(stderr, "govlezna: %s: %s\ngovlezna --help says how it is used\n", what, why);
-    exit(2);
+    fprintf(stderr, "govlezna: %s: %s", what, why);
+    end_usage();
 }
 
 static enum command read_command(const char *word)
@@ -69,37 +79,69 @@ static enum command read_command(const char *word)
     for (size_t i = 0; i < COMMANDS; i++)
         if (strcmp(word, commands[i]) == 0)
             return (enum command)i;
-    bad_usage(word, "no such command");
+    fprintf(stderr, "govlezna: %s: no such command, expected ", word);
+    for (size_t i = 0; i < COMMANDS; i++)
+        fprintf(stderr, "%s%s", i == 0 ? "" : i + 1 < COMMANDS ? ", " : " or ", commands[i]);
+    end_usage();
     return CHECK;
 }
 
+static void bad_option(const struct arguments *a, const char *word, const char *why)
+{
+    const char *between = " ";
+    fprintf(stderr, "govlezna: %s: %s, %s takes", word, why, commands[a->command]);
+    for (int i = 0; i < OPTIONS; i++)
+        if (options[i].commands & ON(a->command)) {
+            fprintf(stderr, "%s%s", between, options[i].name);
+            between = ", ";
+        }
+    end_usage();
+}
+
+static const char *expected(enum option option)
+{
+    switch (option) {
+    case LEVEL: return expected_level;
+    case VERSION: return expected_version;
+    case DEPTH: return "a number from 0 to 128";
+    case LIMIT: return "a number from 0 to 1,000,000";
+    case ENTITY: return "NAME=TEXT";
+    case EXTERNAL: return "NAME";
+    case TABLE: return "two files, LIST and POOL";
+    case ROOM: return "a number of bytes";
+    default: return "PATH";
+    }
+}
+
+static void bad_value(enum option option, const char *value)
+{
+    fprintf(stderr, "govlezna: %s %s: expected %s", options[option].name, value, expected(option));
+    end_usage();
+}
+
 /* A decimal number of at most 64 bits: a larger one is not the library's to refuse. */
-static uint64_t read_number(const char *option, const char *value, uint64_t most)
+static uint64_t read_number(enum option option, const char *value, uint64_t most)
 {
     char *end;
     unsigned long long number;
-    if (*value < '0' || *value > '9')
-        bad_usage(option, "expected a number");
     errno = 0;
     number = strtoull(value, &end, 10);
-    if (*end != '\0')
-        bad_usage(option, "expected a number");
-    if (errno != 0 || number > most)
-        bad_usage(option, most == UINT8_MAX ? "expected a number under 256" : "the number is over 64 bits");
+    if (*value < '0' || *value > '9' || *end != '\0' || errno != 0 || number > most)
+        bad_value(option, value);
     return number;
 }
 
-static uint8_t read_version(const char *option, const char *value)
+static uint8_t read_version(const char *value)
 {
     if (strcmp(value, "1.0") == 0)
         return 1;
     if (strcmp(value, "1.1") == 0)
         return 2;
-    return (uint8_t)read_number(option, value, UINT8_MAX);
+    return (uint8_t)read_number(VERSION, value, UINT8_MAX);
 }
 
 /* The option that the word names, which may have a value after =. */
-static enum option read_option(const char *word, const char **value)
+static enum option read_option(const struct arguments *a, const char *word, const char **value)
 {
     const char *equals = strchr(word, '=');
     size_t length = equals == NULL ? strlen(word) : (size_t)(equals - word);
@@ -107,7 +149,7 @@ static enum option read_option(const char *word, const char **value)
     for (int i = 0; i < OPTIONS; i++)
         if (strlen(options[i].name) == length && memcmp(word, options[i].name, length) == 0)
             return (enum option)i;
-    bad_usage(word, "no such option");
+    bad_option(a, word, "no such option");
     return OPTIONS;
 }
 
@@ -125,7 +167,7 @@ static void set_entity(struct arguments *a, const char *value)
 {
     const char *equals = strchr(value, '=');
     if (equals == NULL)
-        bad_usage("--entity", "expected NAME=TEXT");
+        bad_value(ENTITY, value);
     else
         add_entity(a, "--entity", value, (size_t)(equals - value), equals + 1);
 }
@@ -135,24 +177,26 @@ static void set_option(struct arguments *a, enum option option, char **values)
 {
     const char *name = options[option].name;
     switch (option) {
-    case LEVEL: a->level = (uint8_t)read_number(name, values[0], UINT8_MAX); break;
-    case VERSION: a->version = read_version(name, values[0]); break;
-    case DEPTH: a->depth = read_number(name, values[0], UINT64_MAX); break;
-    case LIMIT: a->limit = read_number(name, values[0], UINT64_MAX); break;
+    case LEVEL: a->level = (uint8_t)read_number(option, values[0], UINT8_MAX); break;
+    case VERSION: a->version = read_version(values[0]); break;
+    case DEPTH: a->depth = read_number(option, values[0], UINT64_MAX); break;
+    case LIMIT: a->limit = read_number(option, values[0], UINT64_MAX); break;
     case STRICT: a->strict = 1; break;
     case ENTITY: set_entity(a, values[0]); break;
     case EXTERNAL: add_entity(a, name, values[0], strlen(values[0]), NULL); break;
     case MARKED: a->marked = 1; break;
     case TABLE: a->list = values[0], a->pool = values[1]; break;
     case LINES: a->lines = 1; break;
+    case WITH_NULL: a->null = 1; break;
     case AT_START: a->side = START; break;
     case AT_END: a->side = END; break;
     case AS_ATTRIBUTE: a->node = ATTRIBUTE; break;
     case AS_TEXT: a->node = TEXT; break;
-    case ROOM: a->room = read_number(name, values[0], SIZE_MAX); break;
+    case ROOM: a->room = read_number(option, values[0], SIZE_MAX); break;
     case OF_CANONICAL: a->canonical = 1; break;
     case TAKE_EMPTY: a->empty = 1; break;
     case FROM_FILE: a->file = values[0]; break;
+    case CHOMP: a->chomp = 1; break;
     case JSON: a->json = 1; break;
     case OPTIONS: break;
     }
@@ -181,23 +225,37 @@ static void check_register(const struct arguments *a, unsigned seen)
 {
     if (a->action_name == NULL)
         bad_usage("register", "expected FILE and one of add, withdraw, count and list");
-    if (a->action == LIST && (a->text != NULL || a->file != NULL || a->canonical || a->empty))
+    if (a->action == LIST && (a->operand != NULL || a->file != NULL || a->chomp || a->canonical || a->empty))
         bad_usage("list", "takes no form");
     for (int i = 0; i < OPTIONS && !a->canonical; i++)
         if (seen & OF_VALUES & ON(i))
             bad_usage(options[i].name, "goes with --canonical");
 }
 
+/* The text, or - for standard input; after -- that is a text too. */
+static void take_operand(struct arguments *a, const char *word, int options_end)
+{
+    if (a->operand != NULL)
+        bad_usage(word, "a second text; put one text in quotes");
+    a->operand = word;
+    if (options_end || strcmp(word, "-") != 0)
+        a->text = word;
+}
+
 static void check_together(const struct arguments *a, unsigned seen)
 {
-    if (a->text != NULL && a->file != NULL)
+    if (a->operand != NULL && a->file != NULL)
         bad_usage("--file", "the text is given too");
+    if (a->chomp && a->text != NULL)
+        bad_usage("--chomp", "the text is no file, and is taken as it is");
     if (a->entity_count > 0 && a->list != NULL)
         bad_usage(seen & ON(ENTITY) ? "--entity" : "--external", "--table is given too");
     if (a->marked && a->list != NULL)
         bad_usage("--marked", "--table is given too; a marked list starts with the byte 3");
-    if (a->lines && a->json)
-        bad_usage("--lines", "--json is given too, which has the tokens");
+    if ((a->lines || a->null) && a->json)
+        bad_usage(a->lines ? "--lines" : "--null", "--json is given too, which has the tokens or entries");
+    if (a->null && a->command == REGISTER && a->action != LIST)
+        bad_usage("--null", "only list takes it");
     if (seen & ON(AT_START) && seen & ON(AT_END))
         bad_usage("--start", "--end is given too; for both ends give neither");
     if (seen & ON(AS_ATTRIBUTE) && seen & ON(AS_TEXT))
@@ -212,18 +270,20 @@ static void check_together(const struct arguments *a, unsigned seen)
 static int take_option(struct arguments *a, unsigned *seen, int argc, char **argv, int at)
 {
     const char *inside;
-    enum option option = read_option(argv[at], &inside);
+    enum option option = read_option(a, argv[at], &inside);
     int values = options[option].values;
     char *value = argv[at] + strlen(options[option].name) + 1;
     if (!(options[option].commands & ON(a->command)))
-        bad_usage(options[option].name, "not an option of this command");
+        bad_option(a, options[option].name, "not an option of this command");
     if (option != ENTITY && option != EXTERNAL && *seen & ON(option))
         bad_usage(options[option].name, "given twice");
     *seen |= ON(option);
     if (inside != NULL && values != 1)
         bad_usage(options[option].name, "takes no value after =");
-    if (inside == NULL && argc - at - 1 < values)
-        bad_usage(options[option].name, values == 1 ? "its value is missing" : "expected two files, LIST and POOL");
+    if (inside == NULL && argc - at - 1 < values) {
+        fprintf(stderr, "govlezna: %s: its value is missing, expected %s", options[option].name, expected(option));
+        end_usage();
+    }
     set_option(a, option, inside != NULL ? &value : argv + at + 1);
     return inside != NULL ? at + 1 : at + 1 + values;
 }
@@ -242,6 +302,13 @@ void read_arguments(int argc, char **argv, struct arguments *a)
             flush_output();
             exit(0);
         }
+    if (strcmp(argv[1], "--about") == 0) {
+        if (argc > 2)
+            bad_usage(argv[2], "--about stands alone");
+        put_about();
+        flush_output();
+        exit(0);
+    }
     *a = (struct arguments){ .command = read_command(argv[1]), .depth = DEEPEST, .limit = 10000,
                               .room = ROOM_IF_NOT_GIVEN };
     a->entities = allocate((size_t)argc * sizeof *a->entities);
@@ -252,10 +319,8 @@ void read_arguments(int argc, char **argv, struct arguments *a)
             at = take_option(a, &seen, argc, argv, at);
         else if (take_action(a, argv[at]))
             at++;
-        else if (a->text != NULL)
-            bad_usage(argv[at], "a second text; put one text in quotes");
         else
-            a->text = argv[at++];
+            take_operand(a, argv[at++], options_end);
     }
     check_together(a, seen);
 }

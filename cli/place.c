@@ -1,137 +1,54 @@
 /*
- * Where a refusal lies. The library's offsets are in the text that was being read, which may be the text of an entity, and
- * some refusals have none; the text and the reference are found here, by asking the library about shorter texts. On the way
- * there the trail says what was read of each text.
+ * Where a refusal lies. The library's offsets are in the text that was being read, which may be the text of an entity, and some
+ * refusals have none. So the texts are looked through here, in the order of the library's walk, for what it refused and for nothing
+ * else: whatever comes before was accepted. How many openings a text took at a depth is kept, so that each is looked through once, and
+ * once more on the way to the place: no more than what the library has walked. On the way the trail says what was read of each text.
  */
 #include "cli.h"
 
 #include <stdlib.h>
 #include <string.h>
 
+#define DEPTHS 129
+#define KEPT 16
+
 struct range {
     size_t start, end;
 };
 
-/* What the walk depends on. */
-struct walk {
-    const struct request *request;
-    struct span text;
-    const uint8_t *asked; /* what the library is asked about in the place of the text */
-    uint8_t *copy;        /* the same, where it is owned */
-    uint64_t depth, limit;
-    int strict;
+/* A definition of the table, and for each depth how many openings its text took, plus 1; 0: that is not known yet. */
+struct definition {
+    const uint8_t *command;
+    uint32_t took[DEPTHS];
 };
 
-static int attribute(const struct walk *w)
-{
-    return w->request->arguments->command != UNESCAPE;
-}
+/* What is looked for, and what is known so far. */
+struct search {
+    const struct request *request;
+    const struct outcome *outcome;
+    struct definition *definitions;
+    struct definition **slots; /* at the hash of the name, or the next that is free; their number is a power of two */
+    size_t slot_count;
+    uint64_t left; /* of the limit of openings */
+    struct trail *trail;
+    struct place place;
+};
 
-/* How many bytes the RestrictedChar of XML 1.1 here has; 0: it is none. */
-static size_t restricted(struct span text, size_t at)
-{
-    uint8_t byte = text.bytes[at];
-    if (byte < 0x20)
-        return byte != 0 && byte != '\t' && byte != '\n' && byte != '\r';
-    if (byte == 0xC2 && at + 1 < text.length && text.bytes[at + 1] < 0xA0 && text.bytes[at + 1] != 0x85)
-        return 2;
-    return byte == 0x7F;
-}
+/* A reference that was accepted, and how many openings it took. */
+struct accepted {
+    struct span reference;
+    uint64_t took;
+};
 
-/*
- * An entity's text as the library can be asked about it by itself, by the strict rule of XML 1.1: a RestrictedChar may stand in such a
- * text, but not in one that is given, and so letters take its place. What is between & and ; stays.
- */
-static uint8_t *as_given(struct span text)
-{
-    uint8_t *bytes = allocate(text.length);
-    int inside = 0;
-    memcpy(bytes, text.bytes, text.length);
-    for (size_t at = 0; at < text.length; at++) {
-        if (!inside)
-            memset(bytes + at, 'a', restricted(text, at));
-        inside = inside ? bytes[at] != ';' : bytes[at] == '&';
-    }
-    return bytes;
-}
+/* A text that is looked through: the one given has no name, and level 0. And some of its references so far. */
+struct reading {
+    struct span text, name;
+    uint64_t depth;
+    size_t level;
+    struct accepted kept[KEPT];
+};
 
-/* The library's answer on the first part of the text, of this length, without room for a result. */
-static uint32_t ask(const struct walk *w, size_t length, uint64_t limit, uint64_t answer[2])
-{
-    const struct request *q = w->request;
-    if (!attribute(w))
-        return govlezna_unescape(w->asked, length, q->list, q->list_length, q->pool, q->pool_length, NULL, 0, answer);
-    return (w->strict ? govlezna_normalize_attribute_value_strict : govlezna_normalize_attribute_value)(
-        w->asked, length, q->arguments->version, w->depth, limit, q->list, q->list_length, q->pool, q->pool_length, NULL, 0,
-        answer);
-}
-
-/* Is it refused? A result without room is no refusal. */
-static int refused(const struct walk *w, size_t length, uint64_t limit)
-{
-    uint64_t answer[2];
-    uint32_t number = ask(w, length, limit, answer);
-    return number != 0 && number != GOVLEZNA_NO_ROOM;
-}
-
-/* The first reference from `at` on, up to after its ; or, without one, to where the library gives up. 0: there is none. */
-static int next_reference(const struct walk *w, size_t at, struct range *found)
-{
-    const uint8_t *bytes = w->text.bytes;
-    while (at < w->text.length && bytes[at] != '&')
-        at++;
-    if (at == w->text.length)
-        return 0;
-    found->start = at++;
-    while (at < w->text.length && bytes[at] != ';' && (attribute(w) || bytes[at] != '&'))
-        at++;
-    found->end = at < w->text.length && bytes[at] == ';' ? at + 1 : at;
-    return 1;
-}
-
-/* The reference with this number, from 1, or the last one; how many there are up to it. */
-static size_t reference(const struct walk *w, size_t wanted, struct range *found)
-{
-    size_t count = 0;
-    struct range next = { 0, 0 };
-    *found = next;
-    while (count < wanted && next_reference(w, next.end, &next)) {
-        *found = next;
-        count++;
-    }
-    return count;
-}
-
-/* The reference at which a refused text is refused: a text is refused exactly if it holds the first such reference. */
-static struct range refused_reference(const struct walk *w)
-{
-    struct range found;
-    size_t accepted = 0, least = reference(w, SIZE_MAX, &found);
-    while (least - accepted > 1) {
-        size_t middle = accepted + (least - accepted) / 2;
-        reference(w, middle, &found);
-        if (refused(w, found.end, w->limit))
-            least = middle;
-        else
-            accepted = middle;
-    }
-    reference(w, least, &found);
-    return found;
-}
-
-/* The openings of an accepted first part: the least limit that accepts it. */
-static uint64_t openings(const struct walk *w, size_t length)
-{
-    uint64_t least = 0, enough = w->limit;
-    while (least < enough) {
-        uint64_t middle = least + (enough - least) / 2;
-        if (refused(w, length, middle))
-            least = middle + 1;
-        else
-            enough = middle;
-    }
-    return least;
-}
+/* ---- the table */
 
 static size_t little_endian(const uint8_t *bytes, size_t width)
 {
@@ -141,21 +58,20 @@ static size_t little_endian(const uint8_t *bytes, size_t width)
     return value;
 }
 
-/* The first command of a table that was checked that defines the name; NULL: there is none. */
-static const uint8_t *defined_by(const struct request *q, struct span name)
+static struct span name_of(const struct request *q, const uint8_t *command)
 {
-    for (const uint8_t *command = first_command(q); command[0] != 0; command += command_size(command)) {
-        size_t length = little_endian(command + 5, 1);
-        if (length == name.length && memcmp(q->pool + little_endian(command + 1, 4), name.bytes, length) == 0)
-            return command;
-    }
-    return NULL;
+    return (struct span){ q->pool + little_endian(command + 1, 4), command[5] };
 }
 
-enum bound look_up(const struct request *q, struct span name, struct span *text)
+static int same(struct span a, struct span b)
+{
+    return a.length == b.length && memcmp(a.bytes, b.bytes, a.length) == 0;
+}
+
+/* What the name is bound to by this command, the first that defines it; NULL: there is none. */
+static enum bound bound_by(const struct request *q, const uint8_t *command, struct span name, struct span *text)
 {
     static const char *const predefined[] = { "lt", "gt", "amp", "apos", "quot" };
-    const uint8_t *command = defined_by(q, name);
     if (command != NULL && command[0] == 2)
         return EXTERNAL_ENTITY;
     if (command != NULL) {
@@ -163,9 +79,81 @@ enum bound look_up(const struct request *q, struct span name, struct span *text)
         return TABLE_TEXT;
     }
     for (size_t i = 0; i < sizeof predefined / sizeof predefined[0]; i++)
-        if (name.length == strlen(predefined[i]) && memcmp(name.bytes, predefined[i], name.length) == 0)
+        if (same(name, (struct span){ (const uint8_t *)predefined[i], strlen(predefined[i]) }))
             return PREDEFINED;
     return UNKNOWN;
+}
+
+enum bound look_up(const struct request *q, struct span name, struct span *text)
+{
+    const uint8_t *command = first_command(q);
+    while (command[0] != 0 && !same(name_of(q, command), name))
+        command += command_size(command);
+    return bound_by(q, command[0] != 0 ? command : NULL, name, text);
+}
+
+/* Where the definition of this name is, or would be. */
+static struct definition **slot_of(const struct search *s, struct span name)
+{
+    size_t hash = 0;
+    for (size_t i = 0; i < name.length; i++)
+        hash = hash * 31 + name.bytes[i];
+    while (s->slots[hash & (s->slot_count - 1)] != NULL &&
+           !same(name_of(s->request, s->slots[hash & (s->slot_count - 1)]->command), name))
+        hash++;
+    return &s->slots[hash & (s->slot_count - 1)];
+}
+
+/* Of each name the first definition. */
+static void index_table(struct search *s)
+{
+    const struct request *q = s->request;
+    size_t count = 0;
+    for (const uint8_t *command = first_command(q); command[0] != 0; command += command_size(command))
+        count++;
+    for (s->slot_count = 16; s->slot_count < 2 * count; s->slot_count *= 2)
+        continue;
+    s->definitions = calloc(count + 1, sizeof *s->definitions);
+    s->slots = calloc(s->slot_count, sizeof *s->slots);
+    if (s->definitions == NULL || s->slots == NULL)
+        fail("out of memory", "the place of the refusal is not found");
+    count = 0;
+    for (const uint8_t *command = first_command(q); command[0] != 0; command += command_size(command)) {
+        struct definition **slot = slot_of(s, name_of(q, command));
+        if (*slot == NULL) {
+            *slot = &s->definitions[count++];
+            (*slot)->command = command;
+        }
+    }
+}
+
+/* ---- references */
+
+/* Attribute values are read, and what they open; only unescape copies the texts of the table. */
+static int attribute(const struct search *s)
+{
+    return s->request->arguments->command != UNESCAPE;
+}
+
+/* Where the next & is, or else the text's end. Mostly it is near. */
+static size_t next_reference(struct span text, size_t at)
+{
+    const uint8_t *far;
+    for (size_t near = text.length - at < 16 ? text.length : at + 16; at < near; at++)
+        if (text.bytes[at] == '&')
+            return at;
+    far = memchr(text.bytes + at, '&', text.length - at);
+    return far == NULL ? text.length : (size_t)(far - text.bytes);
+}
+
+/* Where the reference ends: after its ; or, without one, where the library gives up. */
+static size_t reference_end(const struct search *s, struct span text, size_t start)
+{
+    uint8_t other = attribute(s) ? ';' : '&';
+    size_t at = start + 1;
+    while (at < text.length && text.bytes[at] != ';' && text.bytes[at] != other)
+        at++;
+    return at < text.length && text.bytes[at] == ';' ? at + 1 : at;
 }
 
 int asked_name(struct span reference, struct span *name)
@@ -175,132 +163,196 @@ int asked_name(struct span reference, struct span *name)
            !(name->length == 3 && memcmp(name->bytes, "amp", 3) == 0);
 }
 
-/* Does the reference open an entity's text, and which? */
-static int opens(const struct walk *w, struct range reference, struct span *name, struct span *text)
+/* unescape asks for amp too. */
+static int asks(const struct search *s, struct span reference, struct span *name)
 {
-    struct span whole = { w->text.bytes + reference.start, reference.end - reference.start };
-    return attribute(w) && asked_name(whole, name) && look_up(w->request, *name, text) == TABLE_TEXT;
+    return asked_name(reference, name) || (!attribute(s) && reference.bytes[reference.length - 1] == ';' &&
+                                           same(*name, (struct span){ (const uint8_t *)"amp", 3 }));
 }
 
-/* The first byte at which a text read at depth 0 is refused; `newer`: by the line ends of XML 1.1. */
-static size_t first_stop(struct span text, int newer)
+/* May a reference name the character, or a text of the table hold it? `given`: the text given (section 2.2 of XML 1.0 and 1.1). */
+static int is_allowed(const struct search *s, uint64_t c, int given)
 {
+    if (c == 0 || c == 0xFFFE || c == 0xFFFF)
+        return 0;
+    if (c == '\t' || c == '\n' || c == '\r' || c == 0x85 || (c >= 0x20 && c < 0x7F) || c > 0x9F)
+        return 1;
+    return s->request->arguments->version == 2 ? !given : c >= 0x20;
+}
+
+/* Is it this number, between &# and ; , that was refused? */
+static int refused_number(struct search *s, struct span digits)
+{
+    uint64_t answer[2];
+    uint32_t number = govlezna_parse_number(digits.bytes, digits.length, answer);
+    s->place.character = answer[0];
+    return s->outcome->number == GOVLEZNA_FORBIDDEN_REFERENCE ? number == 0 && !is_allowed(s, answer[0], 0)
+                                                              : number == s->outcome->number;
+}
+
+/* Is it this reference that was refused? */
+static int refused_here(struct search *s, struct span reference, enum bound bound)
+{
+    switch (s->outcome->number) {
+    case GOVLEZNA_UNTERMINATED_ENTITY: return reference.bytes[reference.length - 1] != ';';
+    case GOVLEZNA_UNRECOGNIZED_ENTITY: return bound == UNKNOWN;
+    case GOVLEZNA_EXTERNAL_ENTITY: return bound == EXTERNAL_ENTITY;
+    case GOVLEZNA_TOO_MANY_OPENINGS: return bound == TABLE_TEXT && s->left == 0;
+    case GOVLEZNA_TOO_DEEP:
+    case GOVLEZNA_NO_DEPTH:
+    case GOVLEZNA_FORBIDDEN_CHARACTER: return 0;
+    default:
+        return reference.length > 2 && reference.bytes[1] == '#' &&
+               refused_number(s, (struct span){ reference.bytes + 2, reference.length - 3 });
+    }
+}
+
+/* ---- the search */
+
+static int found_at(struct search *s, const struct reading *r, size_t start, size_t end)
+{
+    s->place.known = 1;
+    s->place.text = r->text;
+    s->place.entity = r->name;
+    s->place.start = start;
+    s->place.end = end;
+    return 1;
+}
+
+/* What of the reference is shown: of 10 and 17 the &, of 11 the name, else all of it. */
+static int found_reference(struct search *s, const struct reading *r, struct range reference)
+{
+    switch (s->outcome->number) {
+    case GOVLEZNA_UNTERMINATED_ENTITY:
+    case GOVLEZNA_TOO_MANY_OPENINGS: return found_at(s, r, reference.start, reference.start + 1);
+    case GOVLEZNA_UNRECOGNIZED_ENTITY: return found_at(s, r, reference.start + 1, reference.end - 1);
+    default: return found_at(s, r, reference.start, reference.end);
+    }
+}
+
+/* This much of the text was read whole, then it went on or ended at the reference; none: at a character. */
+static void leave_trail(struct search *s, const struct reading *r, size_t read, struct range reference)
+{
+    s->trail->steps[r->level] = (struct step){ { r->text.bytes, read },
+                                               { r->text.bytes + reference.start, reference.end - reference.start } };
+    if (s->trail->count <= r->level)
+        s->trail->count = r->level + 1;
+}
+
+/* Is it a character between these two offsets that was refused? Its offset is the library's. */
+static int search_characters(struct search *s, const struct reading *r, size_t from, size_t to)
+{
+    size_t at = s->outcome->answer[0], length;
+    if (s->outcome->number != GOVLEZNA_FORBIDDEN_CHARACTER || at < from || at >= to || (r->text.bytes[at] & 0xC0) == 0x80)
+        return 0;
+    s->place.character = decode(r->text, at, &length);
+    if (is_allowed(s, s->place.character, r->level == 0))
+        return 0;
+    leave_trail(s, r, at, (struct range){ 0, 0 });
+    return found_at(s, r, at, at + length);
+}
+
+/* The first byte at which a text read at depth 0 is refused. An entity's text in a marked list has no line ends of XML 1.1. */
+static size_t first_stop(const struct request *q, const struct reading *r)
+{
+    int newer = q->arguments->version == 2 && !(r->level > 0 && q->list[0] == 3);
     const char *stops = newer ? "\t\n\r&\xC2\xE2" : "\t\n\r&";
     size_t at = 0;
-    while (at < text.length && (text.bytes[at] == 0 || strchr(stops, text.bytes[at]) == NULL))
+    while (at < r->text.length && (r->text.bytes[at] == 0 || strchr(stops, r->text.bytes[at]) == NULL))
         at++;
     return at;
 }
 
-/* Does the text have the line ends of XML 1.1? An entity's text in a marked list has none. */
-static int has_newer_line_ends(const struct request *q, int nested)
+/* Was a depth used up: the one given, or 128? */
+static int is_too_deep(uint32_t number)
 {
-    return q->arguments->version == 2 && !(nested && q->list[0] == 3);
+    return number == GOVLEZNA_TOO_DEEP || number == GOVLEZNA_NO_DEPTH;
 }
 
-/* What of the reference is shown: of 10 and 17 the &, of 11 the name, else all of it. */
-static void mark(struct place *place, uint32_t number, struct range reference)
+static int search_at_depth_0(struct search *s, const struct reading *r)
 {
-    place->start = reference.start;
-    place->end = reference.end;
-    if (number == GOVLEZNA_UNTERMINATED_ENTITY || number == GOVLEZNA_TOO_MANY_OPENINGS)
-        place->end = reference.start + 1;
-    if (number == GOVLEZNA_UNRECOGNIZED_ENTITY)
-        place->start++, place->end--;
+    size_t stop = first_stop(s->request, r);
+    if (search_characters(s, r, 0, r->text.length))
+        return 1;
+    return is_too_deep(s->outcome->number) && stop < r->text.length && found_at(s, r, stop, stop + 1);
 }
 
-/* The number and the length of the character here, in UTF-8 that was checked. */
-static uint64_t decode(struct span text, size_t at, size_t *length)
-{
-    uint8_t byte = text.bytes[at];
-    uint64_t character = byte;
-    *length = byte < 0x80 ? 1 : byte < 0xE0 ? 2 : byte < 0xF0 ? 3 : 4;
-    if (*length > 1)
-        character &= 0x7Fu >> *length;
-    for (size_t i = 1; i < *length; i++)
-        character = character << 6 | (text.bytes[at + i] & 0x3F);
-    return character;
-}
+static int search_text(struct search *s, struct reading *r);
 
-/* Is it the character at this offset of the text that may not stand there? Then the text before it is accepted. */
-static int stands_here(const struct walk *w, size_t at, struct place *place)
+/* Looks through the text that a reference opens; not where it is known that the limit is enough for it. */
+static int search_opened(struct search *s, const struct reading *r, struct definition *definition, struct span name, struct span text)
 {
-    uint64_t answer[2];
-    size_t length;
-    if (at >= w->text.length || (w->text.bytes[at] & 0xC0) == 0x80)
+    struct reading inner = { .text = text, .name = name, .depth = r->depth - 1, .level = r->level + 1 };
+    uint32_t *took = &definition->took[inner.depth];
+    uint64_t before = --s->left;
+    if (*took != 0 && *took - 1 <= s->left) {
+        s->left -= *took - 1;
         return 0;
-    place->character = decode(w->text, at, &length);
-    if (refused(w, at, w->limit) || ask(w, at + length, w->limit, answer) != GOVLEZNA_FORBIDDEN_CHARACTER)
+    }
+    if (search_text(s, &inner))
+        return 1;
+    *took = (uint32_t)(before - s->left + 1);
+    return 0;
+}
+
+/* Where the reference here is kept: by the three bytes after its &. */
+static struct accepted *kept_at(struct reading *r, size_t start)
+{
+    const uint8_t *bytes = r->text.bytes + start;
+    return &r->kept[r->text.length - start < 4 ? 0 : (bytes[1] + 3u * bytes[2] + 5u * bytes[3]) % KEPT];
+}
+
+/* Is the reference here one that is kept? It is accepted as it was before, if the limit is enough for it. */
+static int repeats(struct search *s, struct reading *r, struct range *reference)
+{
+    const struct accepted *kept = kept_at(r, reference->start);
+    size_t length = kept->reference.length;
+    if (length == 0 || length > r->text.length - reference->start || kept->took > s->left ||
+        memcmp(r->text.bytes + reference->start, kept->reference.bytes, length) != 0)
         return 0;
-    place->start = at;
-    place->end = at + length;
+    reference->end = reference->start + length;
+    s->left -= kept->took;
     return 1;
 }
 
-/* The character that a reference names, as &#1; does. */
-static uint64_t named(const struct walk *w, struct range reference)
+/* Looks at the reference, whose end it finds, and through what it opens. */
+static int search_reference(struct search *s, struct reading *r, struct range *reference)
 {
-    uint64_t answer[2];
-    govlezna_parse_number(w->text.bytes + reference.start + 2, reference.end - reference.start - 3, answer);
-    return answer[0];
-}
-
-static void enter(struct walk *w, struct span text)
-{
-    free(w->copy);
-    w->copy = w->strict && w->request->arguments->version == 2 ? as_given(text) : NULL;
-    w->asked = w->copy != NULL ? w->copy : text.bytes;
-    w->text = text;
-}
-
-/* This much of the text was read whole, then it went on or ended at the reference; none: at a character. */
-static void leave_trail(struct trail *trail, const struct walk *w, size_t read, struct range reference)
-{
-    if (trail == NULL)
-        return;
-    trail->steps[trail->count++] = (struct step){ { w->text.bytes, read },
-                                                  { w->text.bytes + reference.start, reference.end - reference.start } };
-}
-
-/* Goes into the texts of entities, down to the one where the walk ended. */
-static struct place find_in_walk(const struct request *q, const struct outcome *o, struct trail *trail)
-{
-    struct walk w = { q, { q->text, q->text_length }, q->text, NULL, q->arguments->depth, q->arguments->limit,
-                      is_forbidden(o->number) };
-    struct place place = { .known = 1 };
-    struct span name, text;
-    for (int nested = 0;; nested = 1) {
-        struct range found = { 0, 0 };
-        if (o->number == GOVLEZNA_FORBIDDEN_CHARACTER && stands_here(&w, o->answer[0], &place)) {
-            leave_trail(trail, &w, place.start, found);
-            break;
-        }
-        if (attribute(&w) && w.depth == 0) {
-            place.start = first_stop(w.text, has_newer_line_ends(q, nested));
-            place.end = place.start + 1;
-            break;
-        }
-        found = refused_reference(&w);
-        leave_trail(trail, &w, found.start, found);
-        if (!nested)
-            place.opened = found.start;
-        if (o->number == GOVLEZNA_TOO_MANY_OPENINGS)
-            w.limit -= openings(&w, found.start);
-        if (!opens(&w, found, &name, &text) || (o->number == GOVLEZNA_TOO_MANY_OPENINGS && w.limit == 0)) {
-            mark(&place, o->number, found);
-            if (o->number == GOVLEZNA_FORBIDDEN_REFERENCE)
-                place.character = named(&w, found);
-            break;
-        }
-        if (o->number == GOVLEZNA_TOO_MANY_OPENINGS)
-            w.limit--;
-        w.depth--;
-        enter(&w, text);
-        place.entity = name;
+    struct span whole = { r->text.bytes + reference->start, 0 }, name, text;
+    struct definition *definition = NULL;
+    enum bound bound = PREDEFINED;
+    uint64_t before = s->left;
+    reference->end = reference_end(s, r->text, reference->start);
+    whole.length = reference->end - reference->start;
+    if (asks(s, whole, &name)) {
+        definition = *slot_of(s, name);
+        bound = bound_by(s->request, definition != NULL ? definition->command : NULL, name, &text);
     }
-    place.text = w.text;
-    free(w.copy);
-    return place;
+    if (refused_here(s, whole, bound))
+        return found_reference(s, r, *reference);
+    if (bound == TABLE_TEXT && attribute(s) && search_opened(s, r, definition, name, text))
+        return 1;
+    *kept_at(r, reference->start) = (struct accepted){ whole, before - s->left };
+    return 0;
+}
+
+/* From left to right, into what is opened. 1: it is there, and the place is known. */
+static int search_text(struct search *s, struct reading *r)
+{
+    struct range reference = { 0, 0 };
+    if (attribute(s) && r->depth == 0)
+        return search_at_depth_0(s, r);
+    do {
+        reference.start = next_reference(r->text, reference.end);
+        if (search_characters(s, r, reference.end, reference.start))
+            return 1;
+        if (reference.start == r->text.length)
+            return 0;
+    } while (repeats(s, r, &reference) || !search_reference(s, r, &reference));
+    leave_trail(s, r, reference.start, reference);
+    if (r->level == 0)
+        s->place.opened = reference.start;
+    return 1;
 }
 
 /* Is it the walk over a text that was refused? */
@@ -310,15 +362,26 @@ static int ended_the_walk(uint32_t number)
            number == GOVLEZNA_EXTERNAL_ENTITY || number == GOVLEZNA_NO_DEPTH || is_forbidden(number);
 }
 
+static struct place find_in_walk(const struct request *q, const struct outcome *o, struct trail *trail)
+{
+    struct search s = { .request = q, .outcome = o, .left = q->arguments->limit, .trail = trail };
+    struct reading given = { .text = { q->text, q->text_length }, .depth = q->arguments->depth };
+    index_table(&s);
+    search_text(&s, &given);
+    free(s.definitions);
+    free(s.slots);
+    return s.place;
+}
+
 struct place find_place(const struct request *q, const struct outcome *o)
 {
-    struct place none = { .known = 0 };
+    struct trail trail = { .count = 0 };
     if (o->number == GOVLEZNA_NOT_UTF8)
         return (struct place){ .known = 1,
                                .text = { q->text, q->text_length },
                                .start = o->answer[0],
                                .end = o->answer[0] + 1 };
-    return ended_the_walk(o->number) ? find_in_walk(q, o, NULL) : none;
+    return ended_the_walk(o->number) ? find_in_walk(q, o, &trail) : (struct place){ .known = 0 };
 }
 
 int find_trail(const struct request *q, const struct outcome *o, struct trail *trail)

@@ -102,21 +102,20 @@ static uint32_t call(const struct request *q, struct store *s, uint64_t answer[2
     }
 }
 
-static void put_list(const struct store *s, int json)
+static void put_list(const struct arguments *a, const struct store *s)
 {
     const char *between = "";
     for (size_t at = 0; at < s->used;) {
         struct span form = { s->buffer + at + HEAD, number_at(s->buffer + at) };
         size_t count = number_at(s->buffer + at + 4);
-        if (json) {
+        if (a->json) {
             printf("%s[", between);
             json_string(form);
             printf(",%zu]", count);
             between = ",";
         } else {
             printf("%zu ", count);
-            fwrite(form.bytes, 1, form.length, stdout);
-            putchar('\n');
+            put_line(form, a->null);
         }
         at += HEAD + form.length;
     }
@@ -133,12 +132,12 @@ static void put_success(const struct arguments *a, const struct store *s, uint64
         json_number("used", s->used);
         if (a->action == LIST) {
             printf(",\"entries\":[");
-            put_list(s, 1);
+            put_list(a, s);
             putchar(']');
         }
         puts("}");
     } else if (a->action == LIST) {
-        put_list(s, 0);
+        put_list(a, s);
     } else {
         printf("%" PRIu64 "\n", count);
     }

@@ -4,7 +4,7 @@
 #include <inttypes.h>
 #include <string.h>
 
-/* How much of a long line is shown: this many characters up to the place, and in all. */
+/* How much of a long line is shown: this many columns up to the place, and in all. */
 #define BEFORE 50
 #define SHOWN 76
 
@@ -33,6 +33,18 @@ static size_t character(struct span text, size_t at)
     return 0;
 }
 
+uint64_t decode(struct span text, size_t at, size_t *length)
+{
+    uint8_t byte = text.bytes[at];
+    uint64_t character = byte;
+    *length = byte < 0x80 ? 1 : byte < 0xE0 ? 2 : byte < 0xF0 ? 3 : 4;
+    if (*length > 1)
+        character &= 0x7Fu >> *length;
+    for (size_t i = 1; i < *length; i++)
+        character = character << 6 | (text.bytes[at + i] & 0x3F);
+    return character;
+}
+
 /* Would the terminal take the character as something else than one to print? */
 static int control(const uint8_t *bytes, size_t length)
 {
@@ -55,18 +67,33 @@ static void show_character(FILE *to, struct span text, size_t at, size_t length)
         fwrite(text.bytes + at, 1, length, to);
 }
 
+/* How many columns it takes, as show_character writes it. */
+static int columns(struct span text, size_t at, size_t length)
+{
+    size_t same;
+    return length == 0 || control(text.bytes + at, length) ? 1 : width_of(decode(text, at, &same));
+}
+
+/* What a character counts for in the length of a line: one that takes no column counts too, or the line might not end. */
+static int counted(int width)
+{
+    return width > 0 ? width : 1;
+}
+
 /* Where to begin, so that the place is in sight. */
 static size_t line_start(struct span text, size_t place, int *whole)
 {
     size_t at = place;
-    for (int count = 0; at > 0 && !ends_line(text, at - 1); count++) {
-        if (count == BEFORE) {
+    for (int count = 0; at > 0 && !ends_line(text, at - 1);) {
+        size_t before = at - 1;
+        while (before > 0 && (text.bytes[before] & 0xC0) == 0x80)
+            before--;
+        count += counted(columns(text, before, character(text, before)));
+        if (count > BEFORE) {
             *whole = 0;
             return at;
         }
-        at--;
-        while (at > 0 && (text.bytes[at] & 0xC0) == 0x80)
-            at--;
+        at = before;
     }
     *whole = 1;
     return at;
@@ -78,11 +105,13 @@ static void show_line(struct span text, size_t start, size_t end)
     int whole, blanks = 0, carets = 0, shown = 0;
     size_t at = line_start(text, start, &whole);
     fputs(whole ? "    " : "    ...", stderr);
-    for (; shown < SHOWN && !ends_line(text, at); shown++) {
+    while (shown < SHOWN && !ends_line(text, at)) {
         size_t length = character(text, at);
+        int width = columns(text, at, length);
         show_character(stderr, text, at, length);
-        blanks += at < start;
-        carets += at >= start && at < end;
+        blanks += at < start ? width : 0;
+        carets += at >= start && at < end ? width : 0;
+        shown += counted(width);
         at += length > 0 ? length : 1;
     }
     fputs(ends_line(text, at) ? "\n" : "...\n", stderr);
@@ -102,11 +131,26 @@ void show_name(FILE *to, struct span name)
     }
 }
 
+void put_line(struct span text, int null)
+{
+    size_t length;
+    for (size_t at = 0; at < text.length; at += length) {
+        uint64_t number = decode(text, at, &length);
+        if (!null && control(text.bytes + at, length))
+            printf("\\u%04" PRIx64, number);
+        else if (!null && number == '\\')
+            fputs("\\\\", stdout);
+        else
+            fwrite(text.bytes + at, 1, length, stdout);
+    }
+    putchar(null ? '\0' : '\n');
+}
+
 static void show_place(const struct request *q, const struct place *place)
 {
     struct span given = { q->text, q->text_length };
     if (place->end > place->start + 1)
-        fprintf(stderr, ": bytes %zu to %zu", place->start, place->end - 1);
+        fprintf(stderr, ": bytes %zu..%zu", place->start, place->end);
     else
         fprintf(stderr, ": byte %zu", place->start);
     fputs(" of the text", stderr);
@@ -122,18 +166,42 @@ static void show_place(const struct request *q, const struct place *place)
     show_line(given, place->opened, place->opened + 1);
 }
 
-/* The option or the command of the list that a table is refused for. */
-static void show_command(const struct request *q, const struct outcome *o)
+/* Is it the table that is refused? */
+static int is_of_table(uint32_t number)
+{
+    return number >= GOVLEZNA_MALFORMED_LIST && number <= GOVLEZNA_INVALID_DEFINITION;
+}
+
+const char *refused_option(const struct request *q, const struct outcome *o, size_t *occurrence)
 {
     const uint8_t *command;
     size_t number[3] = { 0, 0, 0 };
-    if (q->arguments->entity_count == 0) {
-        fprintf(stderr, ": byte %" PRIu64 " of the list", o->answer[0]);
-        return;
-    }
+    if (!is_of_table(o->number) || q->arguments->entity_count == 0)
+        return NULL;
     for (command = first_command(q); command < q->list + o->answer[0]; command += command_size(command))
         number[command[0]]++;
-    fprintf(stderr, ": %s number %zu", command[0] == 1 ? "--entity" : "--external", number[command[0]] + 1);
+    *occurrence = number[command[0]] + 1;
+    return command[0] == 1 ? "--entity" : "--external";
+}
+
+/* The option that is refused, with its value where that is one that the library does not answer. */
+static void show_option(const struct request *q, const struct outcome *o)
+{
+    const struct arguments *a = q->arguments;
+    size_t occurrence;
+    const char *option = refused_option(q, o, &occurrence);
+    if (option != NULL)
+        fprintf(stderr, ": %s number %zu", option, occurrence);
+    else if (is_of_table(o->number))
+        fprintf(stderr, ": byte %" PRIu64 " of the list", o->answer[0]);
+    else if (o->number == GOVLEZNA_DEPTH_TOO_LARGE)
+        fprintf(stderr, ": --depth %" PRIu64, a->depth);
+    else if (o->number == GOVLEZNA_LIMIT_TOO_LARGE)
+        fprintf(stderr, ": --limit %" PRIu64, a->limit);
+    else if (o->number == GOVLEZNA_UNKNOWN_BYTE && a->command == ESCAPE)
+        fprintf(stderr, ": --level %u, expected %s", (unsigned)a->level, expected_level);
+    else if (o->number == GOVLEZNA_UNKNOWN_BYTE)
+        fprintf(stderr, ": --version %u, expected %s", (unsigned)a->version, expected_version);
 }
 
 int is_forbidden(uint32_t number)
@@ -158,8 +226,7 @@ void report_refusal(const struct request *q, const struct outcome *o)
 {
     struct place place = find_place(q, o);
     fprintf(stderr, "govlezna: refusal %" PRIu32 ": %s", o->number, words_of(o->number));
-    if (o->number >= GOVLEZNA_MALFORMED_LIST && o->number <= GOVLEZNA_INVALID_DEFINITION)
-        show_command(q, o);
+    show_option(q, o);
     if (o->number == GOVLEZNA_INVALID_CODEPOINT)
         fprintf(stderr, ", %" PRIu64, o->answer[0]);
     if (is_forbidden(o->number))

@@ -1,6 +1,7 @@
 /*
  * The calls from C: a panel's name is checked, references are read, text is written as an attribute and as CDATA; with an
- * entity table a name is unescaped, normalized and given its canonical form, and the depth that it needs is found.
+ * entity table a name is unescaped, normalized and given its canonical form, and the depth that it needs is found; a name is
+ * read strictly, a list is taken apart into tokens, and forms are counted in a register.
  */
 #include "govlezna.h"
 
@@ -56,13 +57,34 @@ static void write_attribute(const char *text)
     show_text("attribute", number, answer, out);
 }
 
-static void write_cdata(const char *text)
+/*
+ * Each call checks all that it is handed; so it gets windows, each from where the last one left off to behind the next '>'.
+ * Such an end is within no character and no `]]>`. A window without a cut is a part of the section.
+ */
+static void write_cdata(const char *text, size_t length)
 {
     uint64_t answer[2];
-    struct govlezna_cursor cursor = { 0, 0 };
-    while (govlezna_cdata_next(bytes(text), strlen(text), &cursor, answer) == 0)
-        printf("<![CDATA[%.*s]]>", (int)answer[1], text + answer[0]);
-    printf("\n");
+    size_t at = 0;
+    uint32_t number = govlezna_check_utf8(bytes(text), length, answer);
+    if (number == 0)
+        printf("<![CDATA[");
+    while (number == 0) {
+        struct govlezna_cursor cursor = { 0, 0 };
+        const char *mark = at < length ? (const char *)memchr(text + at + 1, '>', length - at - 1) : NULL;
+        size_t window = mark == NULL ? length - at : (size_t)(mark + 1 - (text + at));
+        number = govlezna_cdata_next(bytes(text + at), window, &cursor, answer);
+        if (number != 0)
+            break;
+        fwrite(text + at, 1, answer[1], stdout);
+        at += answer[1];
+        if (cursor.finished && at == length) {
+            printf("]]>\n");
+            return;
+        }
+        if (!cursor.finished)
+            printf("]]><![CDATA[");
+    }
+    show_refusal(number, answer);
 }
 
 /* An entity table. The list ends with command 0: start with { { 0 }, 1, { 0 }, 0 }, the empty table. */
@@ -173,6 +195,71 @@ static void use_table(void)
     check_table(&table);
 }
 
+/* Only characters that the XML version allows: 1 for 1.0, 2 for 1.1. */
+static void read_strictly(const char *text, uint8_t version)
+{
+    static const uint8_t no_table[] = { 0 };
+    uint64_t answer[2];
+    uint8_t out[64];
+    uint32_t number = govlezna_normalize_attribute_value_strict(bytes(text), strlen(text), version, 8, 100, no_table,
+                                                                sizeof no_table, NULL, 0, out, sizeof out, answer);
+    show_text("strict", number, answer, out);
+}
+
+/* Here too the call gets windows: from where the last one left off up to the next space. */
+static void show_tokens(const uint8_t *list, size_t length)
+{
+    uint64_t answer[2], offset;
+    for (size_t at = 0; at < length; at += offset) {
+        const uint8_t *space = (const uint8_t *)memchr(list + at + 1, ' ', length - at - 1);
+        size_t window = space == NULL ? length - at : (size_t)(space - (list + at));
+        uint32_t number;
+        offset = 0;
+        number = govlezna_next_nmtoken(list + at, window, &offset, answer);
+        if (number != 0) {
+            show_refusal(number, answer);
+            return;
+        }
+        printf("token: %.*s\n", (int)answer[1], (const char *)list + at + answer[0]);
+    }
+}
+
+static void read_tokens(const char *text)
+{
+    static const uint8_t no_table[] = { 0 };
+    uint64_t answer[2];
+    uint8_t scratch[64], out[64];
+    uint32_t number = govlezna_normalize_nmtokens(bytes(text), strlen(text), 1, 8, 100, no_table, sizeof no_table, NULL, 0,
+                                                  scratch, sizeof scratch, out, sizeof out, answer);
+    if (number == 0)
+        show_tokens(out, answer[0]);
+    else
+        show_refusal(number, answer);
+}
+
+static void show_count(const char *what, const char *form, uint32_t number, const uint64_t answer[2])
+{
+    printf("%s %s: ", what, form);
+    if (number == 0)
+        printf("%" PRIu64 "\n", answer[0]);
+    else
+        show_refusal(number, answer);
+}
+
+/* The buffer and its used length are the register: what is in it lasts as long as they do. */
+static void use_register(void)
+{
+    uint64_t answer[2], used = 0;
+    uint8_t buffer[24];
+    show_count("add", "Fock", govlezna_register_add(bytes("Fock"), 4, buffer, sizeof buffer, &used, answer), answer);
+    show_count("add", "Fock", govlezna_register_add(bytes("Fock"), 4, buffer, sizeof buffer, &used, answer), answer);
+    show_count("add", "Baum", govlezna_register_add(bytes("Baum"), 4, buffer, sizeof buffer, &used, answer), answer);
+    show_count("add", "Gaffel", govlezna_register_add(bytes("Gaffel"), 6, buffer, sizeof buffer, &used, answer), answer);
+    show_count("withdraw", "Baum", govlezna_register_withdraw(bytes("Baum"), 4, buffer, sizeof buffer, &used, answer), answer);
+    show_count("withdraw", "Baum", govlezna_register_withdraw(bytes("Baum"), 4, buffer, sizeof buffer, &used, answer), answer);
+    show_count("count", "Fock", govlezna_register_count(bytes("Fock"), 4, buffer, sizeof buffer, used, answer), answer);
+}
+
 int main(void)
 {
     check("Gro\xC3\x9Fsegel 3");
@@ -184,7 +271,13 @@ int main(void)
     read_number("xD800");
     read_number("0");
     write_attribute("a<b\t");
-    write_cdata("]]>]]>");
+    write_cdata("]]>]]>", 6);
+    write_cdata("a > b\xFF", 6);
     use_table();
+    read_strictly("Gro&#xDF;segel", 1);
+    read_strictly("Fock&#1;", 1);
+    read_strictly("Fock\1", 2);
+    read_tokens(" p1\t p2  p3 ");
+    use_register();
     return 0;
 }

@@ -8,7 +8,7 @@
  * govlezna_normalize_nmtokens, whose scratch then holds the value.
  *
  * To learn how long a result is, call with an output of length 0: GOVLEZNA_NO_ROOM gives the length needed, and success
- * means that the result is empty.
+ * means that the result is empty. govlezna_normalize_nmtokens is asked for two lengths, one after the other.
  *
  * What a caller owes:
  * - `text`, `list` and `pool` point to as many readable bytes as their length says, of any value; `out` and `scratch` to
@@ -16,6 +16,7 @@
  *   list { 0 } of length 1.
  * - `answer` points to two writable words, `cursor` to a cursor, `offset` to a word; `form` and `buffer` of a register are as
  *   `text` and `out` (for govlezna_register_count both are read alone), `used` points to a writable word.
+ * - `answer`, `cursor`, `offset` and `used` are aligned as C aligns their types, to 8 bytes. Bytes may lie anywhere.
  * - What a call may write overlaps nothing else that it is lent.
  * Nothing is kept after a call, and no call allocates: calls on different buffers may run at the same time.
  * A call takes at most 72 KiB of stack: about 550 bytes for each level of depth (measured at depth 128: 72,072 bytes).
@@ -31,8 +32,20 @@
 #include <stddef.h>
 #include <stdint.h>
 
+/* Of this header and of the library that comes with it; the first number changes where a caller has to change. */
+#define GOVLEZNA_VERSION "1.0.0"
+
 #ifdef __cplusplus
 extern "C" {
+#endif
+
+/* The number that a call returns has to be read: what it writes is the result only where that is 0. */
+#if (defined(__cplusplus) && __cplusplus >= 201703L) || (!defined(__cplusplus) && __STDC_VERSION__ > 201710L)
+#define GOVLEZNA_MUST_USE [[nodiscard]]
+#elif defined(__GNUC__)
+#define GOVLEZNA_MUST_USE __attribute__((warn_unused_result))
+#else
+#define GOVLEZNA_MUST_USE
 #endif
 
 /*
@@ -79,6 +92,7 @@ extern "C" {
  * Refusals, in this order: TOO_LONG (text over 16,777,216 bytes; answer[0]: its length); NOT_UTF8 (answer[0]: the end
  * of its longest well-formed prefix).
  */
+GOVLEZNA_MUST_USE
 uint32_t govlezna_check_utf8(const uint8_t *text, size_t text_length, uint64_t answer[2]);
 
 /*
@@ -91,6 +105,7 @@ uint32_t govlezna_check_utf8(const uint8_t *text, size_t text_length, uint64_t a
  * writes to `out`.
  * Time: the text is read once more to count, but not where `out` has six times its length; then once to write.
  */
+GOVLEZNA_MUST_USE
 uint32_t govlezna_escape(const uint8_t *text, size_t text_length, uint8_t level, uint8_t *out, size_t out_length,
                          uint64_t answer[2]);
 
@@ -105,6 +120,7 @@ uint32_t govlezna_escape(const uint8_t *text, size_t text_length, uint8_t level,
  * Time: as govlezna_escape.
  * Example: `<a>` TAB gives `&lt;a>&#x9;`.
  */
+GOVLEZNA_MUST_USE
 uint32_t govlezna_c14n_attribute(const uint8_t *text, size_t text_length, uint8_t *out, size_t out_length,
                                  uint64_t answer[2]);
 
@@ -119,6 +135,7 @@ uint32_t govlezna_c14n_attribute(const uint8_t *text, size_t text_length, uint8_
  * Time: as govlezna_escape.
  * Example: `<a>` TAB CR gives `&lt;a&gt;`, a TAB and `&#xD;`.
  */
+GOVLEZNA_MUST_USE
 uint32_t govlezna_c14n_text(const uint8_t *text, size_t text_length, uint8_t *out, size_t out_length,
                             uint64_t answer[2]);
 
@@ -131,6 +148,7 @@ uint32_t govlezna_c14n_text(const uint8_t *text, size_t text_length, uint8_t *ou
  * byte that is no digit, or a value over 4,294,967,295); ILLEGAL_CHARACTER (the value 0); INVALID_CODEPOINT (a surrogate
  * or over 1,114,111; answer[0]: the value).
  */
+GOVLEZNA_MUST_USE
 uint32_t govlezna_parse_number(const uint8_t *text, size_t text_length, uint64_t answer[2]);
 
 /*
@@ -142,6 +160,7 @@ uint32_t govlezna_parse_number(const uint8_t *text, size_t text_length, uint64_t
  * None writes to `out`.
  * Time: the text is read once more to count, but not where `out` is as long as it; then once to write.
  */
+GOVLEZNA_MUST_USE
 uint32_t govlezna_normalize_eols(const uint8_t *text, size_t text_length, uint8_t version, uint8_t *out,
                                  size_t out_length, uint64_t answer[2]);
 
@@ -178,6 +197,7 @@ uint32_t govlezna_normalize_eols(const uint8_t *text, size_t text_length, uint8_
  * Example: the table above gives 1, marked too. Without its last byte it is refused by MALFORMED_LIST, first 12; so is a
  * list of no bytes, first 0, and { 3, 3, 0 }, first 1.
  */
+GOVLEZNA_MUST_USE
 uint32_t govlezna_check_table(const uint8_t *list, size_t list_length, const uint8_t *pool, size_t pool_length,
                               uint64_t answer[2]);
 
@@ -196,6 +216,7 @@ uint32_t govlezna_check_table(const uint8_t *list, size_t list_length, const uin
  * Example: with the table above `&lt;&e; &#65;` gives `<sail A`; `a&b;` is refused by UNRECOGNIZED_ENTITY, first 2,
  * second 3.
  */
+GOVLEZNA_MUST_USE
 uint32_t govlezna_unescape(const uint8_t *text, size_t text_length, const uint8_t *list, size_t list_length,
                            const uint8_t *pool, size_t pool_length, uint8_t *out, size_t out_length,
                            uint64_t answer[2]);
@@ -221,6 +242,9 @@ uint32_t govlezna_unescape(const uint8_t *text, size_t text_length, const uint8_
  * offset of &, answer[1]: that text's length), UNEXPECTED_SIGN, INVALID_NUMBER, ILLEGAL_CHARACTER, INVALID_CODEPOINT (as
  * in govlezna_parse_number), UNRECOGNIZED_ENTITY (no such name; answer[0] and answer[1]: its start and end),
  * EXTERNAL_ENTITY (answer[0]: the offset of &), TOO_MANY_OPENINGS (the limit is used up; answer[0]: the offset of &).
+ * Which text the offsets are in the answer does not say. They are in `text` itself where the same call with limit 0, which
+ * opens nothing, is refused by another number than TOO_MANY_OPENINGS; else a caller cannot tell by it, and has to look
+ * through the texts, as the command line program does.
  * Time: the text is walked at most twice, to count and to write. A text of the table is walked at its first opening, and
  * mostly not again: what up to sixteen of them gave is kept during the call. Openings times the longest text of the
  * table bound what the walk takes beyond its own text, so `limit` is the caller's hold on time. A name that is not kept
@@ -228,8 +252,11 @@ uint32_t govlezna_unescape(const uint8_t *text, size_t text_length, const uint8_
  * Example: version 0, depth 2, limit 10, the table above: `&e;` TAB `&#9;` gives `sail`, a space and a TAB, openings 1.
  * With limit 0 it is refused by TOO_MANY_OPENINGS, first 0; at depth 0 by TOO_DEEP. With the list { 2, 0,0,0,0, 1, 0 }
  * in the place of the table's, which names e as external, it is refused by EXTERNAL_ENTITY, first 0. With the pool `e`
- * CR LF and the list { 1, 0,0,0,0, 1, 1,0,0,0, 2,0, 0 } `&e;` gives one space, with a 3 before that list two.
+ * CR LF and the list { 1, 0,0,0,0, 1, 1,0,0,0, 2,0, 0 } `&e;` gives one space, with a 3 before that list two. With the
+ * pool `e&b;` and the list { 1, 0,0,0,0, 1, 1,0,0,0, 3,0, 0 } `&e;` is refused by UNRECOGNIZED_ENTITY, first 1, second 2,
+ * which are in the table's text: with limit 0 it is refused by TOO_MANY_OPENINGS.
  */
+GOVLEZNA_MUST_USE
 uint32_t govlezna_normalize_attribute_value(const uint8_t *text, size_t text_length, uint8_t version, uint64_t depth,
                                             uint64_t limit, const uint8_t *list, size_t list_length,
                                             const uint8_t *pool, size_t pool_length, uint8_t *out, size_t out_length,
@@ -273,6 +300,7 @@ uint32_t govlezna_least_depth(const uint8_t *text, size_t text_length, uint8_t v
  * Time: as govlezna_normalize_attribute_value; what is written is escaped on the way.
  * Example: with the settings above `&e;` TAB `&#9;` gives `sail &#9;`, openings 1, and the scratch begins with 9, 0, 0, 0.
  */
+GOVLEZNA_MUST_USE
 uint32_t govlezna_canonical_form(const uint8_t *text, size_t text_length, uint8_t version, uint64_t depth,
                                  uint64_t limit, const uint8_t *list, size_t list_length, const uint8_t *pool,
                                  size_t pool_length, uint8_t *scratch, size_t scratch_length, uint8_t *out,
@@ -296,6 +324,7 @@ uint32_t govlezna_canonical_form(const uint8_t *text, size_t text_length, uint8_
  * Example: version 2, depth 1, limit 0, no table: `a&#1;` gives `a` and U+0001. These two characters are refused by
  * FORBIDDEN_CHARACTER, first 1; and `a&#1;` in version 0 by FORBIDDEN_REFERENCE.
  */
+GOVLEZNA_MUST_USE
 uint32_t govlezna_normalize_attribute_value_strict(const uint8_t *text, size_t text_length, uint8_t version,
                                                    uint64_t depth, uint64_t limit, const uint8_t *list,
                                                    size_t list_length, const uint8_t *pool, size_t pool_length,
@@ -315,6 +344,7 @@ uint32_t govlezna_normalize_attribute_value_strict(const uint8_t *text, size_t t
  * Example: version 2, depth 1, limit 0, no table: `<&#1;` gives `&lt;` and U+0001, which itself is refused by
  * FORBIDDEN_CHARACTER, first 4.
  */
+GOVLEZNA_MUST_USE
 uint32_t govlezna_canonical_form_strict(const uint8_t *text, size_t text_length, uint8_t version, uint64_t depth,
                                         uint64_t limit, const uint8_t *list, size_t list_length, const uint8_t *pool,
                                         size_t pool_length, uint8_t *scratch, size_t scratch_length, uint8_t *out,
@@ -330,11 +360,15 @@ uint32_t govlezna_canonical_form_strict(const uint8_t *text, size_t text_length,
  * the normalized value, which is at least as long; the rest of `scratch` and of `out` keep their bytes.
  * Refusals, in this order: those of govlezna_normalize_attribute_value without its last; NO_SCRATCH (scratch shorter
  * than the normalized value; answer[0]: its length); NO_ROOM (answer[0]: the length of the result). None writes to `out`,
- * and of them NO_ROOM alone to the scratch: it holds the normalized value, as after success.
+ * and of them NO_ROOM alone to the scratch: it holds the normalized value, as after success. So the two lengths are asked
+ * for one after the other: without scratch and output NO_SCRATCH gives the scratch's; with that scratch NO_ROOM gives the
+ * output's.
  * Time: as govlezna_normalize_attribute_value; then the value is read once, and once more where `out` is shorter than it.
  * Example: version 0, depth 1, limit 0, no table: two spaces, `p1`, TAB, a space, `p2&#10;p3` and a space give the 8 bytes
- * `p1`, space, `p2`, LF, `p3`; the value in the scratch has 12.
+ * `p1`, space, `p2`, LF, `p3`; the value in the scratch has 12. Without both it is refused by NO_SCRATCH, first 12, and with
+ * a scratch of 12 bytes and no output by NO_ROOM, first 8.
  */
+GOVLEZNA_MUST_USE
 uint32_t govlezna_normalize_nmtokens(const uint8_t *text, size_t text_length, uint8_t version, uint64_t depth,
                                      uint64_t limit, const uint8_t *list, size_t list_length, const uint8_t *pool,
                                      size_t pool_length, uint8_t *scratch, size_t scratch_length, uint8_t *out,
@@ -352,6 +386,7 @@ uint32_t govlezna_normalize_nmtokens(const uint8_t *text, size_t text_length, ui
  * that a window's end cuts goes on in the next.
  * Example: of `p1 p2` from 0 start 0 and length 2, then 3 and 2, then NO_MORE with the offset 5.
  */
+GOVLEZNA_MUST_USE
 uint32_t govlezna_next_nmtoken(const uint8_t *text, size_t text_length, uint64_t *offset, uint64_t answer[2]);
 
 /*
@@ -361,8 +396,11 @@ uint32_t govlezna_next_nmtoken(const uint8_t *text, size_t text_length, uint64_t
  * govlezna_trim_xml_end, else the text's length.
  * Refusals, in this order: TOO_LONG; NOT_UTF8.
  */
+GOVLEZNA_MUST_USE
 uint32_t govlezna_trim_xml_start(const uint8_t *text, size_t text_length, uint64_t answer[2]);
+GOVLEZNA_MUST_USE
 uint32_t govlezna_trim_xml_end(const uint8_t *text, size_t text_length, uint64_t answer[2]);
+GOVLEZNA_MUST_USE
 uint32_t govlezna_trim_xml_spaces(const uint8_t *text, size_t text_length, uint64_t answer[2]);
 
 /* Where the next piece starts, and whether the last one was handed over: 0, or any other number for yes. No padding. */
@@ -379,11 +417,17 @@ struct govlezna_cursor {
  * `finished` becomes 1 and the offset stays.
  * Refusals, in this order: TOO_LONG; NOT_UTF8; CURSOR_OUTSIDE (the offset is past the end or inside a character;
  * answer[0]: the offset). After these, where the last piece was handed over before, NO_MORE. The cursor stays as it is.
- * Time: each call checks all that it is handed, so the pieces of a text that is handed over whole take the square of its
- * length. Check a long text once, by govlezna_check_utf8, and hand over windows of it, each with a cursor { 0, 0 }: from
- * the last cut on, or from the last window's end where it had none, up to an end between two characters and not within
- * `]]>`. The last piece of a window goes on in the next window.
+ * Time: each call checks all that it is handed, so the pieces of a text that is handed over whole, or from the last cut on,
+ * take the square of its length. Check a long text once, by govlezna_check_utf8, and hand over windows of it, each with a
+ * cursor { 0, 0 }, at first from 0 on:
+ *   1. the window goes to behind the next > after its first byte, or else to the text's end: so it cuts no character and
+ *      no `]]>`
+ *   2. the call's piece is the next part of the piece of the whole text
+ *   3. where the cursor is not finished, a piece ends here, and the next window begins at this cut
+ *   4. where it is, the next window begins at this one's end; at the text's end the last piece ends
+ * Example: `]]>]]>` by the windows 0 to 3 (2 bytes, a cut), 2 to 6 (3 bytes, a cut) and 5 to 6 (1 byte, finished).
  */
+GOVLEZNA_MUST_USE
 uint32_t govlezna_cdata_next(const uint8_t *text, size_t text_length, struct govlezna_cursor *cursor,
                              uint64_t answer[2]);
 
@@ -413,6 +457,7 @@ uint32_t govlezna_cdata_next(const uint8_t *text, size_t text_length, struct gov
  * Example: *used is 0 and `buffer` has 9 bytes: `a` gives count 1, used length 9, the bytes { 1,0,0,0, 1,0,0,0, 'a' }.
  * `a` again gives count 2, used length 9; then the empty form is refused by REGISTER_FULL.
  */
+GOVLEZNA_MUST_USE
 uint32_t govlezna_register_add(const uint8_t *form, size_t form_length, uint8_t *buffer, size_t buffer_length,
                                uint64_t *used, uint64_t answer[2]);
 
@@ -427,6 +472,7 @@ uint32_t govlezna_register_add(const uint8_t *form, size_t form_length, uint8_t 
  * of 0; then it is refused by ABSENT_FORM. With *used 8 the bytes { 1,0,0,0, 1,0,0,0, 'a' } are refused by
  * DAMAGED_REGISTER.
  */
+GOVLEZNA_MUST_USE
 uint32_t govlezna_register_withdraw(const uint8_t *form, size_t form_length, uint8_t *buffer, size_t buffer_length,
                                     uint64_t *used, uint64_t answer[2]);
 
@@ -437,6 +483,7 @@ uint32_t govlezna_register_withdraw(const uint8_t *form, size_t form_length, uin
  * Refusals, in this order: TOO_LONG; NOT_UTF8; DAMAGED_REGISTER, all as in govlezna_register_add.
  * Example: used 9 and the bytes { 1,0,0,0, 2,0,0,0, 'a' }: `a` gives 2, `b` gives 0.
  */
+GOVLEZNA_MUST_USE
 uint32_t govlezna_register_count(const uint8_t *form, size_t form_length, const uint8_t *buffer, size_t buffer_length,
                                  uint64_t used, uint64_t answer[2]);
 

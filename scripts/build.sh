@@ -1,9 +1,10 @@
 # Sourced by the scripts, after tools.sh: builds what is missing or older than its sources. `root` is the repository's
 # folder. Progress goes to standard error.
 
-version=1.0.0
+version=$(sed -n 's/^#define GOVLEZNA_VERSION "\(.*\)"$/\1/p' "$root/include/govlezna.h")
 build=$root/target/build
 archive=$root/target/staticlib/libgovlezna.a
+started=$root/target/library.start # while the library is proved and compiled; where nobody does that, it was cut off
 warnings=(-Wall -Wextra -Werror -pedantic)
 
 # is_older FILE SOURCE..: is the file missing, or older than one of these files and folders?
@@ -23,6 +24,49 @@ library_crates() {
                 if (needed[name[i]]) { parts = split(uses[name[i]], part, " "); for (k = 1; k <= parts; k++) needed[part[k]] = 1 }
             for (i = 1; i <= count; i++) if (needed[name[i]]) print name[i]
         }' "$root/crates.txt"
+}
+
+# locked COMMAND..: runs it while no other run proves or builds here. What it starts holds the lock too, as long as it runs. The lock is on
+# this file, since rt ci empties target/; where the file system has no locks, it runs without.
+locked() {
+    local lock status=0
+    if [ -n "${building:-}" ]; then
+        "$@"
+        return
+    fi
+    exec {lock}<"$root/scripts/build.sh"
+    flock --nonblock "$lock" || status=$?
+    if [ "$status" -eq 1 ]; then
+        echo "another run proves or builds here: waiting for it" >&2
+        flock "$lock"
+    fi
+    building=1 status=0
+    "$@" || status=$?
+    building=
+    exec {lock}<&-
+    return "$status"
+}
+
+# interruptible COMMAND..: runs it in a process group of its own, which ends where this script is interrupted: what a shell starts in the
+# background, as rt does its provers, does not mind ^C.
+interruptible() {
+    local status=0 signal
+    set -m
+    ("$@") </dev/null &
+    group=$!
+    set +m
+    for signal in INT TERM HUP; do trap "end_group $signal" "$signal"; done
+    wait "$group" || status=$?
+    trap - INT TERM HUP
+    return "$status"
+}
+
+# Ends what was started, and then this script by the same signal.
+end_group() { # SIGNAL
+    trap - INT TERM HUP
+    kill -TERM -- "-$group" 2>/dev/null
+    wait "$group"
+    kill "-$1" $$
 }
 
 # Says each crate that is proved, as long as the file START is there and this script runs. rt leaves its verdict on a crate
@@ -48,9 +92,10 @@ prove_and_compile() { # CRATE..
     cd "$root" && rt check "$@" && rt staticlib govlezna
 }
 
-# Is the library missing, or older than a source of its crates?
+# Is the library missing, half made, or older than a source of its crates?
 archive_is_old() {
     local crate folder sources=("$root/crates.txt")
+    [ ! -e "$started" ] || return 0
     for crate in $(library_crates); do
         for folder in "$root/crates/$crate"/{src,specs,proofs}; do
             if [ -d "$folder" ]; then sources+=("$folder"); fi
@@ -74,35 +119,62 @@ ready() {
 
 # Proves what is not proved yet, and compiles the library.
 build_archive() {
-    local crates start=$root/target/library.start log=$root/target/library.log
     archive_is_old || return 0
-    ready || return 1
+    ready && locked build_archive_now
+}
+
+# Another run may have built it while this one waited.
+build_archive_now() {
+    local crates watcher log=$root/target/library.log
+    archive_is_old || return 0
     crates=$(library_crates)
     echo "proving $(echo "$crates" | wc -l) crates and compiling the library; the first time takes some minutes" >&2
-    touch "$start"
-    watch_proofs "$start" $crates &
-    if (prove_and_compile ${crates%govlezna}) >"$log" 2>&1; then
+    touch "$started"
+    watch_proofs "$started" $crates &
+    watcher=$!
+    if interruptible prove_and_compile ${crates%govlezna} >"$log" 2>&1; then
         touch "$archive"
     else
         tail -n 20 "$log" >&2
         rm -f "$archive"
     fi
-    rm -f "$start"
-    wait $!
+    rm -f "$started"
+    wait "$watcher"
     [ -e "$archive" ]
 }
 
 # The archive's code is position independent, so that the shared library is made of it; it exports the calls alone.
+shared_is_old() {
+    archive_is_old || is_older "$build/libgovlezna.so" "$archive" "$root/scripts/govlezna.map"
+}
+
 build_shared() {
-    archive_is_old || is_older "$build/libgovlezna.so" "$archive" "$root/scripts/govlezna.map" || return 0
-    ready compiler && build_archive || return 1
-    "${compiler[@]}" -shared -o "$build/libgovlezna.so" -Wl,--whole-archive "$archive" -Wl,--no-whole-archive \
+    shared_is_old || return 0
+    ready compiler && locked build_shared_now
+}
+
+build_shared_now() {
+    shared_is_old || return 0
+    build_archive_now || return 1
+    "${compiler[@]}" -shared -o "$build/libgovlezna.so.new" -Wl,--whole-archive "$archive" -Wl,--no-whole-archive \
         "-Wl,--version-script=$root/scripts/govlezna.map" "-Wl,-soname,libgovlezna.so.${version%%.*}" \
-        -Wl,-z,defs -Wl,-z,now
+        -Wl,-z,defs -Wl,-z,now &&
+        mv -f "$build/libgovlezna.so.new" "$build/libgovlezna.so"
+}
+
+cli_is_old() {
+    archive_is_old || is_older "$build/govlezna" "$archive" "$root/cli" "$root/include"
 }
 
 build_cli() {
-    archive_is_old || is_older "$build/govlezna" "$archive" "$root/cli" "$root/include" || return 0
-    ready compiler && build_archive || return 1
-    "${compiler[@]}" -std=c11 -O2 "${warnings[@]}" "-I$root/include" "$root"/cli/*.c "$archive" -o "$build/govlezna"
+    cli_is_old || return 0
+    ready compiler && locked build_cli_now
+}
+
+# Renamed into place: the old one may be running.
+build_cli_now() {
+    cli_is_old || return 0
+    build_archive_now || return 1
+    "${compiler[@]}" -std=c11 -O2 "${warnings[@]}" "-I$root/include" "$root"/cli/*.c "$archive" -o "$build/govlezna.new" &&
+        mv -f "$build/govlezna.new" "$build/govlezna"
 }

@@ -34,6 +34,15 @@ gives() {
     expect $? "$@"
 }
 
+# nulls RESULT ARGUMENTS..: the same, where each . of the result is a zero byte.
+nulls() {
+    local result=$1
+    shift
+    run "$@"
+    [ "$status" -eq 0 ] && printf %s "$result" | tr . '\0' | cmp -s - "$room/out" && [ ! -s "$room/err" ]
+    expect $? "$@"
+}
+
 # refuses NUMBER PLACE ARGUMENTS..: status 1, nothing on standard output, the number and the place on standard error; and the
 # same number in JSON.
 refuses() {
@@ -159,7 +168,12 @@ results() {
     gives $'&lt;\x01' canonical '<&#1;' --strict --version 1.1
     gives 'p1 p2' nmtokens $'  p1 \t p2\n'
     gives $'p1 p2\np3' nmtokens ' p1  p2&#10;p3 '
-    gives $'p1\np2\tq\np3\n' nmtokens --lines ' p1  p2&#9;q &e;' --entity 'e=  p3 '
+    gives $'p1\np2\\u0009q\np3\n' nmtokens --lines ' p1  p2&#9;q &e;' --entity 'e=  p3 '
+    gives $'p1\\u000a\\u000dp2\n\\\\u000a\n' nmtokens --lines 'p1&#10;&#13;p2 \u000a'
+    gives $'\\u0001\\u007f\\u0085\\u009f\\u2028\\u2029\\ufffe\xC2\xA0ß€𝄞\n' nmtokens --lines '&#1;&#x7F;&#x85;&#x9F;&#x2028;&#x2029;&#xFFFE;&#xA0;ß€𝄞'
+    nulls $'p1\n\\\x01.p2.' nmtokens --null 'p1&#10;\&#1;  p2'
+    nulls $'a.b.' nmtokens --null --lines 'a b'
+    gives '' nmtokens --null ' '
     gives '' nmtokens --lines $' \t '
     gives '' nmtokens ''
     gives 'A B' nmtokens '&d;&d;A&a;&#x20;&a;B&da;' --marked --entity d=$'\r' --entity a=$'\n' --entity da=$'\r\n'
@@ -180,7 +194,7 @@ results() {
     gives $'UTF-8, 1 bytes\ntable valid, 2 definitions\n' check a --marked --external a --entity b=c
     gives $'UTF-8, 1 bytes\ntable valid, 0 definitions\n' check a --marked
     gives '--level' escape -- --level
-    gives '-' escape -
+    gives '-' escape -- -
 }
 
 # The names that reading a value asks the table for: those of replacement texts too, each once, and none after a refusal.
@@ -259,8 +273,8 @@ depths() {
     refuses 3 '' depth a --limit 1000001
     refuses 4 '' depth a --version 3
     refuses 9 ': --entity number 1' depth a --entity =x
-    refuses 27 ': bytes 2 to 4 of the text' depth 'a &e;' --external e
-    refuses 13 ': bytes 1 to 3 of the text of the entity e' depth 'a &e;' --entity 'e=x&#;' --marked
+    refuses 27 ': bytes 2..5 of the text' depth 'a &e;' --external e
+    refuses 13 ': bytes 1..4 of the text of the entity e' depth 'a &e;' --entity 'e=x&#;' --marked
     for command in normalize canonical nmtokens used 'normalize --strict' 'canonical --strict --version 1.1'; do
         too_deep 2 $command '&e;b' --entity $'e=a\t' --depth 0
         too_deep none $command '&e;' --entity 'e=&e;' --depth 1
@@ -310,18 +324,21 @@ json() {
     run normalize --json 'x&#xFFFE;' --strict
     [ "$status" -eq 1 ] && [ "$(cat "$room/out")" = '{"command":"normalize","number":25,"words":"a reference to a character that this version of XML does not allow","first":0,"second":0,"start":1,"end":9,"line":1,"character":"U+FFFE"}' ]
     expect $? normalize --json strict
+    run check --json a --external a --entity b=c --entity =d
+    [ "$status" -eq 1 ] && [ "$(cat "$room/out")" = '{"command":"check","number":9,"words":"a definition with an empty name, or with a name or text that is not UTF-8","first":18,"second":0,"option":"--entity","occurrence":2}' ]
+    expect $? check --json names the option
     run normalize --json 'x &e;' --entity $'e=\r\n\r&b;'
     [ "$status" -eq 1 ] && [ "$(cat "$room/out")" = '{"command":"normalize","number":11,"words":"unknown entity","first":4,"second":5,"entity":"e","opened":2,"start":4,"end":5,"line":3}' ]
     expect $? normalize --json nested
 }
 
 refusals() {
-    refuses 2 '' normalize a --depth 129
-    refuses 2 '' canonical a --depth 18446744073709551615
-    refuses 3 '' canonical a --limit 1000001
-    refuses 4 '' escape a --level 4
-    refuses 4 '' eols a --version 3
-    refuses 4 '' normalize a --version=255
+    refuses 2 ': --depth 129' normalize a --depth 129
+    refuses 2 ': --depth 18446744073709551615' canonical a --depth 18446744073709551615
+    refuses 3 ': --limit 1000001' canonical a --limit 1000001
+    refuses 4 ': --level 4, expected 0, 1, 2 or 3' escape a --level 4
+    refuses 4 ': --version 3, expected 1.0 or 1.1' eols a --version 3
+    refuses 4 ': --version 255, expected 1.0 or 1.1' normalize a --version=255
     for command in escape unescape normalize canonical nmtokens eols trim cdata check used depth; do
         refuses 5 ': byte 1 of the text, line 1' "$command" $'a\xFF'
     done
@@ -335,18 +352,18 @@ refusals() {
     refuses 9 ': --external number 1' check a --external '' --marked
     refuses 10 ': byte 2 of the text' unescape 'a &b'
     refuses 10 ': byte 0 of the text' unescape '&a&b;'
-    refuses 11 ': bytes 1 to 3 of the text' normalize '&a&b;'
+    refuses 11 ': bytes 1..4 of the text' normalize '&a&b;'
     refuses 11 ': byte 1 of the text' unescape '&;'
     for before in 0 1 2 3 4 5 6 7; do
         text=$(printf '&lt;%.0s' $(seq "$before"))
         [ "$before" -gt 0 ] || text=
         refuses 11 ": byte $((4 * before + 1)) of the text" unescape "$text&x;&y;&gt;&gt;"
-        refuses 13 ": bytes $((4 * before)) to $((4 * before + 2))" normalize "$text&#;&y;&gt;"
+        refuses 13 ": bytes $((4 * before))..$((4 * before + 3))" normalize "$text&#;&y;&gt;"
     done
-    refuses 12 ': bytes 0 to 4' unescape '&#+1;'
-    refuses 13 ': bytes 4 to 9' normalize '&lt;&#X41;'
-    refuses 14 ', 55296: bytes 0 to 7' unescape '&#xD800;'
-    refuses 15 ': bytes 1 to 4' canonical 'a&#0;'
+    refuses 12 ': bytes 0..5' unescape '&#+1;'
+    refuses 13 ': bytes 4..10' normalize '&lt;&#X41;'
+    refuses 14 ', 55296: bytes 0..8' unescape '&#xD800;'
+    refuses 15 ': bytes 1..5' canonical 'a&#0;'
     refuses 16 ': byte 1 of the text' normalize $'a\t' --depth 0
     refuses 16 ': byte 0 of the text of the entity e' normalize '&e;' --version 2 --entity e=½ --depth 1
     refuses 16 ': byte 3 of the text of the entity e' normalize '&e;' --version 2 --marked --entity $'e=½a\t' --depth 1
@@ -356,15 +373,15 @@ refusals() {
     refuses 17 ': byte 0 of the text' normalize '&e;' --entity e=½ --limit 0
     refuses 17 ': byte 0 of the text of the entity e' normalize '&e;' --entity 'e=&e;' --limit 2 --depth 3
     refuses 17 ': byte 5 of the text' normalize 'a &e;&e;' --entity 'e=&f;' --entity f=x --limit 2
-    refuses 27 ': bytes 2 to 4 of the text' normalize 'a &e; b' --external e --entity e=x
-    refuses 27 ': bytes 2 to 4 of the text' canonical 'a &e; b' --external e --limit 0
-    refuses 27 ': bytes 0 to 4 of the text' unescape '&amp;' --external amp
-    refuses 27 ': bytes 0 to 3 of the text' normalize '&lt;' --external lt
-    refuses 27 ': bytes 2 to 4 of the text' nmtokens 'a &e;' --external e
+    refuses 27 ': bytes 2..5 of the text' normalize 'a &e; b' --external e --entity e=x
+    refuses 27 ': bytes 2..5 of the text' canonical 'a &e; b' --external e --limit 0
+    refuses 27 ': bytes 0..5 of the text' unescape '&amp;' --external amp
+    refuses 27 ': bytes 0..4 of the text' normalize '&lt;' --external lt
+    refuses 27 ': bytes 2..5 of the text' nmtokens 'a &e;' --external e
     refuses 11 ': byte 3 of the text of the entity e' nmtokens 'a &e;' --entity 'e=b &f;'
     refuses 17 ': byte 0 of the text' nmtokens '&e;' --entity e=b --limit 0
     refuses 4 '' nmtokens a --version 3
-    refuses 27 ': bytes 1 to 3 of the text of the entity a' normalize 'q &a;' --entity 'a=x&e;' --external e
+    refuses 27 ': bytes 1..4 of the text of the entity a' normalize 'q &a;' --entity 'a=x&e;' --external e
     refuses 16 ': byte 0 of the text' normalize '&e;' --external e --depth 0
     strict_refusals
 }
@@ -373,21 +390,21 @@ strict_refusals() {
     local before
     refuses 26 ', U+0001: byte 0 of the text' normalize $'\x01\t' --strict --depth 0
     refuses 16 ': byte 0 of the text' normalize $'\t\x01' --strict --depth 0
-    refuses 26 ', U+0080: bytes 1 to 2 of the text' normalize $'\r\xC2\x80' --strict --version 1.1
-    refuses 26 ', U+FFFF: bytes 2 to 4 of the text' canonical $'é\xEF\xBF\xBFa' --strict
+    refuses 26 ', U+0080: bytes 1..3 of the text' normalize $'\r\xC2\x80' --strict --version 1.1
+    refuses 26 ', U+FFFF: bytes 2..5 of the text' canonical $'é\xEF\xBF\xBFa' --strict
     refuses 11 ': byte 1 of the text' normalize $'&\x01;' --strict
     refuses 10 ': byte 0 of the text' normalize $'&\x01' --strict
-    refuses 25 ', U+0001: bytes 1 to 4 of the text' normalize 'a&#1;' --strict
-    refuses 25 ', U+FFFF: bytes 0 to 7 of the text' normalize '&#65535;' --strict --version 1.1
-    refuses 15 ': bytes 0 to 3 of the text' normalize '&#0;' --strict
+    refuses 25 ', U+0001: bytes 1..5 of the text' normalize 'a&#1;' --strict
+    refuses 25 ', U+FFFF: bytes 0..8 of the text' normalize '&#65535;' --strict --version 1.1
+    refuses 15 ': bytes 0..4 of the text' normalize '&#0;' --strict
     refuses 16 ': byte 0 of the text of the entity e' normalize '&e;' --strict --version 1.1 --entity $'e=\xC2\x80' --depth 1
     for before in '' '&lt;' '&lt;&a;' '&a;&gt;&a;' '&a;&a;&amp;&a;'; do
         refuses 26 ", U+0001: byte $((${#before} + 1)) of the text" normalize "$before"$'x\x01&a;\x01&#1;' --strict --entity a=b
-        refuses 25 ", U+0008: bytes ${#before} to $((${#before} + 3)) of the text" normalize "$before"$'&#8;&a;\x01' --strict --entity a=b
+        refuses 25 ", U+0008: bytes ${#before}..$((${#before} + 4)) of the text" normalize "$before"$'&#8;&a;\x01' --strict --entity a=b
         refuses 26 ', U+000B: byte 2 of the text of the entity e' normalize "$before"$'&e;\x01' --strict --entity a=b --entity $'e=é\x0B'
-        refuses 26 ', U+FFFE: bytes 3 to 5 of the text of the entity f' normalize "$before"'x&e;&f;' --strict --version 1.1 \
+        refuses 26 ', U+FFFE: bytes 3..6 of the text of the entity f' normalize "$before"'x&e;&f;' --strict --version 1.1 \
             --entity $'a=\x01' --entity $'e=\x7F&f;\xEF\xBF\xBE' --entity $'f=\x01\xC2\x80\xEF\xBF\xBE'
-        refuses 25 ', U+FFFE: bytes 4 to 11 of the text of the entity f' canonical "$before"'x&e;&f;' --strict --version 1.1 \
+        refuses 25 ', U+FFFE: bytes 4..12 of the text of the entity f' canonical "$before"'x&e;&f;' --strict --version 1.1 \
             --entity $'a=\x01' --entity $'e=\x7F&\x01;&f;\xEF\xBF\xBE' --entity $'f=\x01\xC2\x80a&#xFFFE;' --entity $'\x01=\x02'
     done
     shows 'govlezna: refusal 26: a character that may not stand here in this version of XML, U+0007: byte 5 of the text of the entity sail, line 1
@@ -400,13 +417,13 @@ govlezna: opened from byte 6 of the text, line 1
 
 # The line and the carets: below entities, on a later line, in a long line, under characters of several bytes.
 places() {
-    shows 'govlezna: refusal 11: unknown entity: bytes 3 to 6 of the text of the entity sail, line 1
+    shows 'govlezna: refusal 11: unknown entity: bytes 3..7 of the text of the entity sail, line 1
     a &boom; b
        ^^^^
 govlezna: opened from byte 5 of the text, line 2
     ab &panel; c
        ^' normalize $'x\nab &panel; c' --entity 'panel=&sail;' --entity 'sail=a &boom; b'
-    shows 'govlezna: refusal 27: the entity is external: it has no text here, and may not stand in an attribute value: bytes 4 to 9 of the text, line 1
+    shows 'govlezna: refusal 27: the entity is external: it has no text here, and may not stand in an attribute value: bytes 4..10 of the text, line 1
     Cut &plan; here
         ^^^^^^' normalize 'Cut &plan; here' --external plan
     shows 'govlezna: refusal 10: no ; after &: byte 6 of the text, line 2
@@ -415,6 +432,28 @@ govlezna: opened from byte 5 of the text, line 2
     shows "govlezna: refusal 5: the text is not UTF-8: byte 80 of the text, line 1
     ...$(printf 'b%.0s' {1..50})?$(printf 'c%.0s' {1..25})...
        $(printf ' %.0s' {1..50})^" trim "$(printf 'b%.0s' {1..80})"$'\xFF'"$(printf 'c%.0s' {1..80})"
+}
+
+# Carets stand by columns: under wide characters two, under combining ones none, whatever the locale.
+carets() {
+    local locale
+    for locale in C C.UTF-8; do
+        LC_ALL=$locale shows 'govlezna: refusal 11: unknown entity: bytes 7..11 of the text, line 1
+    漢字&帆b;
+         ^^^' normalize '漢字&帆b;'
+        LC_ALL=$locale shows $'govlezna: refusal 11: unknown entity: byte 8 of the text, line 1
+    e\xCC\x81\xE2\x80\x8Dx&b; a
+       ^' normalize $'e\xCC\x81\xE2\x80\x8Dx&b; a'
+    done
+    shows $'govlezna: refusal 10: no ; after &: byte 22 of the text, line 1
+    Ａｱ👍か\xE3\x82\x99\xE1\x84\x80\xE1\x85\xA1&b
+             ^' unescape $'Ａｱ👍か\xE3\x82\x99\xE1\x84\x80\xE1\x85\xA1&b'
+    shows "govlezna: refusal 10: no ; after &: byte 240 of the text, line 1
+    ...$(printf '漢%.0s' {1..25})&$(printf '字%.0s' {1..13})...
+       $(printf '  %.0s' {1..25})^" unescape "$(printf '漢%.0s' {1..80})&$(printf '字%.0s' {1..80})"
+    shows "govlezna: refusal 10: no ; after &: byte 200 of the text, line 1
+    ...$(printf '\xCC\x81%.0s' {1..50})&$(printf '\xCC\x81%.0s' {1..25})...
+       ^" unescape "$(printf '\xCC\x81%.0s' {1..100})&$(printf '\xCC\x81%.0s' {1..100})"
 }
 
 bytes() { # COUNT FILE
@@ -429,7 +468,9 @@ files() {
     input=$room/text
     gives 'a&lt;b' escape
     gives 'a&lt;b' escape --file -
+    gives 'a&lt;b' escape -
     input=/dev/null
+    line_ends_dropped
     gives 'sail' unescape '&e;' --table "$room/list" "$room/pool"
     gives $'UTF-8, 0 bytes\ntable valid, 1 definitions\n' check --table "$room/list" "$room/pool"
     refuses 7 ': byte 0 of the list' check a --table "$room/text" "$room/pool"
@@ -437,7 +478,7 @@ files() {
     refuses 7 ': byte 12 of the list' check a --table "$room/cut" "$room/pool"
     refuses 8 ': byte 0 of the list' unescape a --table "$room/list" "$room/text"
     printf '\2\0\0\0\0\1\0' >"$room/list"
-    refuses 27 ': bytes 1 to 3 of the text' unescape 'a&e;' --table "$room/list" "$room/pool"
+    refuses 27 ': bytes 1..4 of the text' unescape 'a&e;' --table "$room/list" "$room/pool"
     head -c 3 "$room/list" >"$room/cut"
     refuses 7 ': byte 0 of the list' check a --table "$room/cut" "$room/pool"
     printf '\3\1\0\0\0\0\1\1\0\0\0\4\0\0' >"$room/list"
@@ -467,6 +508,36 @@ files() {
     misused "$room: Is a directory" escape --file "$room"
     full_disk escape a
     full_disk --help
+    full_disk --about
+}
+
+# One line end at the end of a file or of standard input, and none of an argument; nothing of a text that is too long.
+line_ends_dropped() {
+    local end
+    for end in '' '\n' '\r\n' '\r'; do
+        printf "name$end" >"$room/line"
+        gives name escape --chomp --file "$room/line"
+        input=$room/line
+        gives name escape --chomp
+        gives name escape - --chomp
+        input=/dev/null
+        printf "name\n$end" >"$room/line"
+        [ -z "$end" ] || gives $'name\n' escape --chomp --file "$room/line" --level 1
+    done
+    printf 'name\n' >"$room/line"
+    gives 'name&#10;' escape --level 3 --file "$room/line"
+    gives '' escape --chomp --file /dev/null
+    misused '--chomp: the text is no file' escape --chomp a
+    misused '--chomp: the text is no file' escape --chomp -- -
+    bytes 16777216 "$room/line"
+    printf '\r\n' >>"$room/line"
+    gives $'UTF-8, 16777216 bytes\n' check --chomp --file "$room/line"
+    refuses 1 'over 16,777,216 bytes' check --file "$room/line"
+    printf b >>"$room/line"
+    refuses 1 'over 16,777,216 bytes' check --chomp --file "$room/line"
+    bytes 16777216 "$room/line"
+    printf '\nb' >>"$room/line"
+    refuses 1 'over 16,777,216 bytes' check --chomp --file "$room/line"
 }
 
 # full_disk ARGUMENTS..: status 2, and the reason, where nothing can be written.
@@ -557,29 +628,41 @@ usage() {
     misused 'not an option of this command' normalize a --lines
     misused 'not an option of this command' nmtokens a --strict
     misused '--json is given too' nmtokens a --lines --json
+    misused '--json is given too' nmtokens a --null --json
+    misused 'not an option of this command' normalize a --null
     misused 'govlezna COMMAND'
-    misused 'no such command' frobnicate a
-    misused 'no such option' escape a --frobnicate
-    misused 'no such option' escape a -x
-    misused 'not an option of this command' escape a --depth 3
+    misused 'a: --about stands alone' --about a
+    misused 'frobnicate: no such command, expected escape, unescape, ' frobnicate a
+    misused '--frobnicate: no such option, escape takes --level, --file, --chomp, --json' escape a --frobnicate
+    misused '-x: no such option, eols takes --version, --file' eols a -x
+    misused '--depth: not an option of this command, escape takes --level, --file, --chomp, --json' escape a --depth 3
     misused 'not an option of this command' depth a --depth 3
     misused 'not an option of this command' depth a --strict
     misused 'not an option of this command' depth a --lines
     misused 'not an option of this command' unescape a --version 1.1
-    misused 'its value is missing' escape a --level
-    misused 'expected a number' escape a --level x
-    misused 'expected a number' escape a --level -1
-    misused 'expected a number' escape a --level 1x
-    misused 'under 256' escape a --level 256
-    misused 'over 64 bits' normalize a --depth 18446744073709551616
+    misused '--level: its value is missing, expected 0, 1, 2 or 3' escape a --level
+    misused '--level x: expected 0, 1, 2 or 3' escape a --level x
+    misused '--level -1: expected 0, 1, 2 or 3' escape a --level -1
+    misused '--level 1x: expected 0, 1, 2 or 3' escape a --level 1x
+    misused '--level : expected 0, 1, 2 or 3' escape a --level=
+    misused '--level 256: expected 0, 1, 2 or 3' escape a --level 256
+    misused '--version 1.2: expected 1.0 or 1.1' normalize a --version 1.2
+    misused '--version 256: expected 1.0 or 1.1' eols a --version=256
+    misused '--depth 18446744073709551616: expected a number from 0 to 128' normalize a --depth 18446744073709551616
+    misused '--limit many: expected a number from 0 to 1,000,000' normalize a --limit many
+    misused '--limit: its value is missing, expected a number from 0 to 1,000,000' normalize a --limit
     misused 'given twice' escape a --level 1 --level 2
     misused 'a second text' escape a b
     misused 'the text is given too' escape a --file b
+    misused 'the text is given too' escape - --file b
+    misused 'a second text' escape - a
+    misused 'a second text' escape a -
+    misused 'given twice' escape --chomp --chomp -
     misused 'expected --attribute or --text' c14n a
     misused '--text is given too' c14n a --attribute --text
     misused 'not an option of this command' escape a --text
     misused 'takes no value after =' c14n --text=a
-    misused 'expected NAME=TEXT' unescape a --entity b
+    misused '--entity b: expected NAME=TEXT' unescape a --entity b
     misused 'at most 255 bytes' unescape a --entity "$(printf 'n%.0s' {1..256})=b"
     misused 'at most 255 bytes' unescape a --external "$(printf 'n%.0s' {1..256})"
     misused '--table is given too' check a --external b --table d e
@@ -599,6 +682,8 @@ usage() {
     misused '--end is given too' trim a --start --end
     misused 'takes no value' trim a --start=2
     run --help
+    grep -q '^Offsets count bytes from 0' "$room/out"
+    expect $? --help says what offsets are
     [ "$status" -eq 0 ] && grep -q '^Examples:' "$room/out" && [ ! -s "$room/err" ]
     expect $? --help
 }
@@ -609,6 +694,7 @@ depths
 json
 refusals
 places
+carets
 files
 sizes
 sections

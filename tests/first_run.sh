@@ -39,13 +39,18 @@ refused() {
         grep -qF "$words" "$room/said"
 }
 
+# Does the process run? One that ended may still be there for whoever started it.
+runs() { # PID
+    [ -r "/proc/$1/stat" ] && ! grep -q ') Z ' "/proc/$1/stat"
+}
+
 # As somebody who may not write where the permissions forbid it: root may.
 as_user() {
     if [ "$(id -u)" -eq 0 ]; then setpriv --reuid=65534 --regid=65534 --clear-groups "$@"; else "$@"; fi
 }
 
 # Without a compiler, without rt.
-for tool in bash sed awk find dirname readlink mkdir wc touch tail rm grep sleep cp; do ln -s "$(type -P "$tool")" "$room/few/$tool"; done
+for tool in bash sed awk find dirname readlink mkdir wc touch tail rm grep sleep cp mv flock; do ln -s "$(type -P "$tool")" "$room/few/$tool"; done
 refused 'rt is not in the PATH' env "PATH=$room/few" "$copy/govlezna" escape '<'
 ln -s "$room/bin/rt" "$room/few/rt"
 refused 'Debian packages: gcc libc6-dev: failed' env "PATH=$room/few" "$copy/govlezna" escape '<'
@@ -97,6 +102,57 @@ touch "$copy/crates/text/src/lib.rt"
 [ "$("$copy/govlezna" escape '<' 2>"$room/said")" = '&lt;' ]
 grep -qx staticlib "$room/calls"
 if grep -qv '^prov' "$room/said"; then false; fi
+
+# Two runs at once while all has to be built: the second waits, and says so; nothing is built twice. rt says NOT PROVED where it is
+# called while another one runs.
+mv "$room/bin/rt" "$room/bin/one-rt"
+printf '#!/bin/sh\nmkdir "%s/proving" || { echo "text NOT PROVED"; exit 1; }\none-rt "$@"\nrmdir "%s/proving"\n' "$room" "$room" >"$room/bin/rt"
+chmod +x "$room/bin/rt"
+rm -rf "$copy/target"
+: >"$room/calls"
+"$copy/govlezna" escape '<' >"$room/first" 2>"$room/first.said" &
+while [ ! -d "$room/proving" ]; do sleep 0.1; done
+[ "$("$copy/govlezna" escape '>' 2>"$room/said")" = '&gt;' ]
+wait $!
+[ "$(cat "$room/first")" = '&lt;' ]
+[ "$(cat "$room/said")" = 'another run proves or builds here: waiting for it' ]
+[ "$(cat "$room/calls")" = $'check\nstaticlib' ]
+
+# A program that is being written is not run: it is renamed into place. What is left of a build that was cut off is built anew.
+cat >"$room/bin/slow-cc" <<'END'
+#!/bin/sh
+for word; do out=$word; done
+: >"$out"
+exec 3>>"$out"
+sleep 2
+exec cc "$@"
+END
+chmod +x "$room/bin/slow-cc"
+touch "$copy/cli/help.c"
+CC=slow-cc "$copy/govlezna" escape '<' >"$room/first" 2>"$room/first.said" &
+sleep 1
+[ "$("$copy/govlezna" escape '>' 2>"$room/said")" = '&gt;' ]
+wait $!
+[ "$(cat "$room/first")" = '&lt;' ]
+touch "$copy/target/library.start"
+echo cut >"$copy/target/staticlib/libgovlezna.a"
+[ "$("$copy/govlezna" escape '<' 2>"$room/said")" = '&lt;' ]
+
+# ^C ends what was started, also what a shell started in the background, where ^C is ignored.
+printf '#!/bin/sh\n(sleep 300) & echo $! >"%s/prover"; wait\n' "$room" >"$room/bin/rt"
+touch "$copy/crates/text/src/lib.rt"
+rm -f "$room/prover"
+set -m
+"$copy/govlezna" escape '<' >"$room/out" 2>"$room/said" &
+run=$!
+set +m
+while [ ! -s "$room/prover" ]; do sleep 0.1; done
+kill -INT -- "-$run"
+status=0
+wait "$run" || status=$?
+[ "$status" -eq 130 ]
+for _ in {1..50}; do runs "$(cat "$room/prover")" || break; sleep 0.1; done
+if runs "$(cat "$room/prover")"; then kill "$(cat "$room/prover")"; false; fi
 
 printf '#!/bin/sh\necho "text NOT PROVED"\nexit 1\n' >"$room/bin/rt"
 rm -rf "$copy/target"

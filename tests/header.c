@@ -254,6 +254,36 @@ static void examples(void)
     hands();
 }
 
+/* Where offsets lie: of `&e;` with e as `&b;` in the table's text, of `a&b;` in `text`; with limit 0 no text is opened. */
+static void offsets(void)
+{
+    static const uint8_t nested[] = { 1, 0, 0, 0, 0, 1, 1, 0, 0, 0, 3, 0, 0 };
+    static const struct { const char *text; uint64_t limit; uint32_t number; uint64_t first, second; } rows[] = {
+        { "&e;", 10, GOVLEZNA_UNRECOGNIZED_ENTITY, 1, 2 }, { "&e;", 0, GOVLEZNA_TOO_MANY_OPENINGS, 0, 0 },
+        { "a&b;", 10, GOVLEZNA_UNRECOGNIZED_ENTITY, 2, 3 }, { "a&b;", 0, GOVLEZNA_UNRECOGNIZED_ENTITY, 2, 3 },
+    };
+    for (size_t i = 0; i < sizeof rows / sizeof rows[0]; i++)
+        expect(__LINE__,
+               govlezna_normalize_attribute_value(bytes(rows[i].text), strlen(rows[i].text), 0, 2, rows[i].limit, nested,
+                                                  sizeof nested, bytes("e&b;"), 4, out, sizeof out, answer),
+               rows[i].number, rows[i].first, rows[i].second);
+}
+
+/* The two lengths of a list of tokens, one after the other. */
+static void two_lengths(void)
+{
+    const char *text = "  p1\t p2&#10;p3 ";
+    expect(__LINE__,
+           govlezna_normalize_nmtokens(bytes(text), strlen(text), 0, 1, 0, empty, 1, NULL, 0, NULL, 0, NULL, 0, answer),
+           GOVLEZNA_NO_SCRATCH, 12, 0);
+    expect(__LINE__,
+           govlezna_normalize_nmtokens(bytes(text), strlen(text), 0, 1, 0, empty, 1, NULL, 0, scratch, 12, NULL, 0, answer),
+           GOVLEZNA_NO_ROOM, 8, 0);
+    expect(__LINE__,
+           govlezna_normalize_nmtokens(bytes(text), strlen(text), 0, 1, 0, empty, 1, NULL, 0, scratch, 12, out, 8, answer), 0, 8,
+           0);
+}
+
 static void no_table(void)
 {
     expect(__LINE__, govlezna_check_table(empty, 1, NULL, 0, answer), 0, 0, 0);
@@ -269,12 +299,12 @@ static void no_table(void)
     expect(__LINE__, govlezna_least_depth(bytes("a\t"), 2, 0, 1, empty, 1, NULL, 0, answer), 0, 1, 0);
 }
 
-/* `]]>]]>` by windows of three bytes: from the last cut, or the last window's end, on, none ended within `]]>`. */
+/* Start and end of each window, the piece's length, and whether the cursor is finished. */
 static void cdata_windows(void)
 {
-    static const size_t windows[][4] = { { 0, 3, 2, 0 }, { 2, 3, 1, 1 }, { 3, 6, 2, 0 }, { 5, 6, 1, 1 } };
+    static const size_t windows[][4] = { { 0, 3, 2, 0 }, { 2, 6, 3, 0 }, { 5, 6, 1, 1 } };
     const char *text = "]]>]]>";
-    for (size_t i = 0; i < 4; i++) {
+    for (size_t i = 0; i < sizeof windows / sizeof windows[0]; i++) {
         struct govlezna_cursor cursor = { 0, 0 };
         const size_t *w = windows[i];
         expect(__LINE__, govlezna_cdata_next(bytes(text) + w[0], w[1] - w[0], &cursor, answer), 0, 0, w[2]);
@@ -297,6 +327,8 @@ int main(int argc, char **argv)
 {
     examples();
     no_table();
+    offsets();
+    two_lengths();
     cdata_windows();
     for (int i = 1; i < argc; i++)
         words(argv[i]);

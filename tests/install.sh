@@ -1,5 +1,6 @@
 #!/usr/bin/env bash
-# Installs into a temporary folder, and uses what is there: the program, the static library, and by pkg-config the shared one.
+# Installs into a temporary folder, and uses what is there: the program, the static library, and by pkg-config the shared one. Then
+# removes it. Where it may not go is refused before anything is written.
 set -eu
 cd "$(dirname "$0")/.."
 room=$(mktemp -d)
@@ -29,7 +30,54 @@ diff "$room/declared" "$room/exported"
 # No call allocates, or asks anything else of the system: the library calls these alone.
 if nm -u "$room/lib/libgovlezna.a" | grep -o ' U .*' | grep -vxE ' U mem(cpy|move|set|cmp)'; then exit 1; fi
 
-# Packages are made below DESTDIR, and name PREFIX alone.
+# One version, in the header, in the file names, for pkg-config and by the program, which names the calls and the limits.
+version=$(sed -n 's/^#define GOVLEZNA_VERSION "\(.*\)"$/\1/p' include/govlezna.h)
+[ -e "$room/lib/libgovlezna.so.$version" ]
+[ "$(pkg-config --modversion govlezna)" = "$version" ]
+"$room/bin/govlezna" --about >"$room/about"
+[ "$(head -n 1 "$room/about")" = "govlezna $version" ]
+grep -o 'govlezna_[a-z0-9_]*' "$room/about" | sort | diff "$room/declared" -
+grep -q '16,777,216 bytes' "$room/about"
+grep -q "^## $version" CHANGELOG.md
+[ "$("$room/bin/govlezna" normalize --version 1.1 a)" = a ]
+
+# Packages are made below DESTDIR, and name PREFIX alone; LIBDIR may be elsewhere.
 make --silent install PREFIX=/usr "DESTDIR=$room/package"
 grep -qx 'prefix=/usr' "$room/package/usr/lib/pkgconfig/govlezna.pc"
-if make --silent install PREFIX=relative 2>/dev/null; then exit 1; fi
+grep -qx 'libdir=${prefix}/lib' "$room/package/usr/lib/pkgconfig/govlezna.pc"
+make --silent install PREFIX=/usr LIBDIR=/usr/lib/x86_64-linux-gnu "DESTDIR=$room/multiarch"
+grep -qx 'libdir=${prefix}/lib/x86_64-linux-gnu' "$room/multiarch/usr/lib/x86_64-linux-gnu/pkgconfig/govlezna.pc"
+[ -e "$room/multiarch/usr/lib/x86_64-linux-gnu/libgovlezna.a" ]
+[ ! -e "$room/multiarch/usr/lib/libgovlezna.a" ]
+
+# refused WORDS ARGUMENTS..: of make, which says why in one line of its own, and writes nothing.
+refused() {
+    local words=$1
+    shift
+    if make --silent "$@" "DESTDIR=$room/none" >"$room/said" 2>&1; then echo "make $* passes"; exit 1; fi
+    grep -qF "$words" "$room/said"
+    [ ! -e "$room/none" ]
+}
+for target in install uninstall; do
+    refused 'PREFIX must start with /: it is empty' "$target" PREFIX=
+    refused 'PREFIX must start with /: relative' "$target" PREFIX=relative
+    refused 'LIBDIR must start with /: lib' "$target" PREFIX=/usr LIBDIR=lib
+    refused 'LIBDIR must start with /: it is empty' "$target" PREFIX=/usr LIBDIR=
+done
+
+# From another folder, by a path with a space. Nothing that was installed is left by uninstall, and nothing else goes.
+mkdir -p "$room/a tree/target" "$room/elsewhere"
+cp -Rp Makefile NOTICE crates.txt scripts cli include "$room/a tree"
+cp -Rp target/staticlib target/build "$room/a tree/target"
+mkdir "$room/multiarch/usr/share/doc/other"
+(cd "$room/elsewhere" && make --silent -f "../a tree/Makefile" install PREFIX=/opt/g "DESTDIR=$room/far")
+[ "$("$room/far/opt/g/bin/govlezna" unescape '&gt;')" = '>' ]
+(cd "$room/elsewhere" && make --silent -f "../a tree/Makefile" uninstall PREFIX=/opt/g "DESTDIR=$room/far")
+[ -z "$(find "$room/far" ! -type d)" ]
+[ ! -e "$room/far/opt/g/share/doc/govlezna" ]
+make --silent uninstall PREFIX=/usr LIBDIR=/usr/lib/x86_64-linux-gnu "DESTDIR=$room/multiarch"
+[ -z "$(find "$room/multiarch" ! -type d)" ]
+[ -d "$room/multiarch/usr/share/doc/other" ]
+(cd "$room/elsewhere" && make --silent -f "../a tree/Makefile" clean)
+[ ! -e "$room/a tree/target" ]
+[ -e "$room/a tree/scripts/build.sh" ]

@@ -1,6 +1,6 @@
 #!/usr/bin/env bash
 # nmtokens.sh PROGRAM: what expat makes of attributes that are declared NMTOKENS (tests/nmtokens.txt). The program gives expat's value,
-# and with --lines its tokens; and most of these values are others where the attribute is only normalized. Where Python has expat, the
+# and with --null its tokens; and most of these values are others where the attribute is only normalized. Where Python has expat, the
 # stored lines are compared with what it says now.
 set -u
 program=$1
@@ -10,15 +10,14 @@ wrong=0
 differing=0
 
 replay() { # =VALUE TEXT NAME=TEXT..
-    local expected=${1#=} text=${2-} entity lines
+    local expected=${1#=} text=${2-} entity
     local -a options=()
     shift $(($# < 2 ? $# : 2)) # an empty value at the end of a line is no field
     for entity; do options+=(--entity "$entity"); done
-    lines=${expected:+${expected// /$'\n'}$'\n'}
     cases=$((cases + 1))
     [ "$("$program" normalize --marked "${options[@]}" -- "$text" && echo .)" = "$expected." ] || differing=$((differing + 1))
     [ "$("$program" nmtokens --marked "${options[@]}" -- "$text" && echo .)" = "$expected." ] &&
-        [ "$("$program" nmtokens --marked --lines "${options[@]}" -- "$text" && echo .)" = "$lines." ] && return
+        [ "$("$program" nmtokens --marked --null "${options[@]}" -- "$text" | tr '\0' ' ' && echo .)" = "${expected:+$expected }." ] && return
     wrong=$((wrong + 1))
     echo "expat gives ${expected@Q}: ${text@Q} with ${*@Q}"
 }

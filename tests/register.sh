@@ -119,6 +119,10 @@ results() {
     gives '1 ½\n1 a\n1 \n' names list
     gives '1\n' names add -- --room
     gives '1\n' names count --room 0 -- --room
+    gives '1\n' names add $'a\n2 b\\'
+    gives '1 ½\n1 a\n1 \n1 --room\n1 a\\u000a2 b\\\\\n' names list
+    gives '1 ½\0001 a\0001 \0001 --room\0001 a\n2 b\\\0' names list --null
+    run names withdraw $'a\n2 b\\'
     for form in ½ a '' --room; do run names withdraw --empty -- "$form"; done
     holds '' names
     printf 'from a file' >form
@@ -126,6 +130,9 @@ results() {
     printf 'from a file' | "$program" register names add >out 2>err
     [ "$(cat out)" = 2 ]
     expect $? a form from standard input
+    printf 'from a file\n' | "$program" register names count - --chomp >out 2>err
+    [ "$(cat out)" = 2 ]
+    expect $? a form from standard input without its line end
     chmod 640 names
     gives '3\n' names add 'from a file'
     [ "$(stat -c %a names)" = 640 ]
@@ -171,7 +178,7 @@ canonical_forms() {
     gives '1\n' panels add --canonical $'a\xC2\x85b' --version 1.1
     gives '1\n' panels count 'a b'
     gives '1\n' panels count --canonical $'a\nb'
-    refuses 11 'unknown entity: bytes 7 to 10 of the text, line 1' panels add --canonical 'Panel &boom;'
+    refuses 11 'unknown entity: bytes 7..11 of the text, line 1' panels add --canonical 'Panel &boom;'
     refuses 11 'of the text of the entity e, line 1' panels count --canonical '&e;' --entity 'e=&boom;'
     refuses 26 'U+0001: byte 0 of the text' panels withdraw --canonical $'\x01' --strict
     refuses 9 '--entity number 1' panels add --canonical a --entity =x
@@ -240,6 +247,10 @@ misuse() {
     misused 'expected FILE and one of add' names
     misused 'expected add, withdraw, count or list' names put a
     misused 'takes no form' names list a
+    misused 'takes no form' names list -
+    misused 'takes no form' names list --chomp
+    misused '--null: only list' names count a --null
+    misused '--json is given too' names list --null --json
     misused 'a second text' names add a b
     misused 'expected a number' names add a --room x
     misused 'not an option of this command' names add a --level 1
