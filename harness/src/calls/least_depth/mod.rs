@@ -54,10 +54,10 @@ pub const CALL: Call = Call {
     families: &[
         attribute::FAMILIES,
         &[
-            inputs::chains,
-            inputs::places_of_chains,
             inputs::circles,
             inputs::every_small_table,
+            inputs::chains,
+            inputs::places_of_chains,
             attribute::every_replacement,
             entities::damaged_tables,
             woven::long::<Attribute>,

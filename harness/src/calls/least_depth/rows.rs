@@ -112,22 +112,29 @@ fn inputs() -> Vec<Input> {
         let blanks = (0..size).map(|_| random.pick(b"\t\n\r"));
         add("blanks alone", &blanks.collect::<Vec<u8>>(), &empty);
     }
-    let flat = of_many(&mut random, |random, _| some_letters(random));
-    let text = referring(&mut random, 0..MANY, 1000);
-    add("40 names, 1,000 references", text.as_bytes(), &flat);
-    let paired = of_many(&mut random, |random, index| match index < MANY / 2 {
+    for (name, count) in [
+        ("40 names, 1,000 references", MANY),
+        ("400 names, 1,000 references", 10 * MANY),
+    ] {
+        let flat = of_many(&mut random, count, |random, _| some_letters(random));
+        let text = referring(&mut random, 0..count, 1000);
+        add(name, text.as_bytes(), &flat);
+    }
+    let paired = of_many(&mut random, MANY, |random, index| match index < MANY / 2 {
         true => some_letters(random) + &referring(random, MANY / 2..MANY, 2),
         false => some_letters(random),
     });
     let text = referring(&mut random, 0..MANY, 1000);
     add(
-        "the same, half of them of two more",
+        "40 names, half of them of two more, 1,000 references",
         text.as_bytes(),
         &paired,
     );
-    let levels = of_many(&mut random, |random, index| match (index / 10 + 1) * 10 {
-        next if next < MANY => referring(random, next..next + 10, 10),
-        _ => some_letters(random),
+    let levels = of_many(&mut random, MANY, |random, index| {
+        match (index / 10 + 1) * 10 {
+            next if next < MANY => referring(random, next..next + 10, 10),
+            _ => some_letters(random),
+        }
     });
     let text = referring(&mut random, 0..10, 10);
     add(
@@ -138,10 +145,14 @@ fn inputs() -> Vec<Input> {
     inputs
 }
 
-/// `n0` to `n39`.
-fn of_many(random: &mut Random, text_of: impl Fn(&mut Random, usize) -> String) -> Draft {
+/// `n0`, `n1` .. with these texts.
+fn of_many(
+    random: &mut Random,
+    count: usize,
+    text_of: impl Fn(&mut Random, usize) -> String,
+) -> Draft {
     let mut draft = Draft::default();
-    for index in 0..MANY {
+    for index in 0..count {
         let text = text_of(random, index);
         draft.define(format!("n{index}").as_bytes(), text.as_bytes());
     }
