@@ -12,3 +12,6 @@ pub mod C14n
 pub mod SmallScratch
 pub mod LeastDepths
 mod LeastDepthsMet
+pub mod DeclarationsRead
+pub mod Declarations
+mod DeclarationsMet

@@ -6,3 +6,4 @@ pub mod Nmtokens
 pub mod C14n
 pub mod SmallScratch
 pub mod LeastDepths
+pub mod Declarations
