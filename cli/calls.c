@@ -90,7 +90,7 @@ static uint32_t read_only(const struct request *q, uint64_t answer[2])
 uint32_t make_call(const struct request *q, struct outcome *o)
 {
     struct govlezna_cursor cursor = { 0, 0 };
-    *o = (struct outcome){ 0, { 0, 0 }, NULL };
+    *o = (struct outcome){ .number = 0 };
     switch (q->arguments->command) {
     case TRIM: return o->number = trim(q, o->answer);
     case CDATA: return o->number = govlezna_cdata_next(q->text, q->text_length, &cursor, o->answer);

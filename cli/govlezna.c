@@ -38,7 +38,8 @@ static void put_tokens(struct span result)
 static void put_check(const struct request *q, const struct outcome *o)
 {
     printf("UTF-8, %" PRIu64 " bytes\n", o->answer[0]);
-    if (q->arguments->list != NULL || q->arguments->entity_count > 0 || q->arguments->marked)
+    if (q->arguments->list != NULL || q->arguments->declarations != NULL || q->arguments->entity_count > 0 ||
+        q->arguments->marked)
         printf("table valid, %" PRIu64 " definitions\n", o->answer[1]);
 }
 
@@ -50,6 +51,19 @@ static void put_names(const struct request *q, const struct outcome *o)
         printf(": %s\n", bound_name(names.names[i].bound));
     }
     free(names.names);
+}
+
+/* One to a line; of those that have no say, that it is so. */
+static void put_definitions(const struct request *q)
+{
+    const uint8_t *command = first_command(q);
+    struct definition definition;
+    while (next_definition(q, &command, &definition)) {
+        show_name(stdout, definition.name);
+        fputs(" = ", stdout);
+        show_text(stdout, definition.text);
+        puts(definition.shadowed ? " (shadowed)" : "");
+    }
 }
 
 static void put_success(const struct request *q, const struct outcome *o)
@@ -64,6 +78,7 @@ static void put_success(const struct request *q, const struct outcome *o)
         put(o->bytes, o->answer[0]);
         break;
     case USED: return;
+    case DECLARATIONS: put_definitions(q); return;
     case CDATA: put_sections(q); break;
     case TRIM: put(q->text + o->answer[0], o->answer[1]); break;
     default: put(o->bytes, o->answer[0]); break;
@@ -86,6 +101,16 @@ static void answer(const struct request *q, const struct outcome *o)
         report_refusal(q, o);
 }
 
+/* Declarations are read first: where they are refused, nothing else is done. */
+static void run(struct request *q, struct outcome *o)
+{
+    *o = (struct outcome){ .number = 0 };
+    if (q->arguments->declarations != NULL && declare(q, o) != 0)
+        return;
+    if (q->arguments->command != DECLARATIONS)
+        make_call(q, o);
+}
+
 int main(int argc, char **argv)
 {
     struct arguments arguments;
@@ -96,7 +121,7 @@ int main(int argc, char **argv)
     if (arguments.command == REGISTER) {
         outcome = (struct outcome){ .number = run_register(&request) };
     } else {
-        make_call(&request, &outcome);
+        run(&request, &outcome);
         answer(&request, &outcome);
     }
     flush_output();

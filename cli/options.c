@@ -5,8 +5,8 @@
 #include <stdlib.h>
 #include <string.h>
 
-static const char *const commands[] = { "escape", "unescape", "normalize", "canonical", "nmtokens", "eols",
-                                        "trim",   "cdata",    "check",     "used",      "c14n",     "register" };
+static const char *const commands[] = { "escape", "unescape", "normalize", "canonical", "nmtokens",     "eols",    "trim",
+                                        "cdata",  "check",    "used",      "c14n",      "declarations", "register" };
 static const char *const actions[] = { "add", "withdraw", "count", "list" };
 
 #define COMMANDS (sizeof commands / sizeof commands[0])
@@ -14,8 +14,8 @@ static const char *const actions[] = { "add", "withdraw", "count", "list" };
 #define ROOM_IF_NOT_GIVEN ((size_t)1048576)
 
 enum option {
-    LEVEL, VERSION, DEPTH, LIMIT, STRICT, ENTITY, EXTERNAL, MARKED, TABLE, LINES, AT_START, AT_END, AS_ATTRIBUTE, AS_TEXT, ROOM,
-    FROM_FILE, JSON, OPTIONS
+    LEVEL, VERSION, DEPTH, LIMIT, STRICT, ENTITY, EXTERNAL, MARKED, TABLE, DECLARED, LINES, AT_START, AT_END, AS_ATTRIBUTE, AS_TEXT,
+    ROOM, FROM_FILE, JSON, OPTIONS
 };
 
 #define ON(command) (1u << (command))
@@ -31,7 +31,7 @@ static const struct {
     unsigned commands;
 } options[OPTIONS] = {
     { "--level", 1, ON(ESCAPE) },
-    { "--version", 1, VALUES | ON(EOLS) },
+    { "--version", 1, TABLES | ON(EOLS) | ON(DECLARATIONS) },
     { "--depth", 1, VALUES },
     { "--limit", 1, VALUES },
     { "--strict", 0, ON(NORMALIZE) | ON(CANONICAL) | ON(USED) },
@@ -39,13 +39,14 @@ static const struct {
     { "--external", 1, TABLES },
     { "--marked", 0, TABLES },
     { "--table", 2, TABLES },
+    { "--declarations", 1, TABLES },
     { "--lines", 0, ON(NMTOKENS) },
     { "--start", 0, ON(TRIM) },
     { "--end", 0, ON(TRIM) },
     { "--attribute", 0, ON(C14N) },
     { "--text", 0, ON(C14N) },
     { "--room", 1, ON(REGISTER) },
-    { "--file", 1, ALL },
+    { "--file", 1, ALL & ~ON(DECLARATIONS) },
     { "--json", 0, ALL },
 };
 
@@ -140,6 +141,7 @@ static void set_option(struct arguments *a, enum option option, char **values)
     case EXTERNAL: add_entity(a, name, values[0], strlen(values[0]), NULL); break;
     case MARKED: a->marked = 1; break;
     case TABLE: a->list = values[0], a->pool = values[1]; break;
+    case DECLARED: a->declarations = values[0]; break;
     case LINES: a->lines = 1; break;
     case AT_START: a->side = START; break;
     case AT_END: a->side = END; break;
@@ -171,6 +173,29 @@ static int take_action(struct arguments *a, const char *word)
     return 0;
 }
 
+/* The word of declarations: its file. */
+static int take_file(struct arguments *a, const char *word)
+{
+    if (a->command != DECLARATIONS)
+        return 0;
+    if (a->declarations != NULL)
+        bad_usage(word, "a second file");
+    a->declarations = word;
+    return 1;
+}
+
+/* A file of declarations is the whole table. */
+static void check_declarations(const struct arguments *a, unsigned seen)
+{
+    static const enum option others[] = { ENTITY, EXTERNAL, MARKED, TABLE };
+    int text_from_input = a->text == NULL && (a->file == NULL || strcmp(a->file, "-") == 0);
+    for (size_t i = 0; i < sizeof others / sizeof others[0]; i++)
+        if (seen & ON(others[i]))
+            bad_usage("--declarations", "--entity, --external, --marked or --table is given too");
+    if (seen & ON(DECLARED) && strcmp(a->declarations, "-") == 0 && text_from_input)
+        bad_usage("--declarations", "standard input is the text");
+}
+
 static void check_together(const struct arguments *a, unsigned seen)
 {
     if (a->text != NULL && a->file != NULL)
@@ -179,6 +204,10 @@ static void check_together(const struct arguments *a, unsigned seen)
         bad_usage(seen & ON(ENTITY) ? "--entity" : "--external", "--table is given too");
     if (a->marked && a->list != NULL)
         bad_usage("--marked", "--table is given too; a marked list starts with the byte 3");
+    if (seen & ON(DECLARED))
+        check_declarations(a, seen);
+    else if (seen & ON(VERSION) && (a->command == UNESCAPE || a->command == CHECK))
+        bad_usage("--version", "not an option of this command without --declarations");
     if (a->lines && a->json)
         bad_usage("--lines", "--json is given too, which has the tokens");
     if (seen & ON(AT_START) && seen & ON(AT_END))
@@ -235,12 +264,14 @@ void read_arguments(int argc, char **argv, struct arguments *a)
             options_end = 1, at++;
         else if (!options_end && argv[at][0] == '-' && argv[at][1] != '\0')
             at = take_option(a, &seen, argc, argv, at);
-        else if (take_action(a, argv[at]))
+        else if (take_action(a, argv[at]) || take_file(a, argv[at]))
             at++;
         else if (a->text != NULL)
             bad_usage(argv[at], "a second text; put one text in quotes");
         else
             a->text = argv[at++];
     }
+    if (a->command == DECLARATIONS && a->declarations == NULL)
+        a->declarations = "-";
     check_together(a, seen);
 }

@@ -141,6 +141,12 @@ static size_t little_endian(const uint8_t *bytes, size_t width)
     return value;
 }
 
+struct definition read_definition(const struct request *q, const uint8_t *command)
+{
+    return (struct definition){ .name = { q->pool + little_endian(command + 1, 4), command[5] },
+                                .text = { q->pool + little_endian(command + 6, 4), little_endian(command + 10, 2) } };
+}
+
 /* The first command of a table that was checked that defines the name; NULL: there is none. */
 static const uint8_t *defined_by(const struct request *q, struct span name)
 {
@@ -159,7 +165,7 @@ enum bound look_up(const struct request *q, struct span name, struct span *text)
     if (command != NULL && command[0] == 2)
         return EXTERNAL_ENTITY;
     if (command != NULL) {
-        *text = (struct span){ q->pool + little_endian(command + 6, 4), little_endian(command + 10, 2) };
+        *text = read_definition(q, command).text;
         return TABLE_TEXT;
     }
     for (size_t i = 0; i < sizeof predefined / sizeof predefined[0]; i++)
@@ -209,8 +215,7 @@ static void mark(struct place *place, uint32_t number, struct range reference)
         place->start++, place->end--;
 }
 
-/* The number and the length of the character here, in UTF-8 that was checked. */
-static uint64_t decode(struct span text, size_t at, size_t *length)
+uint64_t decode(struct span text, size_t at, size_t *length)
 {
     uint8_t byte = text.bytes[at];
     uint64_t character = byte;
@@ -304,27 +309,29 @@ static struct place find_in_walk(const struct request *q, const struct outcome *
 }
 
 /* Is it the walk over a text that was refused? */
-static int ended_the_walk(uint32_t number)
+static int ended_the_walk(const struct outcome *o)
 {
-    return (number >= GOVLEZNA_UNTERMINATED_ENTITY && number <= GOVLEZNA_TOO_MANY_OPENINGS) ||
-           number == GOVLEZNA_EXTERNAL_ENTITY || is_forbidden(number);
+    return !o->declarations && ((o->number >= GOVLEZNA_UNTERMINATED_ENTITY && o->number <= GOVLEZNA_TOO_MANY_OPENINGS) ||
+                                o->number == GOVLEZNA_EXTERNAL_ENTITY || is_forbidden(o->number));
 }
 
 struct place find_place(const struct request *q, const struct outcome *o)
 {
     struct place none = { .known = 0 };
+    if (o->declarations)
+        return declarations_place(q, o);
     if (o->number == GOVLEZNA_NOT_UTF8)
         return (struct place){ .known = 1,
                                .text = { q->text, q->text_length },
                                .start = o->answer[0],
                                .end = o->answer[0] + 1 };
-    return ended_the_walk(o->number) ? find_in_walk(q, o, NULL) : none;
+    return ended_the_walk(o) ? find_in_walk(q, o, NULL) : none;
 }
 
 int find_trail(const struct request *q, const struct outcome *o, struct trail *trail)
 {
     trail->count = 0;
-    if (!ended_the_walk(o->number))
+    if (!ended_the_walk(o))
         return 0;
     find_in_walk(q, o, trail);
     return 1;

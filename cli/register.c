@@ -318,7 +318,7 @@ uint32_t run_register(const struct request *q)
 {
     const struct arguments *a = q->arguments;
     struct store store = { .path = real_path(a->register_path), .descriptor = -1 };
-    struct outcome outcome = { 0, { 0, 0 }, NULL };
+    struct outcome outcome = { .number = 0 };
     open_store(a, &store);
     read_store(a, &store);
     outcome.number = call(q, &store, outcome.answer);

@@ -26,7 +26,7 @@ static const struct {
     { GOVLEZNA_NO_SCRATCH, "the scratch is too short" },
     { GOVLEZNA_NO_ROOM, "the output is shorter than the result" },
     { GOVLEZNA_CURSOR_OUTSIDE, "the cursor is past the text's end or inside a character" },
-    { GOVLEZNA_MALFORMED_DECLARATION, "no list of entity declarations: this cannot stand here" },
+    { GOVLEZNA_MALFORMED_DECLARATION, "not of the form <!ENTITY name 'text'>" },
     { GOVLEZNA_DECLARATION_TOO_LARGE,
       "too large for a table: a name over 255 bytes, a value over 65,535, or more than 4,096 declarations" },
     { GOVLEZNA_NO_TABLE_ROOM, "the declarations do not fit into a table: its pool would pass 1,048,576 bytes" },
