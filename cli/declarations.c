@@ -15,7 +15,7 @@ static uint32_t judge(const struct request *q, size_t length, uint64_t answer[2]
 uint32_t declare(struct request *q, struct outcome *o)
 {
     o->number = judge(q, q->declarations_length, o->answer);
-    if (o->number == GOVLEZNA_NO_TABLE_ROOM && o->answer[1] <= POOL_MOST) {
+    if (o->number == GOVLEZNA_NO_TABLE_ROOM) { /* again, where its pool is too long for a table */
         q->list_length = o->answer[0];
         q->pool_length = o->answer[1];
         q->list = allocate(q->list_length);

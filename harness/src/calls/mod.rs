@@ -11,6 +11,7 @@ pub mod normalize_attribute_value;
 pub mod normalize_eols;
 pub mod normalize_nmtokens;
 pub mod parse_number;
+pub mod read_declarations;
 pub mod register;
 pub mod trim_xml;
 pub mod unescape;
@@ -39,6 +40,7 @@ pub static CALLS: &[Call] = &[
     register::COUNT,
     c14n::ATTRIBUTE,
     c14n::TEXT,
+    read_declarations::CALL,
 ];
 
 /// The calls of these names, or all where none is named; nothing if one is unknown.
