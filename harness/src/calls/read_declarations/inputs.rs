@@ -314,7 +314,7 @@ fn pools_about_the_limit(sink: &mut Sink) {
     give(&text, &OLDER_AND_NEWER, sink);
 }
 
-/// Every character of Unicode: first in a name and later, of a declaration and of a reference, and raw in a value.
+/// Every character of Unicode first in a name and later; and those of the first plane, with some others, in references and raw in a value.
 pub fn every_character(_: &mut Random, sink: &mut Sink) {
     let mut text = String::new();
     for (character, turn) in ('\0'..=char::MAX).zip(0usize..) {
@@ -328,9 +328,11 @@ pub fn every_character(_: &mut Random, sink: &mut Sink) {
         };
         with("<!ENTITY ", " ''>");
         with("<!ENTITY a", " ''>");
-        with("<!ENTITY a '&", ";'>");
-        with("<!ENTITY a '&a", ";'>");
-        with("<!ENTITY a '", "'>");
+        if turn < 0x10000 || turn % 61 == 0 {
+            with("<!ENTITY a '&", ";'>");
+            with("<!ENTITY a '&a", ";'>");
+            with("<!ENTITY a '", "'>");
+        }
         if turn < 0x3000 {
             with("", "");
             with("<!ENTITY a ''", ">");
