@@ -2,6 +2,7 @@
 
 mod answer;
 mod documented;
+mod expat;
 mod faults;
 mod inputs;
 mod reading;
