@@ -93,7 +93,7 @@ static uint32_t least_depth(const struct request *q, uint64_t answer[2])
                                 q->pool, q->pool_length, answer);
 }
 
-/* Asked by the command's own call, since the strict rule refuses more; what it accepts it reads as the lenient one does. */
+/* The strict rule may refuse at depth 128 what the lenient one accepts; what it accepts it reads as the lenient one does. */
 uint32_t find_depth(const struct request *q, uint64_t *depth)
 {
     struct arguments arguments = *q->arguments;
@@ -102,18 +102,18 @@ uint32_t find_depth(const struct request *q, uint64_t *depth)
     uint32_t number;
     arguments.depth = DEEPEST;
     deepest.arguments = &arguments;
-    number = read_only(&deepest, answer);
-    if (number == 0) {
-        least_depth(q, answer);
-        *depth = answer[0];
-    }
-    return number;
+    number = arguments.strict ? read_only(&deepest, answer) : 0;
+    if (number != 0)
+        return number;
+    number = least_depth(q, answer);
+    *depth = answer[0];
+    return number == GOVLEZNA_NO_DEPTH ? GOVLEZNA_TOO_DEEP : number;
 }
 
 uint32_t make_call(const struct request *q, struct outcome *o)
 {
     struct govlezna_cursor cursor = { 0, 0 };
-    *o = (struct outcome){ 0, { 0, 0 }, NULL };
+    *o = (struct outcome){ .number = 0 };
     switch (q->arguments->command) {
     case TRIM: return o->number = trim(q, o->answer);
     case CDATA: return o->number = govlezna_cdata_next(q->text, q->text_length, &cursor, o->answer);

@@ -11,7 +11,7 @@
 #define POOL_MOST ((size_t)1048576)
 #define DEEPEST ((uint64_t)128)
 
-enum command { ESCAPE, UNESCAPE, NORMALIZE, CANONICAL, NMTOKENS, EOLS, TRIM, CDATA, CHECK, USED, C14N, REGISTER, LEAST_DEPTH };
+enum command { ESCAPE, UNESCAPE, NORMALIZE, CANONICAL, NMTOKENS, EOLS, TRIM, CDATA, CHECK, USED, C14N, DECLARATIONS, REGISTER, LEAST_DEPTH };
 enum side { BOTH, START, END };
 enum node { NEITHER, ATTRIBUTE, TEXT };
 enum action { ADD, WITHDRAW, COUNT, LIST };
@@ -34,6 +34,7 @@ struct arguments {
     const char *operand, *text, *file, *list, *pool; /* the operand is the text, or - */
     struct entity *entities;
     size_t entity_count;
+    const char *declarations; /* the file; NULL: none */
     int marked, strict;
     uint8_t level, version;
     uint64_t depth, limit;
@@ -49,8 +50,8 @@ struct arguments {
 /* One call to make: the arguments with their text and table read. The buffers are owned. */
 struct request {
     const struct arguments *arguments;
-    uint8_t *text, *list, *pool;
-    size_t text_length, list_length, pool_length;
+    uint8_t *text, *declarations, *list, *pool;
+    size_t text_length, declarations_length, list_length, pool_length;
 };
 
 /* The library's answer. The bytes are the result, owned; of check, trim and cdata there are none. */
@@ -58,12 +59,14 @@ struct outcome {
     uint32_t number;
     uint64_t answer[2];
     uint8_t *bytes;
+    int declarations; /* on the declarations, not on the text */
 };
 
 /* Where a refusal lies. */
 struct place {
     int known;
     struct span text;      /* the text that was being read */
+    const char *file;      /* the file of declarations that it is; NULL: the text given, or of an entity */
     struct span entity;    /* the name that it is the text of; no bytes: the text given */
     size_t start, end;
     size_t opened;         /* where in the text given the reference stands that leads there */
@@ -94,6 +97,12 @@ struct name {
 struct names {
     struct name *names;
     size_t count;
+};
+
+/* A definition of a table: its name and its text. */
+struct definition {
+    struct span name, text;
+    int shadowed; /* by an earlier one of the name */
 };
 
 /* descriptors.c: before anything else */
@@ -127,6 +136,13 @@ uint32_t make_call(const struct request *request, struct outcome *outcome);
 /* Of a value that is refused by 16: the least depth that it is accepted at, if the number is 0; else what refuses it at 128. */
 uint32_t find_depth(const struct request *request, uint64_t *depth);
 
+/* declarations.c. The table of the declarations, which the request then has; the library's number. */
+uint32_t declare(struct request *request, struct outcome *outcome);
+const char *declarations_name(const struct request *request);
+struct place declarations_place(const struct request *request, const struct outcome *outcome);
+/* The definition at the command of a table of declarations, and the command after it; 0 if there is none. */
+int next_definition(const struct request *request, const uint8_t **command, struct definition *definition);
+
 /* pieces.c */
 uint32_t next_piece(const struct request *request, struct govlezna_cursor *cursor, uint64_t answer[2]);
 
@@ -137,8 +153,12 @@ int next_token(struct span result, size_t *offset, struct span *token);
 struct place find_place(const struct request *request, const struct outcome *outcome);
 /* 0: it was no text that was refused. */
 int find_trail(const struct request *request, const struct outcome *outcome, struct trail *trail);
-/* What a name is bound to in a table that was checked, and the table's text. */
+/* The name and the text of a command 1 of a table that was checked. */
+struct definition read_definition(const struct request *request, const uint8_t *command);
+/* What a name is bound to in such a table, and the table's text. */
 enum bound look_up(const struct request *request, struct span name, struct span *text);
+/* The number and the length of the character here, in UTF-8 that was checked. */
+uint64_t decode(struct span text, size_t at, size_t *length);
 /* The name that an attribute's reference asks the table for. 0: it asks for none, as &#1; and &amp; do, and & without ;. */
 int asked_name(struct span reference, struct span *name);
 
@@ -164,6 +184,8 @@ const char *refused_option(const struct request *request, const struct outcome *
 void show_name(FILE *to, struct span name);
 /* A text of checked UTF-8 on one line, whatever is in it; with `null` as it is, ended by a zero byte. */
 void put_line(struct span text, int null);
+/* The text with <U+000D> for what a terminal would not print. */
+void show_text(FILE *to, struct span text);
 void report_refusal(const struct request *request, const struct outcome *outcome);
 
 /* register.c: the whole command, its answer too. 0: it was refused. */

@@ -35,7 +35,8 @@ static void put_tokens(struct span result, int null)
 static void put_check(const struct request *q, const struct outcome *o)
 {
     printf("UTF-8, %" PRIu64 " bytes\n", o->answer[0]);
-    if (q->arguments->list != NULL || q->arguments->entity_count > 0 || q->arguments->marked)
+    if (q->arguments->list != NULL || q->arguments->declarations != NULL || q->arguments->entity_count > 0 ||
+        q->arguments->marked)
         printf("table valid, %" PRIu64 " definitions\n", o->answer[1]);
 }
 
@@ -47,6 +48,19 @@ static void put_names(const struct request *q, const struct outcome *o)
         printf(": %s\n", bound_name(names.names[i].bound));
     }
     free(names.names);
+}
+
+/* One to a line; of those that have no say, that it is so. */
+static void put_definitions(const struct request *q)
+{
+    const uint8_t *command = first_command(q);
+    struct definition definition;
+    while (next_definition(q, &command, &definition)) {
+        show_name(stdout, definition.name);
+        fputs(" = ", stdout);
+        show_text(stdout, definition.text);
+        puts(definition.shadowed ? " (shadowed)" : "");
+    }
 }
 
 static void put_success(const struct request *q, const struct outcome *o)
@@ -62,6 +76,7 @@ static void put_success(const struct request *q, const struct outcome *o)
         break;
     case USED: return;
     case LEAST_DEPTH: printf("%" PRIu64 "\n", o->answer[0]); return;
+    case DECLARATIONS: put_definitions(q); return;
     case CDATA: put_sections(q); break;
     case TRIM: put(q->text + o->answer[0], o->answer[1]); break;
     default: put(o->bytes, o->answer[0]); break;
@@ -84,23 +99,34 @@ static void answer(const struct request *q, const struct outcome *o)
         report_refusal(q, o);
 }
 
+/* Declarations are read first: where they are refused, nothing else is done. 0: it was refused. */
+static int run(struct request *q)
+{
+    struct outcome outcome = { .number = 0 };
+    int accepted;
+    if (q->arguments->declarations == NULL || declare(q, &outcome) == 0) {
+        if (q->arguments->command == REGISTER)
+            return run_register(q);
+        if (q->arguments->command != DECLARATIONS)
+            make_call(q, &outcome);
+    }
+    accepted = outcome.number == 0;
+    answer(q, &outcome);
+    flush_output();
+    free(outcome.bytes);
+    return accepted;
+}
+
 int main(int argc, char **argv)
 {
     struct arguments arguments;
     struct request request;
-    struct outcome outcome = { 0, { 0, 0 }, NULL };
     int accepted;
     open_standard_descriptors();
     read_arguments(argc, argv, &arguments);
     read_request(&arguments, &request);
-    if (arguments.command == REGISTER) {
-        accepted = run_register(&request);
-    } else {
-        accepted = make_call(&request, &outcome) == 0;
-        answer(&request, &outcome);
-    }
+    accepted = run(&request);
     flush_output();
-    free(outcome.bytes);
     free_request(&request);
     free(arguments.entities);
     return accepted ? 0 : 1;

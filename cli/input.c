@@ -60,6 +60,14 @@ static uint8_t *read_file(const char *path, size_t most, size_t *length)
     return bytes;
 }
 
+/* The bytes of a file of at most so many bytes; - is standard input. */
+static uint8_t *read_input(const char *path, size_t most, size_t *length)
+{
+    if (strcmp(path, "-") == 0)
+        return read_stream(stdin, "standard input", most, length);
+    return read_file(path, most, length);
+}
+
 /* Drops one line end at the end of the text: LF, CR or both. */
 static void chomp(struct request *request)
 {
@@ -75,16 +83,14 @@ static void chomp(struct request *request)
 static void read_text(const struct arguments *a, struct request *request)
 {
     size_t most = a->chomp ? TEXT_MOST + 2 : TEXT_MOST;
-    if (a->command == REGISTER && a->action == LIST) {
+    if (a->command == DECLARATIONS || (a->command == REGISTER && a->action == LIST)) {
         request->text = allocate(0);
     } else if (a->text != NULL) {
         request->text_length = strlen(a->text);
         request->text = allocate(request->text_length);
         memcpy(request->text, a->text, request->text_length);
-    } else if (a->file != NULL && strcmp(a->file, "-") != 0) {
-        request->text = read_file(a->file, most, &request->text_length);
     } else {
-        request->text = read_stream(stdin, "standard input", most, &request->text_length);
+        request->text = read_input(a->file != NULL ? a->file : "-", most, &request->text_length);
     }
     if (a->chomp)
         chomp(request);
@@ -147,6 +153,8 @@ void read_request(const struct arguments *a, struct request *request)
     if (a->list != NULL) {
         request->list = read_file(a->list, LIST_MOST, &request->list_length);
         request->pool = read_file(a->pool, POOL_MOST, &request->pool_length);
+    } else if (a->declarations != NULL) {
+        request->declarations = read_input(a->declarations, TEXT_MOST, &request->declarations_length);
     } else {
         build_table(a, request);
     }
@@ -156,6 +164,7 @@ void read_request(const struct arguments *a, struct request *request)
 void free_request(struct request *request)
 {
     free(request->text);
+    free(request->declarations);
     free(request->list);
     free(request->pool);
 }

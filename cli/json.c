@@ -3,6 +3,7 @@
 
 #include <inttypes.h>
 #include <stdlib.h>
+#include <string.h>
 
 void json_string(struct span text)
 {
@@ -73,6 +74,23 @@ static void put_names(const struct request *q, const struct outcome *o)
     free(names.names);
 }
 
+static void put_definitions(const struct request *q)
+{
+    const uint8_t *command = first_command(q);
+    const char *between = "";
+    struct definition definition;
+    printf(",\"definitions\":[");
+    while (next_definition(q, &command, &definition)) {
+        printf("%s{\"name\":", between);
+        json_string(definition.name);
+        printf(",\"text\":");
+        json_string(definition.text);
+        printf(",\"shadowed\":%s}", definition.shadowed ? "true" : "false");
+        between = ",";
+    }
+    putchar(']');
+}
+
 static void begin(const struct request *q, uint32_t number)
 {
     printf("{\"command\":\"%s\"", command_name(q->arguments->command));
@@ -96,6 +114,10 @@ void json_success(const struct request *q, const struct outcome *o)
         put_names(q, o);
     } else if (command == LEAST_DEPTH) {
         json_number("least_depth", o->answer[0]);
+    } else if (command == DECLARATIONS) {
+        json_number("list", o->answer[0]);
+        json_number("pool", o->answer[1]);
+        put_definitions(q);
     } else {
         json_number("length", o->answer[0]);
         if (command == NORMALIZE || command == CANONICAL || command == NMTOKENS)
@@ -120,6 +142,17 @@ static void put_depth(const struct request *q)
     json_number("at_128", number);
 }
 
+/* No file, or one whose name is not UTF-8, is left out. */
+static void put_file(const char *path)
+{
+    struct span name = { (const uint8_t *)path, path == NULL ? 0 : strlen(path) };
+    uint64_t answer[2];
+    if (path == NULL || govlezna_check_utf8(name.bytes, name.length, answer) != 0)
+        return;
+    printf(",\"file\":");
+    json_string(name);
+}
+
 /* The library's answer, then the place: offsets in the text of `entity`, or else in the text given. */
 void json_refusal(const struct request *q, const struct outcome *o)
 {
@@ -135,6 +168,7 @@ void json_refusal(const struct request *q, const struct outcome *o)
         json_number("occurrence", occurrence);
     }
     if (place.known) {
+        put_file(place.file);
         if (place.entity.length > 0) {
             printf(",\"entity\":");
             json_string(place.entity);

@@ -5,8 +5,8 @@
 #include <stdlib.h>
 #include <string.h>
 
-static const char *const commands[] = { "escape", "unescape", "normalize", "canonical", "nmtokens", "eols", "trim",
-                                        "cdata",  "check",    "used",      "c14n",      "register", "depth" };
+static const char *const commands[] = { "escape", "unescape", "normalize", "canonical",    "nmtokens", "eols",  "trim",
+                                        "cdata",  "check",    "used",      "c14n",         "declarations", "register", "depth" };
 static const char *const actions[] = { "add", "withdraw", "count", "list" };
 
 #define COMMANDS (sizeof commands / sizeof commands[0])
@@ -14,8 +14,8 @@ static const char *const actions[] = { "add", "withdraw", "count", "list" };
 #define ROOM_IF_NOT_GIVEN ((size_t)1048576)
 
 enum option {
-    LEVEL, VERSION, DEPTH, LIMIT, STRICT, ENTITY, EXTERNAL, MARKED, TABLE, LINES, WITH_NULL, AT_START, AT_END, AS_ATTRIBUTE, AS_TEXT, ROOM,
-    OF_CANONICAL, TAKE_EMPTY, FROM_FILE, CHOMP, JSON, OPTIONS
+    LEVEL, VERSION, DEPTH, LIMIT, STRICT, ENTITY, EXTERNAL, MARKED, TABLE, DECLARED, LINES, WITH_NULL, AT_START, AT_END, AS_ATTRIBUTE,
+    AS_TEXT, ROOM, OF_CANONICAL, TAKE_EMPTY, FROM_FILE, CHOMP, JSON, OPTIONS
 };
 
 #define ON(command) (1u << (command))
@@ -24,7 +24,8 @@ enum option {
 #define VALUES (ON(NORMALIZE) | ON(CANONICAL) | ON(NMTOKENS) | ON(USED) | ON(LEAST_DEPTH))
 #define TABLES (VALUES | ON(UNESCAPE) | ON(CHECK))
 /* What register takes with --canonical alone. */
-#define OF_VALUES (ON(VERSION) | ON(DEPTH) | ON(LIMIT) | ON(STRICT) | ON(ENTITY) | ON(EXTERNAL) | ON(MARKED) | ON(TABLE))
+#define OF_VALUES (ON(VERSION) | ON(DEPTH) | ON(LIMIT) | ON(STRICT) | ON(ENTITY) | ON(EXTERNAL) | ON(MARKED) | ON(TABLE) | \
+                   ON(DECLARED))
 
 /* The options: how many values each takes, and which commands take it. */
 static const struct {
@@ -33,7 +34,7 @@ static const struct {
     unsigned commands;
 } options[OPTIONS] = {
     { "--level", 1, ON(ESCAPE) },
-    { "--version", 1, VALUES | ON(EOLS) | ON(REGISTER) },
+    { "--version", 1, TABLES | ON(EOLS) | ON(DECLARATIONS) | ON(REGISTER) },
     { "--depth", 1, (VALUES & ~ON(LEAST_DEPTH)) | ON(REGISTER) },
     { "--limit", 1, VALUES | ON(REGISTER) },
     { "--strict", 0, ON(NORMALIZE) | ON(CANONICAL) | ON(USED) | ON(REGISTER) },
@@ -41,6 +42,7 @@ static const struct {
     { "--external", 1, TABLES | ON(REGISTER) },
     { "--marked", 0, TABLES | ON(REGISTER) },
     { "--table", 2, TABLES | ON(REGISTER) },
+    { "--declarations", 1, TABLES | ON(REGISTER) },
     { "--lines", 0, ON(NMTOKENS) },
     { "--null", 0, ON(NMTOKENS) | ON(REGISTER) },
     { "--start", 0, ON(TRIM) },
@@ -50,8 +52,8 @@ static const struct {
     { "--room", 1, ON(REGISTER) },
     { "--canonical", 0, ON(REGISTER) },
     { "--empty", 0, ON(REGISTER) },
-    { "--file", 1, ALL },
-    { "--chomp", 0, ALL },
+    { "--file", 1, ALL & ~ON(DECLARATIONS) },
+    { "--chomp", 0, ALL & ~ON(DECLARATIONS) },
     { "--json", 0, ALL },
 };
 
@@ -108,6 +110,7 @@ static const char *expected(enum option option)
     case ENTITY: return "NAME=TEXT";
     case EXTERNAL: return "NAME";
     case TABLE: return "two files, LIST and POOL";
+    case DECLARED: return "a file of declarations";
     case ROOM: return "a number of bytes";
     default: return "PATH";
     }
@@ -186,6 +189,7 @@ static void set_option(struct arguments *a, enum option option, char **values)
     case EXTERNAL: add_entity(a, name, values[0], strlen(values[0]), NULL); break;
     case MARKED: a->marked = 1; break;
     case TABLE: a->list = values[0], a->pool = values[1]; break;
+    case DECLARED: a->declarations = values[0]; break;
     case LINES: a->lines = 1; break;
     case WITH_NULL: a->null = 1; break;
     case AT_START: a->side = START; break;
@@ -242,6 +246,29 @@ static void take_operand(struct arguments *a, const char *word, int options_end)
         a->text = word;
 }
 
+/* The word of declarations: its file. */
+static int take_file(struct arguments *a, const char *word)
+{
+    if (a->command != DECLARATIONS)
+        return 0;
+    if (a->declarations != NULL)
+        bad_usage(word, "a second file");
+    a->declarations = word;
+    return 1;
+}
+
+/* A file of declarations is the whole table. */
+static void check_declarations(const struct arguments *a, unsigned seen)
+{
+    static const enum option others[] = { ENTITY, EXTERNAL, MARKED, TABLE };
+    int text_from_input = a->text == NULL && (a->file == NULL || strcmp(a->file, "-") == 0);
+    for (size_t i = 0; i < sizeof others / sizeof others[0]; i++)
+        if (seen & ON(others[i]))
+            bad_usage("--declarations", "--entity, --external, --marked or --table is given too");
+    if (seen & ON(DECLARED) && strcmp(a->declarations, "-") == 0 && text_from_input)
+        bad_usage("--declarations", "standard input is the text");
+}
+
 static void check_together(const struct arguments *a, unsigned seen)
 {
     if (a->operand != NULL && a->file != NULL)
@@ -252,6 +279,10 @@ static void check_together(const struct arguments *a, unsigned seen)
         bad_usage(seen & ON(ENTITY) ? "--entity" : "--external", "--table is given too");
     if (a->marked && a->list != NULL)
         bad_usage("--marked", "--table is given too; a marked list starts with the byte 3");
+    if (seen & ON(DECLARED))
+        check_declarations(a, seen);
+    else if (seen & ON(VERSION) && (a->command == UNESCAPE || a->command == CHECK))
+        bad_usage("--version", "not an option of this command without --declarations");
     if ((a->lines || a->null) && a->json)
         bad_usage(a->lines ? "--lines" : "--null", "--json is given too, which has the tokens or entries");
     if (a->null && a->command == REGISTER && a->action != LIST)
@@ -317,10 +348,12 @@ void read_arguments(int argc, char **argv, struct arguments *a)
             options_end = 1, at++;
         else if (!options_end && argv[at][0] == '-' && argv[at][1] != '\0')
             at = take_option(a, &seen, argc, argv, at);
-        else if (take_action(a, argv[at]))
+        else if (take_action(a, argv[at]) || take_file(a, argv[at]))
             at++;
         else
             take_operand(a, argv[at++], options_end);
     }
+    if (a->command == DECLARATIONS && a->declarations == NULL)
+        a->declarations = "-";
     check_together(a, seen);
 }

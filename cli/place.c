@@ -17,7 +17,7 @@ struct range {
 };
 
 /* A definition of the table, and for each depth how many openings its text took, plus 1; 0: that is not known yet. */
-struct definition {
+struct cost {
     const uint8_t *command;
     uint32_t took[DEPTHS];
 };
@@ -26,8 +26,8 @@ struct definition {
 struct search {
     const struct request *request;
     const struct outcome *outcome;
-    struct definition *definitions;
-    struct definition **slots; /* at the hash of the name, or the next that is free; their number is a power of two */
+    struct cost *costs;
+    struct cost **slots; /* at the hash of the name, or the next that is free; their number is a power of two */
     size_t slot_count;
     uint64_t left; /* of the limit of openings */
     struct trail *trail;
@@ -58,6 +58,12 @@ static size_t little_endian(const uint8_t *bytes, size_t width)
     return value;
 }
 
+struct definition read_definition(const struct request *q, const uint8_t *command)
+{
+    return (struct definition){ .name = { q->pool + little_endian(command + 1, 4), command[5] },
+                                .text = { q->pool + little_endian(command + 6, 4), little_endian(command + 10, 2) } };
+}
+
 static struct span name_of(const struct request *q, const uint8_t *command)
 {
     return (struct span){ q->pool + little_endian(command + 1, 4), command[5] };
@@ -75,7 +81,7 @@ static enum bound bound_by(const struct request *q, const uint8_t *command, stru
     if (command != NULL && command[0] == 2)
         return EXTERNAL_ENTITY;
     if (command != NULL) {
-        *text = (struct span){ q->pool + little_endian(command + 6, 4), little_endian(command + 10, 2) };
+        *text = read_definition(q, command).text;
         return TABLE_TEXT;
     }
     for (size_t i = 0; i < sizeof predefined / sizeof predefined[0]; i++)
@@ -92,8 +98,8 @@ enum bound look_up(const struct request *q, struct span name, struct span *text)
     return bound_by(q, command[0] != 0 ? command : NULL, name, text);
 }
 
-/* Where the definition of this name is, or would be. */
-static struct definition **slot_of(const struct search *s, struct span name)
+/* Where that of the first definition of this name is, or would be. */
+static struct cost **slot_of(const struct search *s, struct span name)
 {
     size_t hash = 0;
     for (size_t i = 0; i < name.length; i++)
@@ -113,15 +119,15 @@ static void index_table(struct search *s)
         count++;
     for (s->slot_count = 16; s->slot_count < 2 * count; s->slot_count *= 2)
         continue;
-    s->definitions = calloc(count + 1, sizeof *s->definitions);
+    s->costs = calloc(count + 1, sizeof *s->costs);
     s->slots = calloc(s->slot_count, sizeof *s->slots);
-    if (s->definitions == NULL || s->slots == NULL)
+    if (s->costs == NULL || s->slots == NULL)
         fail("out of memory", "the place of the refusal is not found");
     count = 0;
     for (const uint8_t *command = first_command(q); command[0] != 0; command += command_size(command)) {
-        struct definition **slot = slot_of(s, name_of(q, command));
+        struct cost **slot = slot_of(s, name_of(q, command));
         if (*slot == NULL) {
-            *slot = &s->definitions[count++];
+            *slot = &s->costs[count++];
             (*slot)->command = command;
         }
     }
@@ -280,10 +286,10 @@ static int search_at_depth_0(struct search *s, const struct reading *r)
 static int search_text(struct search *s, struct reading *r);
 
 /* Looks through the text that a reference opens; not where it is known that the limit is enough for it. */
-static int search_opened(struct search *s, const struct reading *r, struct definition *definition, struct span name, struct span text)
+static int search_opened(struct search *s, const struct reading *r, struct cost *cost, struct span name, struct span text)
 {
     struct reading inner = { .text = text, .name = name, .depth = r->depth - 1, .level = r->level + 1 };
-    uint32_t *took = &definition->took[inner.depth];
+    uint32_t *took = &cost->took[inner.depth];
     uint64_t before = --s->left;
     if (*took != 0 && *took - 1 <= s->left) {
         s->left -= *took - 1;
@@ -319,18 +325,18 @@ static int repeats(struct search *s, struct reading *r, struct range *reference)
 static int search_reference(struct search *s, struct reading *r, struct range *reference)
 {
     struct span whole = { r->text.bytes + reference->start, 0 }, name, text;
-    struct definition *definition = NULL;
+    struct cost *cost = NULL;
     enum bound bound = PREDEFINED;
     uint64_t before = s->left;
     reference->end = reference_end(s, r->text, reference->start);
     whole.length = reference->end - reference->start;
     if (asks(s, whole, &name)) {
-        definition = *slot_of(s, name);
-        bound = bound_by(s->request, definition != NULL ? definition->command : NULL, name, &text);
+        cost = *slot_of(s, name);
+        bound = bound_by(s->request, cost != NULL ? cost->command : NULL, name, &text);
     }
     if (refused_here(s, whole, bound))
         return found_reference(s, r, *reference);
-    if (bound == TABLE_TEXT && attribute(s) && search_opened(s, r, definition, name, text))
+    if (bound == TABLE_TEXT && attribute(s) && search_opened(s, r, cost, name, text))
         return 1;
     *kept_at(r, reference->start) = (struct accepted){ whole, before - s->left };
     return 0;
@@ -356,10 +362,11 @@ static int search_text(struct search *s, struct reading *r)
 }
 
 /* Is it the walk over a text that was refused? */
-static int ended_the_walk(uint32_t number)
+static int ended_the_walk(const struct outcome *o)
 {
-    return (number >= GOVLEZNA_UNTERMINATED_ENTITY && number <= GOVLEZNA_TOO_MANY_OPENINGS) ||
-           number == GOVLEZNA_EXTERNAL_ENTITY || number == GOVLEZNA_NO_DEPTH || is_forbidden(number);
+    uint32_t number = o->number;
+    return !o->declarations && ((number >= GOVLEZNA_UNTERMINATED_ENTITY && number <= GOVLEZNA_TOO_MANY_OPENINGS) ||
+                                number == GOVLEZNA_EXTERNAL_ENTITY || number == GOVLEZNA_NO_DEPTH || is_forbidden(number));
 }
 
 static struct place find_in_walk(const struct request *q, const struct outcome *o, struct trail *trail)
@@ -368,7 +375,7 @@ static struct place find_in_walk(const struct request *q, const struct outcome *
     struct reading given = { .text = { q->text, q->text_length }, .depth = q->arguments->depth };
     index_table(&s);
     search_text(&s, &given);
-    free(s.definitions);
+    free(s.costs);
     free(s.slots);
     return s.place;
 }
@@ -376,18 +383,20 @@ static struct place find_in_walk(const struct request *q, const struct outcome *
 struct place find_place(const struct request *q, const struct outcome *o)
 {
     struct trail trail = { .count = 0 };
+    if (o->declarations)
+        return declarations_place(q, o);
     if (o->number == GOVLEZNA_NOT_UTF8)
         return (struct place){ .known = 1,
                                .text = { q->text, q->text_length },
                                .start = o->answer[0],
                                .end = o->answer[0] + 1 };
-    return ended_the_walk(o->number) ? find_in_walk(q, o, &trail) : (struct place){ .known = 0 };
+    return ended_the_walk(o) ? find_in_walk(q, o, &trail) : (struct place){ .known = 0 };
 }
 
 int find_trail(const struct request *q, const struct outcome *o, struct trail *trail)
 {
     trail->count = 0;
-    if (!ended_the_walk(o->number))
+    if (!ended_the_walk(o))
         return 0;
     find_in_walk(q, o, trail);
     return 1;

@@ -217,7 +217,7 @@ static int run_on_file(const struct request *q)
 {
     const struct arguments *a = q->arguments;
     struct store store;
-    struct outcome outcome = { 0, { 0, 0 }, NULL };
+    struct outcome outcome = { .number = 0 };
     int found = open_store(a, &store);
     if (!found) {
         put_missing(a, &store);

@@ -146,14 +146,28 @@ void put_line(struct span text, int null)
     putchar(null ? '\0' : '\n');
 }
 
+void show_text(FILE *to, struct span text)
+{
+    for (size_t at = 0; at < text.length;) {
+        size_t length = character(text, at);
+        if (control(text.bytes + at, length))
+            fprintf(to, "<U+%04" PRIX64 ">", decode(text, at, &length));
+        else
+            fwrite(text.bytes + at, 1, length, to);
+        at += length;
+    }
+}
+
 static void show_place(const struct request *q, const struct place *place)
 {
     struct span given = { q->text, q->text_length };
-    if (place->end > place->start + 1)
+    if (place->start == place->text.length)
+        fputs(": the end", stderr);
+    else if (place->end > place->start + 1)
         fprintf(stderr, ": bytes %zu..%zu", place->start, place->end);
     else
         fprintf(stderr, ": byte %zu", place->start);
-    fputs(" of the text", stderr);
+    fprintf(stderr, " of %s", place->file == NULL ? "the text" : place->file);
     if (place->entity.length > 0) {
         fputs(" of the entity ", stderr);
         show_name(stderr, place->entity);

@@ -8,12 +8,13 @@
  * govlezna_normalize_nmtokens, whose scratch then holds the value.
  *
  * To learn how long a result is, call with an output of length 0: GOVLEZNA_NO_ROOM gives the length needed, and success
- * means that the result is empty. govlezna_normalize_nmtokens is asked for two lengths, one after the other.
+ * means that the result is empty. govlezna_normalize_nmtokens is asked for two lengths, one after the other; of
+ * govlezna_read_declarations GOVLEZNA_NO_TABLE_ROOM gives both lengths.
  *
  * What a caller owes:
- * - `text`, `list` and `pool` point to as many readable bytes as their length says, of any value; `out` and `scratch` to
- *   as many writable bytes. NULL is allowed where the length is 0; but a list of no bytes is refused: "no table" is the
- *   list { 0 } of length 1.
+ * - `text`, `list` and `pool` point to as many readable bytes as their length says, of any value; `out` and `scratch`, and
+ *   `list` and `pool` of govlezna_read_declarations, to as many writable bytes. NULL is allowed where the length is 0; but a
+ *   list of no bytes is refused: "no table" is the list { 0 } of length 1.
  * - `answer` points to two writable words, `cursor` to a cursor, `offset` to a word; `form` and `buffer` of a register are as
  *   `text` and `out` (for govlezna_register_count both are read alone), `used` points to a writable word.
  * - `answer`, `cursor`, `offset` and `used` are aligned as C aligns their types, to 8 bytes. Bytes may lie anywhere.
@@ -74,6 +75,12 @@ extern "C" {
 #define GOVLEZNA_NO_SCRATCH 18          /* scratch too short: first is the length needed */
 #define GOVLEZNA_NO_ROOM 19             /* output shorter than the result: first is the length needed */
 #define GOVLEZNA_CURSOR_OUTSIDE 20      /* cursor or offset past the end or inside a character: first is it */
+#define GOVLEZNA_MALFORMED_DECLARATION 21 /* declarations: first is the offset of the first character that cannot stand
+                                             there, or of the end */
+#define GOVLEZNA_DECLARATION_TOO_LARGE 22 /* declarations: a name over 255 bytes, a value over 65,535, or more than 4,096 of
+                                             them: first is the offset */
+#define GOVLEZNA_NO_TABLE_ROOM 23       /* list or pool too short, or the pool over 1,048,576 bytes: first and second are the
+                                           lengths needed of list and pool */
 #define GOVLEZNA_FORBIDDEN_REFERENCE 25 /* strict calls: a reference names a character that the version does not allow */
 #define GOVLEZNA_FORBIDDEN_CHARACTER 26 /* strict calls: a character that may not stand there: first is its offset */
 #define GOVLEZNA_EXTERNAL_ENTITY 27     /* the name of an external entity: first is the offset of & */
@@ -202,6 +209,35 @@ uint32_t govlezna_check_table(const uint8_t *list, size_t list_length, const uin
                               uint64_t answer[2]);
 
 /*
+ * The table of a text of entity declarations, as `<!ENTITY sail "Fock">`: declarations and white space, nothing else. The
+ * line ends of the version (see govlezna_normalize_eols) become LF first, and offsets count the bytes after that. Names are
+ * Name of XML 1.0, fifth edition. A value stands between " " or ' ' and is EntityValue, with any character but % and the
+ * quote: &#65; or &#x41; is replaced by the character, and may so bring what else could not stand there; &name; stays as
+ * written, until the value is used.
+ *
+ * `list`, `pool`: outputs, of any length. The list is a mark, a definition for each declaration in their order, and the end:
+ * 2 bytes and 12 for each. The pool is each name and then its value, without gaps. Of a name that is declared twice the
+ * first declaration binds. The table passes govlezna_check_table with as many definitions as there are declarations.
+ * Success: answer[0] is the length of the list, answer[1] that of the pool; the rest of both keep their bytes.
+ * Refusals, in this order: TOO_LONG; UNKNOWN_BYTE (version over 2); NOT_UTF8; the leftmost fault, of two at one place
+ * MALFORMED_DECLARATION; NO_TABLE_ROOM (list or pool shorter than what is written, or the pool would pass 1,048,576 bytes;
+ * answer[0] and answer[1]: the lengths of list and pool). None writes to `list` or `pool`. The faults are
+ * MALFORMED_DECLARATION (another declaration, an external identifier, % in a value, a quote or the end before the ; of a
+ * reference, or any departure from the form; answer[0]: the offset of the first character that cannot stand there, or of
+ * the end), DECLARATION_TOO_LARGE (a declared name over 255 bytes, a value over 65,535 bytes in the pool, a < after 4,096
+ * declarations; answer[0]: the offset of the name's end, of the value's closing quote, of that <) and UNEXPECTED_SIGN,
+ * INVALID_NUMBER, ILLEGAL_CHARACTER, INVALID_CODEPOINT (of what stands between &# and the next ; as in
+ * govlezna_parse_number).
+ * Time: the text is read once to judge and to count, and once more to write; a refusal counts its line ends.
+ * Example: version 0: `<!ENTITY e "sail">` gives the marked table above, list of 14 and pool of 5 bytes. `<!ENTITY e "a%">`
+ * is refused by MALFORMED_DECLARATION, first 13, and `<!ENTITY e "&#x;">` by INVALID_NUMBER; with no list and no pool the
+ * first one by NO_TABLE_ROOM, first 14, second 5.
+ */
+GOVLEZNA_MUST_USE
+uint32_t govlezna_read_declarations(const uint8_t *text, size_t text_length, uint8_t version, uint8_t *list,
+                                    size_t list_length, uint8_t *pool, size_t pool_length, uint64_t answer[2]);
+
+/*
  * The text with each reference as what it stands for: &#65; or &#x41; as the character, &name; as the name's text, which
  * is copied as it stands. From & the next & or ; must be a ; .
  *
@@ -278,6 +314,7 @@ uint32_t govlezna_normalize_attribute_value(const uint8_t *text, size_t text_len
  * table defines e as `&lt;`, and `&e;` needs 2; with the pool `e&e;` and a text length of 3 it is refused by
  * TOO_MANY_OPENINGS, first 0, and with limit 1,000,000 by NO_DEPTH.
  */
+GOVLEZNA_MUST_USE
 uint32_t govlezna_least_depth(const uint8_t *text, size_t text_length, uint8_t version, uint64_t limit,
                               const uint8_t *list, size_t list_length, const uint8_t *pool, size_t pool_length,
                               uint64_t answer[2]);

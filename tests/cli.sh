@@ -540,6 +540,84 @@ line_ends_dropped() {
     refuses 1 'over 16,777,216 bytes' check --chomp --file "$room/line"
 }
 
+# Files of declarations: their tables in words, values read through them, and faults, whose place is that in the file.
+declarations() {
+    local office=$room/office.ent faulty=$room/faulty.ent
+    printf '<!ENTITY maker "Gro&#xDF;">\r\n<!ENTITY sail \x27Fock\r\nof &maker;\x27>\n<!ENTITY maker "other"><!ENTITY two\r"&#xD;&#xA;&#38;" >' >"$office"
+    gives $'maker = Groß\nsail = Fock<U+000A>of &maker;\nmaker = other (shadowed)\ntwo = <U+000D><U+000A>&\n' declarations "$office"
+    gives '{"command":"declarations","number":0,"list":50,"pool":45,"definitions":[{"name":"maker","text":"Groß","shadowed":false},{"name":"sail","text":"Fock\u000aof &maker;","shadowed":false},{"name":"maker","text":"other","shadowed":true},{"name":"two","text":"\u000d\u000a&","shadowed":false}]}'$'\n' \
+        declarations --json "$office"
+    input=$office
+    gives $'maker = Groß\nsail = Fock<U+000A>of &maker;\nmaker = other (shadowed)\ntwo = <U+000D><U+000A>&\n' declarations
+    gives 'Groß' unescape '&maker;' --declarations -
+    input=/dev/null
+    gives '' declarations
+    gives '{"command":"declarations","number":0,"list":2,"pool":0,"definitions":[]}'$'\n' declarations --json
+    gives 'x Fock of Groß' normalize 'x &sail;' --declarations "$office"
+    gives 'Fock of Groß&#9;' canonical '&sail;&#9;' --declarations="$office"
+    gives $'Fock\nof\nGroß\n' nmtokens --lines ' &sail; ' --declarations "$office"
+    gives $'Fock\nof &maker;' unescape '&sail;' --declarations "$office"
+    gives $'UTF-8, 1 bytes\ntable valid, 4 definitions\n' check a --declarations "$office"
+    lists 0 $'sail: text\nmaker: text\n' '&sail;' --declarations "$office"
+    refuses 10 ': byte 2 of the text of the entity two' normalize 'a&two;' --declarations "$office"
+    refuses 11 ': bytes 1..5 of the text, line 1' normalize '&boom;' --declarations "$office"
+    # The line ends of the version, in every command.
+    printf '<!ENTITY\xC2\x85a "x\xE2\x80\xA8\r\xC2\x85y">' >"$office"
+    gives $'a = x<U+000A><U+000A>y\n' declarations --version 1.1 "$office"
+    gives $'x\n\ny' unescape '&a;' --declarations "$office" --version 2
+    gives $'UTF-8, 0 bytes\ntable valid, 1 definitions\n' check '' --declarations "$office" --version 1.1
+    gives 'x  y' normalize '&a;' --declarations "$office" --version 1.1
+    shows "govlezna: refusal 21: not of the form <!ENTITY name 'text'>: bytes 8..10 of $office, line 1
+    <!ENTITY?a \"x?
+            ^" declarations "$office"
+    refuses 4 '' declarations "$office" --version 3
+    declaration_faults "$office"
+}
+
+# fault NUMBER PLACE BYTES: of a file with these bytes, as printf has them, by the command and by the option, which answers before the text.
+fault() {
+    printf "$3" >"$faulty"
+    refuses "$1" "${2//FILE/$faulty}" declarations "$faulty" "${@:4}"
+    refuses "$1" "${2//FILE/$faulty}" unescape $'\xFF' --declarations "$faulty" "${@:4}"
+    lists "$1" '' '&lt;' --declarations "$faulty" "${@:4}"
+}
+
+declaration_faults() { # FILE
+    local faulty=$1 name
+    fault 21 ': the end of FILE, line 1' '<!ENTITY a "x"'
+    fault 21 ': the end of FILE, line 2' '<!ENTITY a "x"\n'
+    fault 21 ': byte 14 of FILE, line 2' '<!ENTITY a\r\n"x%%">'
+    fault 21 ': byte 17 of FILE, line 5' '<!ENTITY a\r\r\n\n"\r\n%%">'
+    fault 21 ': byte 17 of FILE, line 2' '<!ENTITY a "\xC2\x85\r\xC2\x85%%">' --version 1.1
+    fault 21 ': byte 17 of FILE, line 1' '<!ENTITY a "\xC2\x85\xE2\x80\xA8%%">' --version 1.1
+    fault 21 ': bytes 8..10 of FILE, line 1' '<!ENTITYß "x">'
+    fault 21 ': byte 0 of FILE, line 1' 'a'
+    fault 21 ': bytes 0..3 of FILE, line 1' '\xEF\xBB\xBF<!ENTITY a "x">'
+    fault 21 ': byte 11 of FILE, line 1' '<!ENTITY a SYSTEM "x">'
+    fault 21 ': byte 15 of FILE, line 1' "<!ENTITY a '' >>"
+    fault 5 ': byte 13 of FILE, line 2' '<!ENTITY a\n"x\xFF">'
+    fault 12 ': bytes 16..21 of FILE, line 2' '<!ENTITY a\r\n"&a;&#+1;">'
+    fault 13 ': bytes 18..27 of FILE, line 1' '<!ENTITY a "&#65;;&#1\r\n&#2;&#0;">'
+    fault 14 ', 55296: bytes 21..29 of FILE, line 1' '<!ENTITY a "ß;&é;ß&#xD800;">'
+    fault 15 ': bytes 38..42 of FILE, line 2' '<!ENTITY a "&#65;&b;"><!ENTITY b\n"ßß&#0;&#0;">'
+    name=$(printf 'n%.0s' {1..256})
+    fault 22 ': byte 265 of FILE, line 1' "<!ENTITY $name ''>"
+    fault 21 ': byte 265 of FILE, line 1' "<!ENTITY $name''>"
+    bytes 65536 "$room/value"
+    { printf '<!ENTITY a "'; cat "$room/value"; printf '">'; } >"$faulty"
+    refuses 22 ": byte 65548 of $faulty, line 1" declarations "$faulty"
+    for name in {1..4096}; do echo "<!ENTITY a$name ''>"; done >"$faulty"
+    gives $'UTF-8, 0 bytes\ntable valid, 4096 definitions\n' check --declarations "$faulty"
+    echo '<' >>"$faulty"
+    refuses 22 "of $faulty, line 4097" declarations "$faulty"
+    bytes 65535 "$room/value"
+    for name in {1..17}; do printf '<!ENTITY a "'; cat "$room/value"; printf '">'; done >"$faulty"
+    refuses 23 '1,048,576' declarations "$faulty"
+    refuses 23 '1,048,576' normalize a --declarations "$faulty"
+    bytes 16777217 "$faulty"
+    refuses 1 '16,777,216' declarations "$faulty"
+}
+
 # full_disk ARGUMENTS..: status 2, and the reason, where nothing can be written.
 full_disk() {
     "$program" "$@" </dev/null >/dev/full 2>"$room/err"
@@ -679,6 +757,22 @@ usage() {
     misused 'at most 65,535 bytes' unescape a --entity "b=$(head -c 65536 /dev/zero | tr '\0' a)"
     misused 'two files' unescape a --table b
     misused '--table is given too' unescape a --entity b=c --table d e
+    misused '--table is given too' unescape a --declarations b --table d e
+    misused 'is given too' check a --declarations b --entity c=d
+    misused 'is given too' check a --external c --declarations b
+    misused 'is given too' normalize a --declarations b --marked
+    misused 'given twice' used a --declarations b --declarations c
+    misused 'its value is missing' used a --declarations
+    misused 'standard input is the text' normalize --declarations -
+    misused 'standard input is the text' normalize --file - --declarations -
+    misused 'without --declarations' check a --version 1.1
+    misused 'not an option of this command' escape a --declarations b
+    misused 'not an option of this command' declarations b --file c
+    misused 'not an option of this command' declarations b --declarations c
+    misused 'not an option of this command' declarations b --depth 1
+    misused 'a second file' declarations b c
+    misused "$room/none: No such file" declarations "$room/none"
+    misused "$room/none: No such file" check a --declarations "$room/none"
     misused '--end is given too' trim a --start --end
     misused 'takes no value' trim a --start=2
     run --help
@@ -696,6 +790,7 @@ refusals
 places
 carets
 files
+declarations
 sizes
 sections
 tokens

@@ -110,6 +110,33 @@ static void marked_lists(void)
     expect_bytes(__LINE__, out, "\r\n");
 }
 
+static uint32_t declared(const char *text, uint8_t *commands, size_t length, uint8_t *into, size_t size)
+{
+    return govlezna_read_declarations(bytes(text), strlen(text), 0, commands, length, into, size, answer);
+}
+
+/* The table is the marked one, byte for byte; a refusal leaves both buffers, and a success what is past its bytes. */
+static void declarations(void)
+{
+    const char *sail = "<!ENTITY e \"sail\">";
+    uint8_t commands[15], into[6];
+    memset(commands, UNTOUCHED, sizeof commands);
+    memset(into, UNTOUCHED, sizeof into);
+    expect(__LINE__, declared("<!ENTITY e \"a%\">", commands, 15, into, 6), GOVLEZNA_MALFORMED_DECLARATION, 13, 0);
+    expect(__LINE__, declared("<!ENTITY e \"&#x;\">", commands, 15, into, 6), GOVLEZNA_INVALID_NUMBER, 0, 0);
+    expect(__LINE__, declared(sail, NULL, 0, NULL, 0), GOVLEZNA_NO_TABLE_ROOM, 14, 5);
+    expect(__LINE__, declared(sail, commands, 13, into, 6), GOVLEZNA_NO_TABLE_ROOM, 14, 5);
+    expect(__LINE__, declared(sail, commands, 15, into, 4), GOVLEZNA_NO_TABLE_ROOM, 14, 5);
+    answer[0] = commands[0], answer[1] = into[0];
+    expect(__LINE__, 0, 0, UNTOUCHED, UNTOUCHED);
+    expect(__LINE__, declared(sail, commands, 15, into, 6), 0, 14, 5);
+    if (memcmp(commands, marked, sizeof marked) != 0 || memcmp(into, pool, sizeof pool) != 0 ||
+        commands[14] != UNTOUCHED || into[5] != UNTOUCHED) {
+        wrong = 1;
+        puts("declarations: another table");
+    }
+}
+
 static uint32_t strictly(const char *text, uint8_t version)
 {
     return govlezna_normalize_attribute_value_strict(bytes(text), strlen(text), version, 1, 0, empty, 1, NULL, 0, out,
@@ -240,6 +267,7 @@ static void examples(void)
     expect(__LINE__, normalize(2, 10, external, sizeof external), GOVLEZNA_EXTERNAL_ENTITY, 0, 0);
     least_depths();
     marked_lists();
+    declarations();
     canonical_xml();
     strict_calls();
     tokens();

@@ -40,6 +40,8 @@ WRAP(govlezna_normalize_attribute_value, (TEXT, SETTINGS, TABLE, OUT), text, n, 
      answer)
 WRAP(govlezna_normalize_attribute_value_strict, (TEXT, SETTINGS, TABLE, OUT), text, n, version, depth, limit, list, ln, pool, pn,
      out, on, answer)
+WRAP(govlezna_least_depth, (TEXT, uint8_t version, uint64_t limit, TABLE, uint64_t answer[2]), text, n, version, limit, list, ln, pool,
+     pn, answer)
 WRAP(govlezna_canonical_form, (TEXT, SETTINGS, TABLE, SCRATCH, OUT), text, n, version, depth, limit, list, ln, pool, pn, scratch,
      sn, out, on, answer)
 WRAP(govlezna_canonical_form_strict, (TEXT, SETTINGS, TABLE, SCRATCH, OUT), text, n, version, depth, limit, list, ln, pool, pn,

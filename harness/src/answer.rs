@@ -19,6 +19,11 @@ pub struct Answer {
     /// How long the scratch is for which this is the answer, and its first bytes.
     pub scratch_room: usize,
     pub scratch: Vec<u8>,
+    /// How long list and pool are of a table that is written, and their first bytes.
+    pub list_room: usize,
+    pub list: Vec<u8>,
+    pub pool_room: usize,
+    pub pool: Vec<u8>,
     /// The cursor after the call.
     pub cursor: Cursor,
     /// The lent offset after it.
@@ -40,6 +45,10 @@ pub fn refusal(number: u32, first: u64) -> Answer {
         written: vec![],
         scratch_room: 0,
         scratch: vec![],
+        list_room: 0,
+        list: vec![],
+        pool_room: 0,
+        pool: vec![],
         cursor: Cursor::default(),
         offset: 0,
         register: Left::default(),

@@ -3,7 +3,7 @@
 use crate::lent::Cursor;
 use crate::random::Random;
 use crate::register::Held;
-use crate::table::{Table, EMPTY};
+use crate::table::{Table, EMPTY, LONGEST_POOL};
 
 /// Document 01's limits. The Rust has the depth alone.
 pub const LONGEST_TEXT: usize = 16_777_216;
@@ -17,6 +17,9 @@ pub const LONGEST_OUTPUT: usize = 6 * LONGEST_TEXT + MOST_SPARE;
 pub const LONGEST_SCRATCH: usize = LONGEST_TEXT + MOST_SPARE;
 /// The scratch of a canonical form holds the character in hand (K7).
 pub const HAND: usize = 4;
+/// A list and a pool that are written may be lent longer than a table may be.
+pub const LONGEST_NEW_LIST: usize = 66_000;
+pub const LONGEST_NEW_POOL: usize = LONGEST_POOL + 1000;
 /// A register with one entry of a form that is longer than a text may be.
 pub const LONGEST_REGISTER: usize = LONGEST_TEXT + 100;
 /// Buffers start at every address modulo this.
@@ -38,6 +41,9 @@ pub struct Arguments<'a> {
     pub table: Table<'a>,
     pub room: Room,
     pub scratch: Room,
+    /// Of a table that is written, beside what its list and its pool need.
+    pub new_list: Room,
+    pub new_pool: Room,
     pub cursor: Cursor,
     pub offset: u64,
     pub register: Held<'a>,
@@ -100,6 +106,8 @@ impl<'a> Arguments<'a> {
             table: EMPTY,
             room: Room::Exact,
             scratch: Room::Exact,
+            new_list: Room::Exact,
+            new_pool: Room::Exact,
             cursor: Cursor::default(),
             offset: 0,
             register: Held::default(),

@@ -4,7 +4,8 @@
 use crate::answer::Answer;
 use crate::arguments::{Arguments, Place, Room};
 use crate::arguments::{
-    ALIGNMENTS, LONGEST_OUTPUT, LONGEST_REGISTER, LONGEST_SCRATCH, LONGEST_TEXT,
+    ALIGNMENTS, LONGEST_NEW_LIST, LONGEST_NEW_POOL, LONGEST_OUTPUT, LONGEST_REGISTER,
+    LONGEST_SCRATCH, LONGEST_TEXT,
 };
 use crate::lent::{Cursor, Lent};
 use crate::register::Held;
@@ -132,6 +133,8 @@ pub struct Buffers {
     text: Guarded,
     list: Guarded,
     pool: Guarded,
+    new_list: Guarded,
+    new_pool: Guarded,
     scratch: Guarded,
     out: Guarded,
     cursor: Guarded,
@@ -147,6 +150,8 @@ impl Buffers {
             text: Guarded::new("the text", LONGEST_TEXT + 1),
             list: Guarded::new("the list", LONGEST_LIST + 1),
             pool: Guarded::new("the pool", LONGEST_POOL + 1),
+            new_list: Guarded::new("the list written", LONGEST_NEW_LIST),
+            new_pool: Guarded::new("the pool written", LONGEST_NEW_POOL),
             scratch: Guarded::new("the scratch", LONGEST_SCRATCH),
             out: Guarded::new("the output", LONGEST_OUTPUT),
             cursor: Guarded::new("the cursor", CURSOR),
@@ -169,6 +174,10 @@ impl Buffers {
         self.out.prefill(expected.room, other_alignment, fill);
         self.scratch
             .prefill(expected.scratch_room, other_alignment ^ alignment, fill);
+        self.new_list
+            .prefill(expected.list_room, other_alignment, fill);
+        self.new_pool
+            .prefill(expected.pool_room, other_alignment ^ alignment, fill);
         // A cursor, an offset and an array of words are owed no more than a word's alignment.
         self.cursor
             .prefill(CURSOR, (turn + 3) * WORD % ALIGNMENTS, fill)
@@ -198,6 +207,10 @@ impl Buffers {
             list_length: list.len(),
             pool: self.pool.hold(pool, pool_place, alignment, fill),
             pool_length: pool.len(),
+            new_list: lent_pointer(&mut self.new_list, arguments.new_list),
+            new_list_length: expected.list_room,
+            new_pool: lent_pointer(&mut self.new_pool, arguments.new_pool),
+            new_pool_length: expected.pool_room,
             scratch: lent_pointer(&mut self.scratch, arguments.scratch),
             scratch_length: expected.scratch_room,
             out: lent_pointer(&mut self.out, arguments.room),
@@ -220,6 +233,8 @@ impl Buffers {
             .damage(&word_bytes([expected.first, expected.second]))
             .or_else(|| self.out.damage(&expected.written))
             .or_else(|| self.scratch.damage(&expected.scratch))
+            .or_else(|| self.new_list.damage(&expected.list))
+            .or_else(|| self.new_pool.damage(&expected.pool))
             .or_else(|| self.cursor.damage(&cursor_bytes(expected.cursor)))
             .or_else(|| self.offset.damage(&expected.offset.to_ne_bytes()))
             .or_else(|| self.register.damage_of_held(&expected.register.buffer))

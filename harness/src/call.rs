@@ -46,6 +46,8 @@ pub enum Parameter {
     Limit,
     /// List and pool.
     Table,
+    /// List and pool, written.
+    NewTable,
     Scratch,
     Output,
     Cursor,

@@ -140,6 +140,12 @@ impl<'a> Comparison<'a> {
         if self.call.has(Parameter::Table) {
             description += &table_description(arguments, lent);
         }
+        if self.call.has(Parameter::NewTable) {
+            description += &format!(
+                "\n  list of {} bytes, pool of {}",
+                lent.new_list_length, lent.new_pool_length
+            );
+        }
         if self.call.has(Parameter::Register) || self.call.has(Parameter::RegisterRead) {
             description += &format!(
                 "\n  register {}, used {}",

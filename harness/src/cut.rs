@@ -71,6 +71,8 @@ pub fn cut_for(call: &Call, bytes: &[u8], each: &mut dyn FnMut(Arguments, usize)
         table: Table { list: &list, pool },
         room: room_of(room),
         scratch: scratch_of(scratch),
+        new_list: room_of(room),
+        new_pool: room_of(scratch),
         cursor,
         offset: lent_offset,
         ..Arguments::text(text)

@@ -14,6 +14,8 @@ pub struct Documented {
     limit: u64,
     room: Room,
     scratch: Room,
+    new_list: Room,
+    new_pool: Room,
     outcome: Outcome,
 }
 
@@ -37,7 +39,9 @@ pub enum Outcome {
     Formed(&'static str, u64, &'static [u8]),
     /// The number and both answer words; a scratch is left.
     Answered(u32, u64, u64),
-    /// The same, and a register's buffer and its used length after the call.
+    /// List and pool of these names and texts, after a mark.
+    Declared(&'static [(&'static str, &'static str)]),
+    /// The number and both answer words, and a register's buffer and its used length after the call.
     Left(u32, u64, u64, &'static [u8], u64),
 }
 
@@ -50,6 +54,8 @@ pub const fn row(text: &'static str, choice: u8, outcome: Outcome) -> Documented
         limit: 0,
         room: Room::Exact,
         scratch: Room::Exact,
+        new_list: Room::Exact,
+        new_pool: Room::Exact,
         outcome,
     }
 }
@@ -72,6 +78,15 @@ pub const fn in_room(length: usize, row: Documented) -> Documented {
 pub const fn in_scratch(length: usize, row: Documented) -> Documented {
     let scratch = Room::Of(length);
     Documented { scratch, ..row }
+}
+
+/// With a list and a pool to be written of so many bytes.
+pub const fn in_table(list: usize, pool: usize, row: Documented) -> Documented {
+    Documented {
+        new_list: Room::Of(list),
+        new_pool: Room::Of(pool),
+        ..row
+    }
 }
 
 pub const fn with(entities: &'static [Entity<'static>], row: Documented) -> Documented {
@@ -138,6 +153,8 @@ impl Documented {
             limit: self.limit,
             room: self.room,
             scratch: self.scratch,
+            new_list: self.new_list,
+            new_pool: self.new_pool,
             table: draft.table(),
             ..Arguments::text(self.text.as_bytes())
         });
@@ -158,7 +175,16 @@ impl Documented {
                     && answer.scratch == hand
             }
             Outcome::Answered(number, first, second) => {
-                found == (number, first, second) && answer.scratch.is_empty()
+                found == (number, first, second)
+                    && answer.scratch.is_empty()
+                    && answer.list.is_empty()
+                    && answer.pool.is_empty()
+            }
+            Outcome::Declared(definitions) => {
+                let Draft { list, pool } = Draft::of(definitions).marked();
+                found == (0, list.len() as u64, pool.len() as u64)
+                    && answer.list == list
+                    && answer.pool == pool
             }
             Outcome::Left(number, first, second, buffer, used) => {
                 found == (number, first, second)

@@ -30,7 +30,12 @@ fn is_within(
     let table = arguments.table;
     let register = arguments.register.buffer;
     let read = [arguments.text, table.list, table.pool, register];
-    let written = [answer.room, answer.scratch_room];
+    let written = [
+        answer.room,
+        answer.scratch_room,
+        answer.list_room,
+        answer.pool_room,
+    ];
     read.iter().all(|bytes| bytes.len() <= longest)
         && written.iter().all(|&room| room <= longest_output)
 }
@@ -57,6 +62,7 @@ fn given(parameter: Parameter, arguments: &Arguments, answer: &Answer) -> Vec<St
         Parameter::Depth => vec![arguments.depth.to_string()],
         Parameter::Limit => vec![arguments.limit.to_string()],
         Parameter::Table => vec![hex(arguments.table.list), hex(arguments.table.pool)],
+        Parameter::NewTable => vec![answer.list_room.to_string(), answer.pool_room.to_string()],
         Parameter::Scratch => vec![answer.scratch_room.to_string()],
         Parameter::Output => vec![answer.room.to_string()],
         Parameter::Cursor => cursor_fields(arguments.cursor),
@@ -71,6 +77,7 @@ fn given(parameter: Parameter, arguments: &Arguments, answer: &Answer) -> Vec<St
 /// What the call leaves there.
 fn left(parameter: Parameter, answer: &Answer) -> Vec<String> {
     match parameter {
+        Parameter::NewTable => vec![hex(&answer.list), hex(&answer.pool)],
         Parameter::Scratch => vec![hex(&answer.scratch)],
         Parameter::Output => vec![hex(&answer.written)],
         Parameter::Cursor => cursor_fields(answer.cursor),

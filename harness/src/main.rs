@@ -34,6 +34,7 @@ mod timing;
 mod unused;
 mod used;
 
+use arguments::Arguments;
 use call::Call;
 use random::DEFAULT_SEED;
 use std::process::ExitCode;
@@ -44,6 +45,7 @@ const USAGE: &str = "\
 harness differential [--calls A,B] [--seed N] [--minutes M]   compare every call with the Rust
 harness self-test [--calls A,B]                               check that wrong libraries are caught
 harness stored [--calls A,B] [FILE]                           write a sample of the Rust's answers
+harness answers [--calls A,B] FILE..                          print what has to be answered to the bytes of a file, under 1.0
 harness used                                                  write values and the names that they look up
 harness benchmark [--calls A,B]                               measure every call against the Rust
 harness instructions [--calls A,B] [--rows PART] [--before FILE]   count both sides' instructions (valgrind)
@@ -80,6 +82,7 @@ fn run(words: &[&str]) -> Option<bool> {
         ("self-test", []) => Some(self_test::run(&calls)),
         ("stored", []) => Some(passed(stored::write(&calls, &mut io::stdout()))),
         ("stored", [file]) => Some(passed(store(&calls, file))),
+        ("answers", files) => Some(passed(print_answers(&calls, files))),
         ("used", []) => Some(passed(used::write(&mut io::stdout()))),
         ("corpus", [folder]) => Some(passed(corpus::choose(folder, &mut io::stdout()))),
         ("benchmark", []) => {
@@ -119,6 +122,18 @@ fn instructions(calls: &[&Call], options: &[&str]) -> Option<bool> {
         }
     }
     Some(passed(instructions::run(calls, part, before)))
+}
+
+/// The number and both words, with all the room that is needed.
+fn print_answers(calls: &[&Call], files: &[&str]) -> io::Result<()> {
+    for file in files {
+        let text = fs::read(file)?;
+        for call in calls {
+            let answer = (call.expected)(&Arguments::text(&text));
+            println!("{} {} {}", answer.number, answer.first, answer.second);
+        }
+    }
+    Ok(())
 }
 
 fn store(calls: &[&Call], file: &str) -> io::Result<()> {

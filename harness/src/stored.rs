@@ -15,8 +15,8 @@ const HEADER: &str = "\
 # the numbers of document 01. The library has no part in it. The table's format, which the Rust has
 # not, is read as documents 01 and 02 say, and lists with external entities, marked lists, and
 # characters that a strict call refuses, which the Rust knows nothing of, by the harness's own
-# reading of the walks; registers by the harness's own register, and the writers of Canonical XML by
-# its reading of the standard; a least depth by what is answered at each depth. Made in harness/ by
+# reading of the walks; registers by the harness's own register, and the writers of Canonical XML and
+# declarations by its reading of the standards; a least depth by what is answered at each depth. Made in harness/ by
 #   cargo run --release --offline -- stored ../crates/replay/stdin
 # Bytes are in hexadecimal, with - for none; ROOM is the output's length, OUTPUT the result alone.
 ";

@@ -130,6 +130,14 @@ pub fn row(
     }
 }
 
+/// The row with another side in the column of what is left where it is made.
+pub fn with_left(row: Row, left: impl Once) -> Row {
+    Row {
+        left: Some(Side::new(repeated(left))),
+        ..row
+    }
+}
+
 /// A result, and the second answer word.
 pub type Made = (Cow<'static, str>, u64);
 
@@ -153,10 +161,10 @@ pub fn writing_row(
         black_box(&out);
         told(&made, words)
     };
-    Row {
-        left: Some(Side::new(repeated(left))),
-        ..row(call, input, text.len(), ours, rust, Some(unchecked))
-    }
+    with_left(
+        row(call, input, text.len(), ours, rust, Some(unchecked)),
+        left,
+    )
 }
 
 fn told(made: &Made, words: &mut [u64; 2]) -> u32 {

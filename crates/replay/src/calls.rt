@@ -6,6 +6,7 @@ use crate::answers::UNWRITTEN;
 use crate::answers::compare;
 use crate::answers::compare_output;
 use crate::cdata;
+use crate::declared;
 use crate::fields::field;
 use crate::fields::field_count;
 use crate::nmtoken;
@@ -14,19 +15,19 @@ use crate::tables;
 use crate::values::decimals;
 use crate::values::decode_hex;
 
-// Which call field 0 of the line names: its place among these names, or 22 where it is none of them.
+// Which call field 0 of the line names: its place among these names, or 23 where it is none of them.
 fn call_number(line: &[u8]) -> usize {
     let names =
-        b"check_utf8 parse_number trim_xml_start trim_xml_end trim_xml_spaces escape normalize_eols cdata_next check_table unescape normalize_attribute_value canonical_form normalize_attribute_value_strict canonical_form_strict normalize_nmtokens next_nmtoken register_add register_withdraw register_count c14n_attribute c14n_text least_depth";
+        b"check_utf8 parse_number trim_xml_start trim_xml_end trim_xml_spaces escape normalize_eols cdata_next check_table unescape normalize_attribute_value canonical_form normalize_attribute_value_strict canonical_form_strict normalize_nmtokens next_nmtoken register_add register_withdraw register_count c14n_attribute c14n_text least_depth read_declarations";
     let call = field(line, 0);
     let mut k = 0;
-    while k < 22 {
+    while k < 23 {
         if check::same(call, field(names, k)) {
             return k;
         }
         k += 1;
     }
-    22
+    23
 }
 
 pub fn replay_line(line: &[u8]) -> Outcome {
@@ -44,6 +45,7 @@ pub fn replay_line(line: &[u8]) -> Outcome {
         15 => nmtoken::replay_nmtoken(line),
         16..=18 => registers::replay_register(line, call),
         19..=20 => replay_writer(line, call),
+        22 => declared::replay_declarations(line),
         _ => tables::replay_table_line(line, call),
     }
 }

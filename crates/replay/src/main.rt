@@ -5,6 +5,7 @@
 mod answers;
 mod calls;
 mod cdata;
+mod declared;
 mod fields;
 mod lines;
 mod nmtoken;

@@ -12,6 +12,7 @@ pub mod normalize_attribute_value;
 pub mod normalize_eols;
 pub mod normalize_nmtokens;
 pub mod parse_number;
+pub mod read_declarations;
 pub mod register;
 pub mod trim_xml;
 pub mod unescape;
@@ -41,6 +42,7 @@ pub static CALLS: &[Call] = &[
     c14n::ATTRIBUTE,
     c14n::TEXT,
     least_depth::CALL,
+    read_declarations::CALL,
 ];
 
 /// The calls of these names, or all where none is named; nothing if one is unknown.

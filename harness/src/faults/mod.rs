@@ -4,6 +4,7 @@ pub mod answer;
 pub mod external;
 pub mod marked;
 pub mod memory;
+pub mod new_table;
 pub mod output;
 pub mod parts;
 pub mod reading;
@@ -22,6 +23,7 @@ pub fn of(parameter: Parameter) -> Faults {
         Parameter::Text => text::TEXT,
         Parameter::Choice => output::CHOICE,
         Parameter::Table => table::TABLE,
+        Parameter::NewTable => new_table::NEW_TABLE,
         Parameter::Scratch => scratch::SCRATCH,
         Parameter::Output => output::OUTPUT,
         Parameter::Register => register::WRITTEN,

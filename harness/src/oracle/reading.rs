@@ -372,7 +372,7 @@ fn bound<'a>(definitions: &[Definition<'a>], name: &str) -> Bound<'a> {
 }
 
 /// What stands between `&#` and `;`.
-fn character(number: &str) -> Result<char, Answer> {
+pub fn character(number: &str) -> Result<char, Answer> {
     let (base, digits) = match number.strip_prefix('x') {
         Some(digits) => (16, digits),
         None => (10, number),

@@ -4,10 +4,10 @@ use Rattle.replay.proofs.calls.call_number.Statement.{statement}
 use Rattle.replay.proofs.calls.call_number.Tie as tie
 
 abbrev Inv-loop : tie.InvT-loop
-Inv-loop line names call k₀ k = k ≤ 22
+Inv-loop line names call k₀ k = k ≤ 23
 
 abbrev μ-loop : tie.MeasureT-loop
-μ-loop line names call k₀ k = 22 - k
+μ-loop line names call k₀ k = 23 - k
 
 field-requires : tie.Need-field-requires Inv-loop μ-loop
 field-requires c κs = search needs
