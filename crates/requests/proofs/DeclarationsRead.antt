@@ -18,8 +18,8 @@ use Rattle.entity.specs.Binding.{Bound, text, bodyBound}
 use Rattle.table_names.specs.NameChars.{nameLength}
 use Rattle.table_grammar.specs.EntityValue.{Read, read, departs, exceeds, refused, onward, literal, isWhite, afterSpace, space, name, nameOf as nameRead, numbered, charRefFrom, entityRef, reference, valueFrom, entityValue}
 use Rattle.table_grammar.specs.EntityDecl.{keyword, opening, declaredName, definition, Entity, entity, noMore, oneMore, entitiesAt, entities}
-use Rattle.table_grammar.specs.TableWritten.{u16, u32, commandsFrom, listOf, poolOf}
-use Rattle.table_grammar.proofs.FirstBinds.{Fitting, made, operandsOf, read-command, name-is, text-is, regroup, size-is, list-step}
+use Rattle.table_grammar.specs.TableWritten.{commandsFrom, listOf, poolOf}
+use Rattle.table_grammar.proofs.FirstBinds.{Fitting, made, operandsOf, read-command, skip-operands, name-is, text-is, regroup, size-is, list-step}
 use Rattle.requests.specs.Unused.{Definition, definitionsIn, definitions}
 use Rattle.requests.specs.Declarations.{inOrder}
 
@@ -27,13 +27,6 @@ use Rattle.requests.specs.Declarations.{inOrder}
 
 abbrev listed : ℕ → List Entity → List ℕ
 listed p es = commandsFrom p es ++ 0 ∷ []
-
-skip-operands : (p : ℕ) (e : Entity) (rest : List ℕ) → declarationsFrom 11 (operandsOf p e ++ rest) ≡ declarationsFrom 0 rest
-unfolding u32 u16 declarationsFrom
-skip-operands p e rest = refl
-
-one-definition : (pool : List ℕ) (d : Declaration) (ds : List Declaration) → definitionsIn pool (d ∷ ds) ≡ record { name = nameOf pool d; bound = bodyBound pool (d .body) } ∷ definitionsIn pool ds
-one-definition pool d ds = refl
 
 from-place : (es : List Entity) (pre : List ℕ) → Fitting (length pre) es → definitionsIn (pre ++ poolOf es) (declarationsFrom 0 (listed (length pre) es)) ≡ inOrder es
 unfolding declarationsFrom bodyBound poolOf
@@ -53,7 +46,7 @@ from-place (e ∷ es) pre h =
         → textOf pool (inside (p + length (e .name)) (length (e .value))) ≡ e .value → definitionsIn pool (declarationsFrom 0 rest) ≡ inOrder es
         → definitionsIn pool (declarationsFrom 0 (1 ∷ (operandsOf p e ++ rest))) ≡ inOrder (e ∷ es)
     first p rest pool fits n t ih =
-        ap₂ (λ (x : Declaration) (xs : List Declaration). definitionsIn pool (x ∷ xs)) (read-command p e rest fits) (skip-operands p e rest)
+        ap₂ (λ (x : Declaration) (xs : List Declaration). definitionsIn pool (x ∷ xs)) (read-command p e rest fits) (skip-operands p e rest fits)
         ∙ ap₂ (λ (x : List ℕ) (y : Bound). record { name = x; bound = y } ∷ definitionsIn pool (declarationsFrom 0 rest)) n (ap text t)
         ∙ ap (λ (ds : List Definition). record { name = e .name; bound = text (e .value) } ∷ ds) ih
 

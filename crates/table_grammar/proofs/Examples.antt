@@ -6,9 +6,10 @@ use Prim.Native.Nat.{ℕ, zero, suc}
 use Rattle.text.specs.Call.{Called, called}
 use Rattle.text.specs.Version.{Rule, xml10, xml11}
 use Rattle.eols.specs.LineEnds.{eols}
-use Rattle.entity.specs.Binding.{text, predefined}
-use Rattle.table_grammar.specs.EntityDecl.{keyword, entities}
-use Rattle.table_grammar.specs.TableWritten.{tabled, declared, readUpTo}
+use Rattle.entity.specs.Binding.{text, predefined, binding}
+use Rattle.table_grammar.specs.EntityValue.{departs}
+use Rattle.table_grammar.specs.EntityDecl.{keyword, declaredName, Entity, entities}
+use Rattle.table_grammar.specs.TableWritten.{listOf, poolOf, tabled, declared, readUpTo}
 
 abbrev asked : Rule → List ℕ → Called
 asked r t = readUpTo 3 r t [] []
@@ -105,6 +106,11 @@ long-bare : asked xml10 (keyword ++ 32 ∷ letters 256 (34 ∷ 120 ∷ 34 ∷ 62
 unfolding readUpTo tabled entities eols
 long-bare = refl
 
+-- the same of the reader alone, in fewer steps
+long-bare-name : declaredName (letters 256 (34 ∷ [])) ≡ departs (34 ∷ [])
+unfolding declaredName
+long-bare-name = refl
+
 -- that white space follows: 22 at its end
 long-name : asked xml10 (keyword ++ 32 ∷ letters 256 (32 ∷ 34 ∷ 120 ∷ 34 ∷ 62 ∷ [])) ≡ answers 22 265 0
 unfolding readUpTo tabled entities eols
@@ -125,12 +131,17 @@ two : asked xml10 (value (120 ∷ 34 ∷ 62 ∷ 10 ∷ (keyword ++ 32 ∷ 98 ∷
 unfolding readUpTo tabled entities eols
 two = refl
 
--- the first declaration of a name binds, before the predefined ones
+-- a = `x`; a = `y`
+abbrev twice : List Entity
+twice = record { name = 97 ∷ []; value = 120 ∷ [] } ∷ record { name = 97 ∷ []; value = 121 ∷ [] } ∷ []
+
+-- the first declaration of a name binds, in the declarations and in the table; then come the predefined ones
 first-binds :
-    (declared (record { name = 97 ∷ []; value = 120 ∷ [] } ∷ record { name = 97 ∷ []; value = 121 ∷ [] } ∷ []) (97 ∷ []) ≡ text (120 ∷ []))
-    × (declared [] (108 ∷ 116 ∷ []) ≡ predefined (60 ∷ []))
-unfolding declared
-first-binds = (refl, refl)
+    (declared twice (97 ∷ []) ≡ text (120 ∷ []))
+    × (binding (listOf twice) (poolOf twice) (97 ∷ []) ≡ text (120 ∷ []))
+    × (declared twice (108 ∷ 116 ∷ []) ≡ predefined (60 ∷ []))
+unfolding declared binding listOf poolOf
+first-binds = (refl, refl, refl)
 
 -- XML 1.0, 3.3.3: `d`, `a` and `da`
 abbrev declarations-333 : List ℕ

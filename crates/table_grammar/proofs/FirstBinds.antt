@@ -5,7 +5,8 @@ use mathlib.Core.Bool.{true}
 use mathlib.Core.List.{List, [], _∷_, _++_, append-assoc}
 use Prim.Native.Nat.{ℕ, zero, suc, _+_, _*_, _/_, _%_, _<_}
 use native.Mathlib.Omega.{arith}
-use lib.ListN.{length, getD, take, drop, length-append}
+use lib.ListN.{length, getD, take, length-append}
+use lib.Seq.{take-append-seam, drop-append-seam}
 use Rattle.text.specs.Bytes.{pick, sameBytes}
 use Rattle.entity.specs.Table.{littleEndian, part, inside, Declaration, declaration, nameOf, textOf, marked, markSize, declarationsFrom, declarations}
 use Rattle.entity.specs.Binding.{Bound, text, bodyBound, bindingIn, binding}
@@ -41,17 +42,9 @@ read-u8 n h rest = omega arith
 
 -- ---- parts of joined lists
 
-drop-front : (front rest : List ℕ) → drop (length front) (front ++ rest) ≡ rest
-drop-front [] rest = refl
-drop-front (x ∷ xs) rest = drop-front xs rest
-
-take-front : (front rest : List ℕ) → take (length front) (front ++ rest) ≡ front
-take-front [] rest = refl
-take-front (x ∷ xs) rest = ap (λ (l : List ℕ). x ∷ l) (take-front xs rest)
-
 part-is : (pre mid post : List ℕ) → part (pre ++ (mid ++ post)) (length pre) (length mid) ≡ mid
 unfolding part
-part-is pre mid post = ap (take (length mid)) (drop-front pre (mid ++ post)) ∙ take-front mid post
+part-is pre mid post = ap (take (length mid)) (drop-append-seam pre (mid ++ post)) ∙ take-append-seam mid post
 
 -- ---- one command
 
@@ -88,7 +81,7 @@ module _ (p : ℕ) (e : Entity) (rest : List ℕ) (h : (length (e .name) < 256) 
       (read-after (u32 p ++ (n % 256 ∷ [])) after-name 4 ∙ read-u32 (p + n) (h .2) (u16 v ++ rest))
       (read-after (u32 p ++ (n % 256 ∷ u32 (p + n))) (u16 v ++ rest) 2 ∙ read-u16 v (h .1) rest)
 
-  skip-operands : declarationsFrom 11 (operandsOf p e ++ rest) ≡ declarationsFrom 0 rest
+  pub skip-operands : declarationsFrom 11 (operandsOf p e ++ rest) ≡ declarationsFrom 0 rest
   unfolding u32 u16 declarationsFrom
   skip-operands = refl
 

@@ -86,7 +86,7 @@ space-well (b ∷ bs) w = pick-by (Well Any) (isWhite b) {a = read [] (afterSpac
 
 -- ---- names: the byte after one is ASCII
 
-take-append-drop : (n : ℕ) (t : List ℕ) → take n t ++ drop n t ≡ t
+pub take-append-drop : (n : ℕ) (t : List ℕ) → take n t ++ drop n t ≡ t
 take-append-drop zero t = refl
 take-append-drop (suc n) [] = refl
 take-append-drop (suc n) (b ∷ bs) = ap (λ (l : List ℕ). b ∷ l) (take-append-drop n bs)

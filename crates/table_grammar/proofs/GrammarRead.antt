@@ -17,6 +17,7 @@ use Rattle.table_names.specs.NameChars.{nameLength}
 use Rattle.table_grammar.specs.EntityValue.{Read, read, departs, exceeds, refused, onward, literal, isWhite, afterSpace, space, name, nameOf, numbered, charRefFrom, entityRef, reference, valueFrom, entityValue}
 use Rattle.table_grammar.specs.EntityDecl.{keyword, opening, declaredName, definition, Entity, entity, noMore, oneMore, entitiesAt, entities}
 use Rattle.table_grammar.specs.Productions.{S, blank, blanks, OptionalS, noS, anS, Name, Without, Reference, charRef, entityRef as entityReference, Content, noContent, raw, referring, EntityValue, quoted, apostrophed, GEDecl, declaring, Declarations, noMore as noDeclaration, declaration}
+use Rattle.table_grammar.proofs.GoodEntities.{take-append-drop}
 use Rattle.table_grammar.proofs.NameSpelled.{name-spelled}
 
 -- ---- what a reader took is the front of the text
@@ -97,11 +98,6 @@ space-takes (b ∷ bs) =
     pick-by (Takes (List ℕ) (λ (x v : List ℕ). S x) (b ∷ bs)) (isWhite b) {a = read [] (afterSpace bs)} {b = departs (b ∷ bs)}
     (λ e. let x = after-space bs in record { front = b ∷ x .front; is = ap (λ (l : List ℕ). b ∷ l) (x .is); holds = more-space b e (x .white) }) (λ e. tt)
 
-take-drop : (n : ℕ) (t : List ℕ) → t ≡ take n t ++ drop n t
-take-drop zero t = refl
-take-drop (suc n) [] = refl
-take-drop (suc n) (b ∷ bs) = ap (λ (l : List ℕ). b ∷ l) (take-drop n bs)
-
 record Named (x n : List ℕ) : Type 0 where
   same : x ≡ n
   named : Name n
@@ -112,7 +108,7 @@ name-takes t = go (nameLength t) refl
   where
     go : (n : ℕ) → nameLength t ≡ n → Takes (List ℕ) Named t (nameOf n t)
     go zero e = tt
-    go (suc n) e = record { front = take (suc n) t; is = take-drop (suc n) t; holds = record { same = refl; named = name-spelled t n e } }
+    go (suc n) e = record { front = take (suc n) t; is = sym (take-append-drop (suc n) t); holds = record { same = refl; named = name-spelled t n e } }
 
 -- ---- references
 

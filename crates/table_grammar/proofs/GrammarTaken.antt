@@ -1,16 +1,15 @@
 -- Each text of declarations of the standard is read, with just these declarations (`entities-taken`), where names and values are within their limits
 -- and there are not too many. Assumes nothing.
-use mathlib.Core.Path.{_≡_, refl, sym, ap, ap₂, subst, _∙_}
+use mathlib.Core.Path.{_≡_, refl, sym, ap, subst, _∙_}
 use mathlib.Core.Logic.{_≢_}
 use mathlib.Core.Bool.{Bool, true, false, true≢false}
 use mathlib.Core.List.{List, [], _∷_, _++_, append-assoc, append-nil}
 use Prim.Native.Nat.{ℕ, zero, suc, _+_, _-_, _/_, _≤_, _<_}
 use native.Mathlib.Omega.{arith}
 use lib.Dec.{eqb, ltb}
-use lib.ListN.{length, length-append}
-use borrow.Author.Tests.{eqb-true, eq-eqb, ne-eqb, le-ltb, ltb-true, ltb-false}
+use lib.ListN.{length}
+use borrow.Author.Tests.{eqb-true, eq-eqb, ne-eqb, le-ltb}
 use Rattle.text.specs.Bytes.{pick}
-use Rattle.text.specs.Utf8.{between}
 use Rattle.charref.specs.CharRef.{charNumber, anyCharacter, numberAnswer, encode}
 use Rattle.charref.specs.declared.CharNumber.{CharNumber}
 use Rattle.charref.specs.declared.CharNumber.the-variants.{Char}
@@ -18,7 +17,7 @@ use Rattle.charref.proofs.Encoding.{by-size}
 use Rattle.legal.proofs.Decoding.{char-ascii}
 use Rattle.table_names.specs.NameChars.{isNameStart, isNameChar, charWidth, nameChars}
 use Rattle.table_names.proofs.NamesPast.{chars-none}
-use Rattle.table_grammar.specs.EntityValue.{Read, read, departs, exceeds, onward, literal, isWhite, afterSpace, space, name, numbered, charRefFrom, entityRef, reference, valueFrom, entityValue}
+use Rattle.table_grammar.specs.EntityValue.{Read, read, exceeds, onward, literal, isWhite, afterSpace, space, name, numbered, charRefFrom, entityRef, reference, valueFrom, entityValue}
 use Rattle.table_grammar.specs.EntityDecl.{keyword, opening, declaredName, definition, Entity, entity, noMore, oneMore, entitiesAt, entities}
 use Rattle.table_grammar.specs.Productions.{S, blank, blanks, OptionalS, noS, anS, Name, nameStart, Without, Reference, charRef, entityRef as entityReference, Content, noContent, raw, referring, EntityValue, quoted, apostrophed, GEDecl, declaring, Declarations, noMore as noDeclaration, declaration}
 use Rattle.table_grammar.proofs.NameSpelled.{name-taken}

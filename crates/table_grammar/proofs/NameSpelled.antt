@@ -3,21 +3,20 @@
 use mathlib.Core.Path.{_≡_, refl, sym, ap, ap₂, subst, _∙_}
 use mathlib.Core.Bool.{Bool, true, false}
 use mathlib.Core.List.{List, [], _∷_, _++_, append-assoc}
-use Prim.Native.Nat.{ℕ, zero, suc, _+_, _≤_, _<_}
+use Prim.Native.Nat.{ℕ, zero, suc, _+_, _≤_}
 use native.Mathlib.Omega.{arith}
 use native.Mathlib.Nat.{le-refl}
 use lib.ListN.{length, take, drop, length-append, length-drop}
 use lib.Seq.{take-nil, drop-append-seam, take-append-seam}
-use Rattle.text.specs.Bytes.{pick}
 use Rattle.text.specs.Version.{xml10}
 use Rattle.charref.specs.CharRef.{encode}
 use Rattle.charref.proofs.Encoding.{encode-at-least}
 use Rattle.table_names.specs.NameChars.{isNameStart, isNameChar, charWidth, nameChars, nameLength}
 use Rattle.table_names.proofs.CharWidths.{width-kept}
-use Rattle.table_names.proofs.NamesPast.{start-past, char-past, chars-skip, chars-none, chars-some, chars-nothing, length-none, length-some, length-nothing, take-more}
+use Rattle.table_names.proofs.NamesPast.{start-past, char-past, chars-skip, chars-none, chars-some, length-none, length-some, length-nothing, take-more}
 use Rattle.table_names.proofs.WideNames.{Scalar, name-scalar}
 use Rattle.table_names.proofs.Spelled.{width-spelled, width-encoded}
-use Rattle.table_grammar.specs.EntityValue.{Read, read, name, nameOf}
+use Rattle.table_grammar.specs.EntityValue.{read, name, nameOf}
 use Rattle.table_grammar.specs.Productions.{NameChars, noChar, nameChar, Name, nameStart}
 
 start-scalar : Scalar isNameStart

@@ -20,7 +20,7 @@ use Rattle.legal.specs.Legal.{charFrom}
 use Rattle.legal.proofs.Decoding.{char-ascii, char-encoded, Waits, waits-one, waits-two, tail-more, tail-done, lead-2, lead-3, lead-4}
 use Rattle.table_names.specs.NameChars.{passes, charSize, charWidth}
 use Rattle.table_names.proofs.CharWidths.{none-some, char-nothing, is-tail, size-1, size-2, size-3, size-4, lead-broken, width-some, is-some}
-use Rattle.table_names.proofs.WideNames.{Scalar, number-3, lead3, number-4, lead4}
+use Rattle.table_names.proofs.WideNames.{Scalar, lead3, lead4}
 
 -- ---- the bytes after the first, by what was read
 

@@ -1,10 +1,10 @@
 -- `four_width` is the width of a character of four bytes: 0 where the text is too short, where a byte after the first is no tail, where the form
 -- is overlong (`four-low`), else as the number passes (`four-some`).
-use mathlib.Core.Path.{_≡_, sym, _∙_}
+use mathlib.Core.Path.{sym, _∙_}
 use mathlib.Core.Bool.{Bool}
-use Prim.Native.Nat.{ℕ, _+_, _-_, _*_, _≤_, _<_}
+use Prim.Native.Nat.{ℕ, _+_, _-_, _<_}
 use native.Mathlib.Omega.{arith}
-use lib.ListN.{length, getD}
+use lib.ListN.{length}
 use Rattle.text.specs.Bytes.{pick}
 use Rattle.table_names.specs.NameChars.{isNameStart, isNameChar}
 use Rattle.table_names.proofs.CharWidths.{size-4}

@@ -1,14 +1,14 @@
 -- `three_width` is the width of a character of three bytes: 0 where the text is too short, where a byte after the first is no tail, where the form
 -- is overlong (`three-low`), else as the number passes (`three-some`).
-use mathlib.Core.Path.{_≡_, sym, _∙_}
+use mathlib.Core.Path.{sym, _∙_}
 use mathlib.Core.Bool.{Bool}
-use Prim.Native.Nat.{ℕ, _+_, _-_, _*_, _≤_, _<_}
+use Prim.Native.Nat.{ℕ, _+_, _-_, _<_}
 use native.Mathlib.Omega.{arith}
-use lib.ListN.{length, getD}
+use lib.ListN.{length}
 use Rattle.text.specs.Bytes.{pick}
 use Rattle.table_names.specs.NameChars.{isNameStart, isNameChar}
 use Rattle.table_names.proofs.CharWidths.{size-3}
-use Rattle.table_names.proofs.WideNames.{name-scalar, short-width, tail-none, no-tails, Tails3, tails-3, number-3, three-first, three-second, three-low, three-some}
+use Rattle.table_names.proofs.WideNames.{name-scalar, short-width, tail-none, no-tails, Tails3, tails-3, three-first, three-second, three-low, three-some}
 use borrow.Author.Needs.{needs}
 use Rattle.table_names.proofs.three_width.Statement.{statement}
 use Rattle.table_names.proofs.three_width.Tie as tie
