@@ -46,14 +46,15 @@ pub fn replay_declarations(line: &[u8]) -> Outcome {
     )
 }
 
+// Makes the call with so many bytes for the list's commands, and so many for the pool.
 fn lend_table(
     line: &[u8],
     text: &[u8],
     version: u8,
-    list_room: usize,
-    pool_room: usize,
+    commands: usize,
+    bytes: usize,
 ) -> Outcome
-    requires { ⌜ (list_room ≤ 2048) × (pool_room ≤ 2048) ⌝ }
+    requires { ⌜ (commands ≤ 2048) × (bytes ≤ 2048) ⌝ }
 {
     let mut list = [UNTOUCHED; 2048];
     let mut pool = [UNTOUCHED; 2048];
@@ -61,8 +62,8 @@ fn lend_table(
     let number = govlezna::govlezna_read_declarations(
         text,
         version,
-        &mut list[0..list_room],
-        &mut pool[0..pool_room],
+        &mut list[0..commands],
+        &mut pool[0..bytes],
         &mut answer,
     );
     compare_table(line, number, answer, &list, &pool)
