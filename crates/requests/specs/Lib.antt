@@ -5,3 +5,4 @@ pub mod Unused
 pub mod Nmtokens
 pub mod C14n
 pub mod SmallScratch
+pub mod Register
