@@ -1,6 +1,7 @@
 pub mod External
 pub mod Marked
 pub mod Strict
+pub mod Readings
 pub mod Nmtokens
 pub mod MarkedTable
 pub mod Unused
@@ -10,3 +11,4 @@ pub mod Register
 mod NmtokensMet
 pub mod C14n
 pub mod SmallScratch
+mod Inhabited
