@@ -1,12 +1,14 @@
--- The premises of the requests' theorems are met by calls with a table that defines something, by computation: K7 (`k7-met`). Assumes nothing.
-use mathlib.Core.Path.{_≡_, refl}
+-- The premises of the requests' theorems are met by calls with a table that defines something, by computation: K7 (`k7-met`), K8's re-reading
+-- (`again-met`, `again-26-met`). Assumes nothing.
+use mathlib.Core.Path.{_≡_, refl, ap}
 use Prim.Native.Nat.{ℕ}
 use native.Mathlib.Omega.{arith}
 use mathlib.Core.Bool.{Bool, true, false}
 use mathlib.Core.List.{List, [], _∷_}
+use lib.ListN.{length}
 use Rattle.text.specs.Call.{called, lengthCheck, utf8Check}
 use Rattle.text.specs.Utf8.{utf8End}
-use Rattle.entity.specs.Table.{tableCheck}
+use Rattle.entity.specs.Table.{declarations, tableCheck}
 use Rattle.entity.specs.Binding.{text}
 use Rattle.tokens.specs.Outcome.{finished}
 use Rattle.canonical.specs.Canonical.{canonical}
@@ -14,9 +16,13 @@ use Rattle.canonical.specs.LastCharacter.{inHand}
 use Rattle.attribute.specs.Checks.{settingsCheck}
 use Rattle.attribute.specs.Walk.{normalize, readingOf}
 use Rattle.attribute.specs.Strict.{readingBy}
-use Rattle.govlezna.specs.Calls.{normalizeAttributeValueCall, normalizeAttributeValueStrictCall}
+use Rattle.govlezna.specs.Calls.{checkTableCall, normalizeAttributeValueCall, normalizeAttributeValueStrictCall}
 use Rattle.demands.specs.Demands.{Asked}
+use Rattle.demands.specs.CallDemands.{CallAgain}
+use Rattle.demands.specs.StrictDemands.{restrictedFrom}
+use Rattle.requests.specs.Strict.{StrictlyAnswered, StrictCallRereads, StrictCallRefuses}
 use Rattle.requests.specs.SmallScratch.{canonicalBy, normalizeBy}
+use Rattle.requests.proofs.Strict.{answered, k8-completes, k8-again-calls, k8-again-26-calls}
 use Rattle.requests.proofs.SmallScratch.{k7-walk-first, k7-short, k7-no-room, k7-hand}
 
 -- a text with e = `x`, under that version
@@ -55,3 +61,72 @@ k7-met strict = (
   k7-no-room strict value (7 ∷ 7 ∷ []) (normalizes strict) (7 ∷ 7 ∷ 7 ∷ 7 ∷ []) [] (omega arith) (omega arith),
   k7-hand strict value (7 ∷ 7 ∷ []) (normalizes strict) (7 ∷ 7 ∷ 7 ∷ 7 ∷ 7 ∷ []) (7 ∷ 7 ∷ []) (omega arith) (omega arith),
 )
+
+-- ---- K8, under version 2: `&e;` read again, and `&#1;`, whose form is refused by 26
+
+abbrev plain : Asked
+plain = asked 2 (38 ∷ 101 ∷ 59 ∷ [])
+
+abbrev odd : Asked
+odd = asked 2 (97 ∷ 38 ∷ 35 ∷ 49 ∷ 59 ∷ [])
+
+plain-normalizes : normalizeBy true plain (7 ∷ 7 ∷ []) ≡ called 0 (1 ∷ 1 ∷ []) ((120 ∷ 7 ∷ []) ∷ [])
+unfolding normalizeAttributeValueStrictCall lengthCheck settingsCheck utf8Check utf8End tableCheck finished normalize readingBy readingOf
+plain-normalizes = refl
+
+odd-normalizes : normalizeBy true odd (7 ∷ 7 ∷ []) ≡ called 0 (2 ∷ 0 ∷ []) ((97 ∷ 1 ∷ []) ∷ [])
+unfolding normalizeAttributeValueStrictCall lengthCheck settingsCheck utf8Check utf8End tableCheck finished normalize readingBy readingOf
+odd-normalizes = refl
+
+abbrev plain-answered : StrictlyAnswered plain
+plain-answered = k8-completes plain (7 ∷ 7 ∷ []) plain-normalizes
+
+abbrev odd-answered : StrictlyAnswered odd
+odd-answered = k8-completes odd (7 ∷ 7 ∷ []) odd-normalizes
+
+-- asked again, with the same table: it defines none of the four names
+again : CallAgain plain (answered plain plain-answered) (asked 2 (120 ∷ []))
+unfolding canonical checkTableCall tableCheck declarations k8-completes
+again =
+    record {
+      form = refl;
+      size = omega arith;
+      version = refl;
+      known = refl;
+      shallow = omega arith;
+      deep = omega arith;
+      most = omega arith;
+      declared = 1;
+      table = refl;
+      free = record { lt = ((λ e. one e), tt); gt = ((λ e. one e), tt); apos = ((λ e. one e), tt); quot = ((λ e. one e), tt) };
+    }
+  where
+    one : {b c : ℕ} {bs : List ℕ} → 101 ∷ [] ≡ b ∷ c ∷ bs → ⊥
+    one {b} {c} {bs} e = let q : length {A = ℕ} (101 ∷ []) ≡ length (b ∷ c ∷ bs) = ap length e in omega (arith, q)
+
+again-26 : CallAgain odd (answered odd odd-answered) (asked 2 (97 ∷ 1 ∷ []))
+unfolding canonical checkTableCall tableCheck declarations k8-completes
+again-26 =
+    record {
+      form = refl;
+      size = omega arith;
+      version = refl;
+      known = refl;
+      shallow = omega arith;
+      deep = omega arith;
+      most = omega arith;
+      declared = 1;
+      table = refl;
+      free = record { lt = ((λ e. one e), tt); gt = ((λ e. one e), tt); apos = ((λ e. one e), tt); quot = ((λ e. one e), tt) };
+    }
+  where
+    one : {b c : ℕ} {bs : List ℕ} → 101 ∷ [] ≡ b ∷ c ∷ bs → ⊥
+    one {b} {c} {bs} e = let q : length {A = ℕ} (101 ∷ []) ≡ length (b ∷ c ∷ bs) = ap length e in omega (arith, q)
+
+again-met : StrictCallRereads (120 ∷ []) (asked 2 (120 ∷ []))
+unfolding restrictedFrom k8-completes
+again-met = k8-again-calls plain plain-answered (asked 2 (120 ∷ [])) again refl
+
+again-26-met : StrictCallRefuses (asked 2 (97 ∷ 1 ∷ [])) 1
+unfolding restrictedFrom
+again-26-met = k8-again-26-calls odd odd-answered (asked 2 (97 ∷ 1 ∷ [])) again-26 refl 1 refl
