@@ -1,15 +1,18 @@
 -- The premises of the requests' theorems are met by calls with a table that defines something, by computation: K7 (`k7-met`), K8's re-reading
--- (`again-met`, `again-26-met`). Assumes nothing.
+-- (`again-met`, `again-26-met`), the standard (`standard-met-so`). Assumes nothing.
 use mathlib.Core.Path.{_≡_, refl, ap}
 use Prim.Native.Nat.{ℕ}
 use native.Mathlib.Omega.{arith}
 use mathlib.Core.Bool.{Bool, true, false}
 use mathlib.Core.List.{List, [], _∷_}
 use lib.ListN.{length}
+use Rattle.text.specs.Bytes.{pick, sameBytes}
+use Rattle.text.specs.Version.{xml10}
 use Rattle.text.specs.Call.{called, lengthCheck, utf8Check}
 use Rattle.text.specs.Utf8.{utf8End}
-use Rattle.entity.specs.Table.{declarations, tableCheck}
-use Rattle.entity.specs.Binding.{text}
+use Rattle.text.proofs.Bytes.{pick-both}
+use Rattle.entity.specs.Table.{declarations, tableCheck, marked}
+use Rattle.entity.specs.Binding.{Bound, text, predefined, unknown, predefinedOf, binding}
 use Rattle.tokens.specs.Outcome.{finished}
 use Rattle.canonical.specs.Canonical.{canonical}
 use Rattle.canonical.specs.LastCharacter.{inHand}
@@ -19,11 +22,15 @@ use Rattle.attribute.specs.Strict.{readingBy}
 use Rattle.govlezna.specs.Calls.{checkTableCall, normalizeAttributeValueCall, normalizeAttributeValueStrictCall}
 use Rattle.demands.specs.Demands.{Asked}
 use Rattle.demands.specs.CallDemands.{CallAgain}
+use Rattle.demands.specs.Characters.{decode}
+use Rattle.demands.specs.Standard.{lineEndsOf, linesOf, lookupOf, steadyRefs, SteadyBound, standard}
 use Rattle.demands.specs.StrictDemands.{restrictedFrom}
 use Rattle.requests.specs.Strict.{StrictlyAnswered, StrictCallRereads, StrictCallRefuses}
 use Rattle.requests.specs.SmallScratch.{canonicalBy, normalizeBy}
+use Rattle.requests.specs.Standard.{SteadyAsked, GivesNone, GaveStandard, Gives, AnswersStandard}
 use Rattle.requests.proofs.Strict.{answered, k8-completes, k8-again-calls, k8-again-26-calls}
 use Rattle.requests.proofs.SmallScratch.{k7-walk-first, k7-short, k7-no-room, k7-hand}
+use Rattle.requests.proofs.Standard.{standard-answered, standard-refused, standard-met}
 
 -- a text with e = `x`, under that version
 abbrev asked : ℕ → List ℕ → Asked
@@ -130,3 +137,51 @@ again-met = k8-again-calls plain plain-answered (asked 2 (120 ∷ [])) again ref
 again-26-met : StrictCallRefuses (asked 2 (97 ∷ 1 ∷ [])) 1
 unfolding restrictedFrom
 again-26-met = k8-again-26-calls odd odd-answered (asked 2 (97 ∷ 1 ∷ [])) again-26 refl 1 refl
+
+-- ---- the standard
+
+-- no text of the table, and none of the five, has a reference
+texts-steady : (name : List ℕ) → SteadyBound false xml10 (binding (value .list) (value .pool) name)
+unfolding binding declarations predefinedOf steadyRefs decode
+texts-steady name =
+    let P = SteadyBound false xml10 in
+    pick-both P (sameBytes (101 ∷ []) name) {a = text (120 ∷ [])} {b = predefinedOf name} refl
+    (pick-both P (sameBytes name (108 ∷ 116 ∷ [])) {a = predefined (60 ∷ [])} {b = gt} refl
+    (pick-both P (sameBytes name (103 ∷ 116 ∷ [])) {a = predefined (62 ∷ [])} {b = amp} refl
+    (pick-both P (sameBytes name (97 ∷ 109 ∷ 112 ∷ [])) {a = predefined (38 ∷ [])} {b = apos} refl
+    (pick-both P (sameBytes name (97 ∷ 112 ∷ 111 ∷ 115 ∷ [])) {a = predefined (39 ∷ [])} {b = quot} refl
+    (pick-both P (sameBytes name (113 ∷ 117 ∷ 111 ∷ 116 ∷ [])) {a = predefined (34 ∷ [])} {b = unknown} refl tt)))))
+  where
+    quot : Bound
+    quot = pick (sameBytes name (113 ∷ 117 ∷ 111 ∷ 116 ∷ [])) (predefined (34 ∷ [])) unknown
+
+    apos : Bound
+    apos = pick (sameBytes name (97 ∷ 112 ∷ 111 ∷ 115 ∷ [])) (predefined (39 ∷ [])) quot
+
+    amp : Bound
+    amp = pick (sameBytes name (97 ∷ 109 ∷ 112 ∷ [])) (predefined (38 ∷ [])) apos
+
+    gt : Bound
+    gt = pick (sameBytes name (103 ∷ 116 ∷ [])) (predefined (62 ∷ [])) amp
+
+value-steady : SteadyAsked value
+unfolding steadyRefs decode marked binding
+value-steady = record { value = refl; texts = texts-steady }
+
+other-steady : SteadyAsked other
+unfolding steadyRefs decode marked binding
+other-steady = record { value = refl; texts = texts-steady }
+
+-- `x` with fuel 1, whatever the depth of the call; `&q;` is refused, and has no value with any fuel
+value-gives : (strict : Bool) → Gives strict value (120 ∷ [])
+unfolding standard decode lineEndsOf lookupOf linesOf binding
+value-gives false = record { fuel = 1; defined = refl }
+value-gives true = record { fuel = 1; defined = refl }
+
+standard-met-so : (strict : Bool)
+    → GaveStandard strict value (120 ∷ []) × GivesNone strict other × AnswersStandard strict (120 ∷ []) [] (normalizeBy strict value [])
+standard-met-so strict = (
+  standard-answered strict value value-steady (7 ∷ 7 ∷ []) (normalizes strict),
+  standard-refused strict other other-steady (7 ∷ 7 ∷ []) (refuses strict) refl,
+  standard-met strict value value-steady [] (120 ∷ []) (value-gives strict),
+)

@@ -2,6 +2,7 @@ pub mod External
 pub mod Marked
 pub mod Strict
 pub mod Readings
+pub mod Standard
 pub mod Nmtokens
 pub mod MarkedTable
 pub mod Unused

@@ -1,25 +1,19 @@
 -- K4, of the calls: a text of a marked list has a space for each TAB, LF and CR (`k4-value`); these and `&` are its stop bytes under either
--- version (`k4-copied`, `k4-stopped`); an accepted value is the standard's, nothing done to replacement texts first (`k4-standard`); and the
--- standard's own example (`k4-example`). Assumes nothing.
-use mathlib.Core.Path.{_≡_, refl, sym, ap, subst, _∙_}
+-- version (`k4-copied`, `k4-stopped`); and the standard's own example (`k4-example`). Assumes nothing.
+use mathlib.Core.Path.{_≡_, refl, sym, ap, _∙_}
 use Prim.Native.Nat.{ℕ, zero, suc, _≤_}
 use native.Mathlib.Omega.{arith}
 use mathlib.Core.Bool.{Bool, true, false, _||_, true≢false}
-use mathlib.Core.Option.{Option}
 use mathlib.Core.List.{List, [], _∷_, _++_, append-nil}
 use lib.Dec.{eqb}
-use lib.ListN.{length, take}
+use lib.ListN.{length}
 use borrow.Author.Tests.{ne-eqb}
-use Rattle.text.specs.Bytes.{pick}
-use Rattle.text.specs.Version.{Rule}
 use Rattle.text.specs.Call.{called, laid, lengthCheck, utf8Check}
 use Rattle.text.specs.Utf8.{utf8End}
 use Rattle.text.proofs.Bytes.{or-left, or-right}
-use Rattle.charref.specs.CharRef.{anyCharacter}
-use Rattle.output.proofs.Laid.{laid-front}
-use Rattle.entity.specs.Table.{marked, tableCheck}
-use Rattle.entity.specs.Binding.{text, binding}
-use Rattle.tokens.specs.Tokens.{Stop, named, stop, copy, Token, Head, Heads, tokenOf, skipOf, tokens}
+use Rattle.entity.specs.Table.{tableCheck}
+use Rattle.entity.specs.Binding.{text}
+use Rattle.tokens.specs.Tokens.{stop, copy, Token, Head, Heads, tokenOf, skipOf, tokens}
 use Rattle.tokens.specs.Outcome.{Outcome, done, refused, prepend, followed, run, finished}
 use Rattle.halts.specs.Halts.{anyStop, stopByte}
 use Rattle.halts.proofs.Smooth.{none-plain}
@@ -30,12 +24,9 @@ use Rattle.attribute.specs.Checks.{settingsCheck}
 use Rattle.attribute.proofs.Stops.{IsStop, heads-copy, heads-stop}
 use Rattle.attribute.proofs.Single.{walk-plain}
 use Rattle.govlezna.specs.Calls.{normalizeAttributeValueCall}
-use Rattle.demands.specs.Characters.{decode}
 use Rattle.demands.specs.Demands.{Asked, ruleFor, Accepted}
 use Rattle.demands.specs.CallDemands.{normalizeOf}
-use Rattle.demands.specs.Standard.{lineEndsOf, linesOf, standard, lookupOf, SteadyText, SteadyBound, FromStandard}
-use Rattle.demands.proofs.Standard.{accepted-standard}
-use Rattle.demands.proofs.CallDemands.{taken-passes, normalize-roomy, normalize-answered}
+use Rattle.demands.proofs.CallDemands.{taken-passes, normalize-roomy}
 use Rattle.requests.specs.Marked.{eachSpace, RefersTo}
 use Rattle.requests.proofs.External.{name-ended, name-head, amp-value}
 
@@ -145,29 +136,6 @@ module _ (a : Asked) (name u : List ℕ) (k : RefersTo a name u) where
       let x = exhausted-run u 0 1 some in
       let e : normalize s (a .depth) (a .text) ≡ refused (x .before) 1 16 0 0 = ap (λ (n : ℕ). normalize s n (a .text)) one ∙ opens 0 ∙ unfold walk in x .is in
       rw (taken-passes a (k .taken), e)
-
--- ---- the standard
-
--- K4: "Marked lists are judged by the standard alone": what normalization gives with one is 3.3.3's value after 2.11 in the value itself,
--- with nothing done to replacement texts first, where no reference of the value holds a line end.
-pub k4-standard : (a : Asked) → marked (a .list) ≡ true → SteadyText (ruleFor a) (a .text) → (out : List ℕ) {size openings : ℕ} {left : List ℕ}
-    → normalizeOf a out ≡ called 0 (size ∷ openings ∷ []) (left ∷ [])
-    → FromStandard (standard anyCharacter (lookupOf (binding (a .list) (a .pool))) (λ t. t) (a .depth) (lineEndsOf (ruleFor a) (decode (a .text)))) (take size left)
-k4-standard a marks still out {size} {openings} {left} e =
-    let x = normalize-answered a out e in
-    let holds = x .holds in
-    let n : size ≡ length (x .value) = let q = holds .words-are in cc in
-    let l : left ≡ laid (x .value) out = let q = holds .left-is in cc in
-    let lines : linesOf (marked (a .list)) (ruleFor a) ≡ (λ t. t) = ap (λ (p : Bool). linesOf p (ruleFor a)) marks ∙ unfold linesOf in refl in
-    let is : take size left ≡ x .value = ap (λ (k : ℕ). take k left) n ∙ laid-front (x .value) out l in
-    subst (FromStandard (valueBy (λ t. t))) (sym is)
-    (subst (λ (f : List ℕ → List ℕ). FromStandard (valueBy f) (x .value)) lines (accepted-standard a (x .value) (x .openings) (x .accepted) still firm))
-  where
-    firm : (name : List ℕ) → SteadyBound (marked (a .list)) (ruleFor a) (binding (a .list) (a .pool) name)
-    firm name = subst (λ (p : Bool). SteadyBound p (ruleFor a) (binding (a .list) (a .pool) name)) (sym marks) tt
-
-    valueBy : (List ℕ → List ℕ) → Option (List ℕ)
-    valueBy f = standard anyCharacter (lookupOf (binding (a .list) (a .pool))) f (a .depth) (lineEndsOf (ruleFor a) (decode (a .text)))
 
 -- ---- the example of XML 1.0, 3.3.3: d = CR, a = LF, da = CR LF
 

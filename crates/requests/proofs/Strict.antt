@@ -1,7 +1,6 @@
 -- K8, of the calls: an answer other than 25 and 26 is the lenient call's (`k8-alike`, `k8-alike-form`), and these leave every buffer as it was
--- (`k8-refuses`, `k8-form-refuses`); every character of a value that a strict
--- call gave is Char (`k8-chars`) and the value is the standard's with Char (`k8-standard`); two such values are equal exactly when their forms
--- are (`k8-equal`); a form read again strictly goes as in demand 3 (`k8-again-calls`), and under 2 gets 26 at its first raw RestrictedChar
+-- (`k8-refuses`, `k8-form-refuses`); every character of a value that a strict call gave is Char (`k8-chars`); two such values are equal exactly
+-- when their forms are (`k8-equal`); a form read again strictly goes as in demand 3 (`k8-again-calls`), and under 2 gets 26 at its first raw RestrictedChar
 -- (`k8-again-26-calls`). Assumes nothing.
 use mathlib.Core.Path.{_≡_, refl, sym, ap, subst, _∙_}
 use Prim.Native.Nat.{ℕ}
@@ -16,12 +15,9 @@ use Rattle.text.specs.Call.{Called, called, guarded, laid, finish}
 use Rattle.text.specs.declared.Answer.{Answer}
 use Rattle.text.specs.declared.Answer.the-variants.{Done, Refused}
 use Rattle.output.proofs.Laid.{laid-front}
-use Rattle.entity.specs.Table.{marked}
-use Rattle.entity.specs.Binding.{binding}
-use Rattle.entity.proofs.Tables.{binding-good}
 use Rattle.tokens.specs.Outcome.{Outcome, done, refused, finished}
 use Rattle.tokens.proofs.Related.{Keeps, Stays}
-use Rattle.attribute.specs.Walk.{normalize, readingOf}
+use Rattle.attribute.specs.Walk.{normalize}
 use Rattle.attribute.specs.Strict.{readingBy}
 use Rattle.attribute.specs.Form.{handed, formed}
 use Rattle.attribute.proofs.Strict.{strictOnly, strict-alike}
@@ -30,13 +26,11 @@ use Rattle.govlezna.specs.Calls.{walkCheck, normalizeAttributeValueCall, canoni
 use Rattle.demands.specs.Demands.{Asked, ruleFor, Taken, formOf, AskedAgain}
 use Rattle.demands.specs.Characters.{decode}
 use Rattle.demands.specs.CallDemands.{normalizeOf, canonicalOf, Answered, CallAgain}
-use Rattle.demands.specs.Standard.{SteadyText, SteadyBound, FromStandard}
 use Rattle.demands.specs.StrictDemands.{strictlyNormalized, StrictlyAccepted, AllChar, restrictedFrom, Rereadable}
 use Rattle.demands.proofs.CallDemands.{table-valid, taken-passes, normalize-answered, answered-reads, demand-3-calls-equal}
 use Rattle.demands.proofs.Demands.{demand-3-again}
-use Rattle.demands.proofs.StrictStandard.{strict-is-standard}
 use Rattle.demands.proofs.StrictDemands.{strictly-accepted, strict-chars, strict-again, strict-again-refused}
-use Rattle.requests.specs.Strict.{strictNormalizeOf, strictCanonicalOf, AlikeBut, RefusesStrictly, by-the-rule, as-lenient, charStandardOf, StrictlyAnswered, StrictCallsEqualExactly, StrictCallRereads, StrictCallRefuses}
+use Rattle.requests.specs.Strict.{strictNormalizeOf, strictCanonicalOf, AlikeBut, RefusesStrictly, by-the-rule, as-lenient, StrictlyAnswered, StrictCallsEqualExactly, StrictCallRereads, StrictCallRefuses}
 
 -- ---- alike but for 25 and 26
 
@@ -156,18 +150,6 @@ k8-answered a out {size} {openings} {left} e =
 pub k8-chars : (a : Asked) (out : List ℕ) {size openings : ℕ} {left : List ℕ} → strictNormalizeOf a out ≡ called 0 (size ∷ openings ∷ []) (left ∷ [])
     → AllChar (ruleFor a) (decode (take size left))
 k8-chars a out {size} {openings} {left} e = strict-chars a (take size left) openings (k8-answered a out e .accepted)
-
--- the standard's wording (3.3.3), of every value that a strict call gave: a character reference may name only Char. As in
--- `accepted-standard`, no reference holds a line end, and of a marked list nothing is asked
-pub k8-standard : (a : Asked) → SteadyText (ruleFor a) (a .text)
-    → ((name : List ℕ) → SteadyBound (marked (a .list)) (ruleFor a) (binding (a .list) (a .pool) name))
-    → (out : List ℕ) {size openings : ℕ} {left : List ℕ} → strictNormalizeOf a out ≡ called 0 (size ∷ openings ∷ []) (left ∷ [])
-    → FromStandard (charStandardOf a) (take size left)
-unfolding readingBy readingOf
-k8-standard a still firm out {size} {openings} {left} e =
-    let p = k8-answered a out e .accepted in
-    strict-is-standard (ruleFor a) (marked (a .list)) (binding (a .list) (a .pool)) (a .limit) (binding-good (a .list) (a .pool) (p .taken .table)) firm (a .depth) (a .text)
-    (p .taken .utf8) still (take size left) openings (p .reads)
 
 -- ---- two values
 

@@ -5,4 +5,5 @@ pub mod Unused
 pub mod Nmtokens
 pub mod C14n
 pub mod SmallScratch
+pub mod Standard
 pub mod Register
