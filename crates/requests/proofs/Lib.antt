@@ -12,4 +12,6 @@ pub mod Register
 mod NmtokensMet
 pub mod C14n
 pub mod SmallScratch
+pub mod Reached
+pub mod Refused
 mod Inhabited

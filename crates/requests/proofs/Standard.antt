@@ -43,11 +43,11 @@ use Rattle.requests.proofs.Readings.{walkedBy, checksOf, gave, normaliz
 -- ---- numbers
 
 -- what holds of each number of a list holds of one that is listed
-abbrev Every : (ℕ → Type 0) → List ℕ → Type 0
+abbrev pub Every : (ℕ → Type 0) → List ℕ → Type 0
 Every P [] = Unit {0}
 Every P (n ∷ ns) = P n × Every P ns
 
-listed-one : (P : ℕ → Type 0) (number : ℕ) (ns : List ℕ) → Every P ns → listed number ns ≡ true → P number
+pub listed-one : (P : ℕ → Type 0) (number : ℕ) (ns : List ℕ) → Every P ns → listed number ns ≡ true → P number
 listed-one P number [] h e = let z : _≡_ {A = ℕ} 0 1 = cc in absurd (omega (arith, z))
 listed-one P number (n ∷ ns) h e = go (eqb number n) refl e (λ k. listed-one P number ns (h .1) k)
   where

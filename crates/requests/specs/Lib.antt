@@ -7,3 +7,5 @@ pub mod C14n
 pub mod SmallScratch
 pub mod Standard
 pub mod Register
+pub mod Reached
+pub mod Refused
