@@ -14,4 +14,7 @@ pub mod C14n
 pub mod SmallScratch
 pub mod Reached
 pub mod Refused
+pub mod Places
+pub mod WhenRefused
+pub mod Allowed
 mod Inhabited

@@ -9,3 +9,4 @@ pub mod Standard
 pub mod Register
 pub mod Reached
 pub mod Refused
+pub mod Allowed

@@ -102,3 +102,21 @@ pub record OutsideChar (r : Rule) (s : Settings) (p : Place) (depth : ℕ) (t : 
   pub c : ℕ
   pub passes : charNumber anyCharacter digits ≡ Char c
   pub outside : isChar r c ≡ false
+
+-- the two calls that read strictly
+abbrev pub IsStrict : Reader → Type 0
+IsStrict (normalizing false t version depth limit out) = ⊥
+IsStrict (normalizing true t version depth limit out) = Unit {0}
+IsStrict (forming false t version depth limit scratch out) = ⊥
+IsStrict (forming true t version depth limit scratch out) = Unit {0}
+IsStrict (listing t version depth limit scratch out) = ⊥
+IsStrict (unescaping t out) = ⊥
+
+-- this holds of the value that one of them reads or, at any depth of nesting, of a text that it opens
+abbrev pub WithinStrict : (Rule → Settings → Place → ℕ → List ℕ → ℕ → Type 0) → Reader → List ℕ → List ℕ → Type 0
+WithinStrict P (normalizing false t version depth limit out) list pool = ⊥
+WithinStrict P (normalizing true t version depth limit out) list pool = WithinValue (P (ruleOf version)) true t version depth limit list pool
+WithinStrict P (forming false t version depth limit scratch out) list pool = ⊥
+WithinStrict P (forming true t version depth limit scratch out) list pool = WithinValue (P (ruleOf version)) true t version depth limit list pool
+WithinStrict P (listing t version depth limit scratch out) list pool = ⊥
+WithinStrict P (unescaping t out) list pool = ⊥
