@@ -17,4 +17,5 @@ pub mod Refused
 pub mod Places
 pub mod WhenRefused
 pub mod Allowed
+pub mod BeforeReference
 mod Inhabited
