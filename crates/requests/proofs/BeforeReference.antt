@@ -31,6 +31,7 @@ use Rattle.attribute.specs.Walk.{Settings, answer, exhausted, innerHead, readin
 use Rattle.attribute.specs.Strict.{guarded, strictly, readingBy}
 use Rattle.requests.specs.External.{endsName}
 use Rattle.requests.specs.Reached.{headsIn, stopped, ReadTo, ComesTo}
+use Rattle.requests.proofs.Reached.{run-append}
 
 -- ---- heads that see nothing of what stands behind a `&`
 
@@ -337,10 +338,10 @@ name-head offset [] h = refl
 name-head offset (b ∷ bs) h = rw (ne-eqb b 35 h)
 
 -- `&` begins a reference
-abbrev Refers : Bool → Heads → Type 0
+abbrev pub Refers : Bool → Heads → Type 0
 Refers inner at = (k : ℕ) (bs : List ℕ) → at k 38 bs ≡ referenceAt k bs (nameAt inner bs)
 
-attribute-refers : (r : Rule) → Refers false (attributeHead r)
+pub attribute-refers : (r : Rule) → Refers false (attributeHead r)
 unfolding attributeHead
 attribute-refers r k bs = refl
 
@@ -375,6 +376,11 @@ value-refers false r list pool limit inTable = inner-refers (marked list) r
 value-refers true r list pool limit inValue = guarded-refers inValue r (attributeHead r) (attribute-refers r)
 value-refers true r list pool limit inTable = guarded-refers inTable r (innerHead (marked list) r) (inner-refers (marked list) r)
 
+-- the value so far, then the reference and whatever comes after it
+pub record NameRun (f : Stop → ℕ → Outcome) (o : Outcome) (value : List ℕ) (k : ℕ) (name : List ℕ) (m : ℕ) : Type 0 where
+  pub later : List Token
+  pub is : o ≡ prepend value (run f (stop (named k name) ∷ later) m)
+
 module _ (inner : Bool) (at : Heads) (blind : Blind at) (refers : Refers inner at) (f : Stop → ℕ → Outcome) (ending : Ending f) where
   comes-to-name : (t before name after : List ℕ) (n : ℕ) {value : List ℕ} {m : ℕ} → t ≡ before ++ 38 ∷ (name ++ 59 ∷ after) → run f (tokens at 0 0 before) n ≡ done value m
       → anyStop (endsName inner) name ≡ false → getD name 0 0 ≢ 35 → ComesTo at f t n (length before) m (stop (named (length before) name))
@@ -392,7 +398,38 @@ module _ (inner : Bool) (at : Heads) (blind : Blind at) (refers : Refers inner a
         is = sym (ap tokenOf head-is);
       })
 
+  -- what a text makes with a reference is what stands before it, and then the reference's
+  name-run : (t before name after : List ℕ) (n : ℕ) {value : List ℕ} {m : ℕ} → t ≡ before ++ 38 ∷ (name ++ 59 ∷ after) → run f (tokens at 0 0 before) n ≡ done value m
+      → anyStop (endsName inner) name ≡ false → getD name 0 0 ≢ 35 → NameRun f (run f (tokens at 0 0 t) n) value (length before) name m
+  unfolding tokens referenceAt
+  name-run t before name after n {value} {m} is e ends no-number =
+      let tail = name ++ 59 ∷ after in
+      let k = length before in
+      let ts = tokens at (suc k) (skipOf (at k 38 tail)) tail in
+      let head-is : at k 38 tail ≡ head (stop (named k name)) (suc (length name)) =
+      refers k tail ∙ ap (referenceAt k tail) (name-ended inner name after ends) ∙ name-head k name no-number in
+      let all : tokens at 0 0 t ≡ tokens at 0 0 before ++ stop (named k name) ∷ ts =
+      ap (tokens at 0 0) is ∙ cut-at at blind f ending tail before 0 0 n (omega arith) e
+      ∙ ap (λ (j : ℕ). tokens at 0 0 before ++ tokens at j 0 (38 ∷ tail)) (zero-add k)
+      ∙ ap (λ (x : Token). tokens at 0 0 before ++ x ∷ ts) (ap tokenOf head-is) in
+      record {
+        later = ts;
+        is =
+            ap (λ (l : List Token). run f l n) all ∙ run-append f (tokens at 0 0 before) (stop (named k name) ∷ ts) n
+            ∙ ap (λ (o : Outcome). followed o (λ j. run f (stop (named k name) ∷ ts) j)) e;
+      }
+
 -- in a text that a call reads as an attribute's, at any place, and in one that it unescapes
+pub value-run : (strict : Bool) (r : Rule) (list pool : List ℕ) (limit : ℕ) (p : Place) (depth : ℕ) (t before name after : List ℕ) (n : ℕ) {value : List ℕ} {m : ℕ}
+    → t ≡ before ++ 38 ∷ (name ++ 59 ∷ after)
+    → run (stopped (readingBy strict r list pool limit) depth) (tokens (headsIn (readingBy strict r list pool limit) p) 0 0 before) n ≡ done value m
+    → anyStop (endsName false) name ≡ false → getD name 0 0 ≢ 35
+    → NameRun (stopped (readingBy strict r list pool limit) depth)
+    (run (stopped (readingBy strict r list pool limit) depth) (tokens (headsIn (readingBy strict r list pool limit) p) 0 0 t) n) value (length before) name m
+value-run strict r list pool limit p depth t before name after n =
+    let s = readingBy strict r list pool limit in
+    name-run false (headsIn s p) (value-blind strict r list pool limit p) (value-refers strict r list pool limit p) (stopped s depth) (stopped-ends s depth) t before name after n
+
 pub value-comes : (strict : Bool) (r : Rule) (list pool : List ℕ) (limit : ℕ) (p : Place) (depth : ℕ) (t before name after : List ℕ) (n : ℕ) {value : List ℕ} {m : ℕ}
     → t ≡ before ++ 38 ∷ (name ++ 59 ∷ after)
     → run (stopped (readingBy strict r list pool limit) depth) (tokens (headsIn (readingBy strict r list pool limit) p) 0 0 before) n ≡ done value m

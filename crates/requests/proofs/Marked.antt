@@ -28,7 +28,7 @@ use Rattle.demands.specs.Demands.{Asked, ruleFor, Accepted}
 use Rattle.demands.specs.CallDemands.{normalizeOf}
 use Rattle.demands.proofs.CallDemands.{taken-passes, normalize-roomy}
 use Rattle.requests.specs.Marked.{eachSpace, RefersTo}
-use Rattle.requests.proofs.External.{name-ended, name-head, amp-value}
+use Rattle.requests.proofs.BeforeReference.{name-ended, name-head, attribute-refers}
 
 -- ---- a text past line ends
 
@@ -103,7 +103,7 @@ module _ (a : Asked) (name u : List ℕ) (k : RefersTo a name u) where
       let ends = name-ended false name [] (k .unended) in
       let is = name-head 0 name (k .no-number) in
       let room : eqb 0 (a .limit) ≡ false = ne-eqb 0 (a .limit) (λ q. omega (arith, q, k .some)) in
-      rw (k .is, amp-value (ruleFor a) 0 (name ++ 59 ∷ []), ends, is, k .no-amp, k .bound, room, skip-name (attributeHead (ruleFor a)) 1 name)
+      rw (k .is, attribute-refers (ruleFor a) 0 (name ++ 59 ∷ []), ends, is, k .no-amp, k .bound, room, skip-name (attributeHead (ruleFor a)) 1 name)
       (then-over (walk s (s .inner) depth u 1) ∙ ap (λ (h : Heads). walk s h depth u 1) inner-is)
 
   -- what the call then answers

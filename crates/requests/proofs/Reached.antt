@@ -71,7 +71,7 @@ run-append f (barred o ∷ xs) ys n = refl
 
 -- ---- from the token to the refusal
 
-walk-run : (s : Settings) (p : Place) (depth : ℕ) (t : List ℕ) (n : ℕ) → walk s (headsIn s p) depth t n ≡ run (stopped s depth) (tokens (headsIn s p) 0 0 t) n
+pub walk-run : (s : Settings) (p : Place) (depth : ℕ) (t : List ℕ) (n : ℕ) → walk s (headsIn s p) depth t n ≡ run (stopped s depth) (tokens (headsIn s p) 0 0 t) n
 unfolding walk
 walk-run s p zero t n = refl
 walk-run s p (suc depth) t n = refl

@@ -29,7 +29,7 @@ use Rattle.requests.proofs.Places.{value-names, text-names, value-bars}
 
 -- ---- at any depth of nesting
 
-within-map : (s : Settings) (P Q : Place → ℕ → List ℕ → ℕ → Type 0) → ((p : Place) (depth : ℕ) (t : List ℕ) (n : ℕ) → P p depth t n → Q p depth t n)
+pub within-map : (s : Settings) (P Q : Place → ℕ → List ℕ → ℕ → Type 0) → ((p : Place) (depth : ℕ) (t : List ℕ) (n : ℕ) → P p depth t n → Q p depth t n)
     → {p : Place} {depth : ℕ} {t : List ℕ} {n : ℕ} → Within s P p depth t n → Within s Q p depth t n
 within-map s P Q h (here p depth t n x) = here p depth t n (h p depth t n x)
 within-map s P Q h (inside p depth less t n u m e o w) = inside p depth less t n u m e o (within-map s P Q h w)
