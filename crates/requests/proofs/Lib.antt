@@ -19,3 +19,4 @@ pub mod WhenRefused
 pub mod Allowed
 pub mod BeforeReference
 mod Inhabited
+mod ReachedMet
