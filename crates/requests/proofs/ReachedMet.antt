@@ -25,11 +25,11 @@ use Rattle.demands.specs.CallDemands.{normalizeOf}
 use Rattle.requests.specs.Strict.{strictNormalizeOf}
 use Rattle.requests.specs.Unused.{Reader, normalizing, unescaping, callWith}
 use Rattle.requests.specs.Reached.{here, inside}
-use Rattle.requests.specs.Refused.{AnswersSo, Barred, OutsideChar, WithinStrict}
+use Rattle.requests.specs.Refused.{AnswersSo, Barred, OutsideChar, WithinStrict, Answered27, Answered26, Answered25}
 use Rattle.requests.specs.External.{Through, itself, through, RefersThere}
 use Rattle.requests.specs.Allowed.{allowedFrom, walkTexts, Allowed}
 use Rattle.requests.specs.Marked.{MarkedGives, spaced, copied, StopsIn, valuesBefore, Begins}
-use Rattle.requests.proofs.WhenRefused.{Answered27, Answered26, Answered25, k9-only, k8-26-there, k8-26-only, k8-25-there, k8-25-only}
+use Rattle.requests.proofs.WhenRefused.{k9-only, k8-26-there, k8-26-only, k8-25-there, k8-25-only}
 use Rattle.requests.proofs.External.{k9-refers}
 use Rattle.requests.proofs.Allowed.{k8-same}
 use Rattle.requests.proofs.Marked.{k4-gives, k4-stopped}

@@ -12,20 +12,12 @@ use Rattle.text.specs.Call.{Called, called, guarded, laid, finish}
 use Rattle.text.specs.declared.Answer.{Answer}
 use Rattle.text.specs.declared.Answer.the-variants.{Done, Refused}
 use Rattle.tokens.specs.Outcome.{Outcome, done, refused, finished}
-use Rattle.govlezna.specs.Calls.{walkCheck, walked, walkedStrictly, normalizeAttributeValueCall, normalizeAttributeValueStrictCall}
+use Rattle.govlezna.specs.Calls.{normalizeAttributeValueCall, normalizeAttributeValueStrictCall}
 use Rattle.demands.specs.Demands.{Asked, Taken}
 use Rattle.demands.proofs.CallDemands.{first-bytes, normalize-answered}
 use Rattle.demands.proofs.Numbers.{finished-done}
-use Rattle.requests.specs.SmallScratch.{normalizeBy}
+use Rattle.requests.specs.SmallScratch.{normalizeBy, checksOf, walkedBy}
 use Rattle.requests.proofs.Strict.{k8-answered}
-
--- what the reading makes of the text
-abbrev pub walkedBy : Bool → Asked → Outcome
-walkedBy false a = walked (a .text) (a .version) (a .depth) (a .limit) (a .list) (a .pool)
-walkedBy true a = walkedStrictly (a .text) (a .version) (a .depth) (a .limit) (a .list) (a .pool)
-
-abbrev pub checksOf : Asked → Answer
-checksOf a = walkCheck (a .text) (a .version) (a .depth) (a .limit) (a .list) (a .pool)
 
 -- refused by none of 1 to 9, and read
 pub record Gave (strict : Bool) (a : Asked) (value : List ℕ) (openings : ℕ) : Type 0 where

@@ -16,8 +16,8 @@ use Rattle.attribute.proofs.InHand.{same-form, in-hand-short, in-hand-no-room, 
 use Rattle.govlezna.specs.Calls.{canonicalFormCall, canonicalFormStrictCall}
 use Rattle.demands.specs.Demands.{Asked, ruleFor, formOf}
 use Rattle.demands.proofs.CallDemands.{taken-passes}
-use Rattle.requests.specs.SmallScratch.{canonicalBy, normalizeBy}
-use Rattle.requests.proofs.Readings.{walkedBy, checksOf, gave, normalize-is, refused-before}
+use Rattle.requests.specs.SmallScratch.{canonicalBy, normalizeBy, walkedBy, checksOf}
+use Rattle.requests.proofs.Readings.{gave, normalize-is, refused-before}
 
 -- behind the checks of the arguments
 guarded-same : (c : Answer) (r : Rule) (o : Outcome) (whole small out : List ℕ) → HoldsWhole o whole → 4 ≤ length small

@@ -36,9 +36,9 @@ use Rattle.demands.proofs.StrictStandard.{MeetsStrictly, strict-is-standard, st
 use Rattle.demands.proofs.CallDemands.{taken-by}
 use Rattle.demands.proofs.Numbers.{By, finished-done}
 use Rattle.demands.proofs.Refusals.{by-walk}
-use Rattle.requests.specs.SmallScratch.{normalizeBy}
+use Rattle.requests.specs.SmallScratch.{normalizeBy, walkedBy, checksOf}
 use Rattle.requests.specs.Standard.{legalBy, standardBy, Gives, GivesNone, SteadyAsked, GaveStandard, referenceNumbers, argumentNumbers, limitNumbers, AnswersStandard, gives, no-room, limit, wrongly-asked}
-use Rattle.requests.proofs.Readings.{walkedBy, checksOf, gave, normalize-is}
+use Rattle.requests.proofs.Readings.{gave, normalize-is}
 
 -- ---- numbers
 

@@ -23,7 +23,7 @@ use Rattle.attribute.specs.Strict.{onlyChar, strictly, readingBy}
 use Rattle.demands.specs.CallDemands.{listed}
 use Rattle.requests.specs.Unused.{Reader, normalizing, forming, listing, unescaping, callWith}
 use Rattle.requests.specs.Reached.{headsIn, stopped, ReadTo, ComesTo, Within, here, inside, Own, OwnName, RefusedAt, OwnCopied, OwnInText, RefusedInText}
-use Rattle.requests.specs.Refused.{WithinRead, RefusedThere, AnswersSo, Outside, OutsideText, OutsideThere, Barred, OutsideChar, IsStrict, WithinStrict}
+use Rattle.requests.specs.Refused.{WithinRead, RefusedThere, AnswersSo, Outside, OutsideText, OutsideThere, Barred, OutsideChar, IsStrict, WithinStrict, Answered27, Answered26, Answered25}
 use Rattle.requests.proofs.Refused.{refused-there, there-refused}
 use Rattle.requests.proofs.Places.{value-names, text-names, value-bars}
 
@@ -175,11 +175,6 @@ outside-refused offset strict r list pool limit p depth t n x =
 
 outside-text-refused : (offset : ℕ) (bind : List ℕ → Bound) (t : List ℕ) → OutsideText offset bind t → RefusedInText bind 27 offset 0 t
 outside-text-refused offset bind t x = record { k = offset; m = x .m; token = named offset (x .name); comes = x .comes; own = rw (x .bound) (refl, refl, refl) }
-
-pub record Answered27 (reader : Reader) (list pool words : List ℕ) : Type 0 where
-  pub offset : ℕ
-  pub words-are : words ≡ offset ∷ 0 ∷ []
-  pub there : OutsideThere reader list pool offset
 
 module _ (reader : Reader) (list pool : List ℕ) where
   -- K9: "27 when a reference is bound by command 2, with the offset of `&`, before 17": in the text that is being walked, the value or one that
@@ -397,15 +392,6 @@ text-25 bind (named offset name) first second h = go (bind name) h
     go (predefined t) o = o
     go unknown o = omega (arith, o .0)
 text-25 bind (unterminated offset end) first second h = omega (arith, h .0)
-
-pub record Answered26 (reader : Reader) (list pool words : List ℕ) : Type 0 where
-  pub k : ℕ
-  pub words-are : words ≡ k ∷ 0 ∷ []
-  pub there : WithinStrict (λ r. Barred r k) reader list pool
-
-pub record Answered25 (reader : Reader) (list pool words : List ℕ) : Type 0 where
-  pub words-are : words ≡ 0 ∷ 0 ∷ []
-  pub there : WithinStrict OutsideChar reader list pool
 
 module _ (reader : Reader) (list pool : List ℕ) where
   -- K8: "26 when a raw character, those between `&` and `;` excepted, breaks the rule, with its offset": where the reading comes to it, in the

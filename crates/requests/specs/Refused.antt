@@ -83,6 +83,12 @@ pub record OutsideText (offset : ℕ) (bind : List ℕ → Bound) (t : List ℕ)
 abbrev pub OutsideThere : Reader → List ℕ → List ℕ → ℕ → Type 0
 OutsideThere reader list pool offset = WithinRead (Outside offset) (OutsideText offset) reader list pool
 
+-- what a call that answered 27 had come to
+pub record Answered27 (reader : Reader) (list pool words : List ℕ) : Type 0 where
+  pub offset : ℕ
+  pub words-are : words ≡ offset ∷ 0 ∷ []
+  pub there : OutsideThere reader list pool offset
+
 -- ---- K8: what the strict reading does not allow
 
 -- everything before `k` was read, and the character there may not stand there
@@ -120,3 +126,13 @@ WithinStrict P (forming false t version depth limit scratch out) list pool = ⊥
 WithinStrict P (forming true t version depth limit scratch out) list pool = WithinValue (P (ruleOf version)) true t version depth limit list pool
 WithinStrict P (listing t version depth limit scratch out) list pool = ⊥
 WithinStrict P (unescaping t out) list pool = ⊥
+
+-- what a strict call that answered 26 had come to, and one that answered 25
+pub record Answered26 (reader : Reader) (list pool words : List ℕ) : Type 0 where
+  pub k : ℕ
+  pub words-are : words ≡ k ∷ 0 ∷ []
+  pub there : WithinStrict (λ r. Barred r k) reader list pool
+
+pub record Answered25 (reader : Reader) (list pool words : List ℕ) : Type 0 where
+  pub words-are : words ≡ 0 ∷ 0 ∷ []
+  pub there : WithinStrict OutsideChar reader list pool

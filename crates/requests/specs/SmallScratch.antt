@@ -3,6 +3,9 @@ use Prim.Native.Nat.{ℕ}
 use mathlib.Core.Bool.{Bool, true, false}
 use mathlib.Core.List.{List}
 use Rattle.text.specs.Call.{Called}
+use Rattle.text.specs.declared.Answer.{Answer}
+use Rattle.tokens.specs.Outcome.{Outcome}
+use Rattle.govlezna.specs.Calls.{walkCheck, walked, walkedStrictly}
 use Rattle.demands.specs.Demands.{Asked}
 use Rattle.demands.specs.CallDemands.{normalizeOf, canonicalOf}
 use Rattle.requests.specs.Strict.{strictNormalizeOf, strictCanonicalOf}
@@ -16,3 +19,12 @@ canonicalBy true = strictCanonicalOf
 abbrev pub normalizeBy : Bool → Asked → List ℕ → Called
 normalizeBy false = normalizeOf
 normalizeBy true = strictNormalizeOf
+
+-- the checks of their arguments
+abbrev pub checksOf : Asked → Answer
+checksOf a = walkCheck (a .text) (a .version) (a .depth) (a .limit) (a .list) (a .pool)
+
+-- what their walk makes of the text
+abbrev pub walkedBy : Bool → Asked → Outcome
+walkedBy false a = walked (a .text) (a .version) (a .depth) (a .limit) (a .list) (a .pool)
+walkedBy true a = walkedStrictly (a .text) (a .version) (a .depth) (a .limit) (a .list) (a .pool)
