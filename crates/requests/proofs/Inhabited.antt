@@ -1,10 +1,10 @@
 -- The premises of the requests' theorems are met by calls with a table that defines something, by computation: K7 (`k7-met`), K8's re-reading
--- (`again-met`, `again-26-met`), the standard (`standard-met-so`). Assumes nothing.
+-- (`again-met`, `again-26-met`), the standard (`standard-met-so`), K4's tables (`k4-table-met`), K10 (`k10-met`). Assumes nothing.
 use mathlib.Core.Path.{_≡_, refl, ap}
-use Prim.Native.Nat.{ℕ}
+use Prim.Native.Nat.{ℕ, zero, suc}
 use native.Mathlib.Omega.{arith}
 use mathlib.Core.Bool.{Bool, true, false}
-use mathlib.Core.List.{List, [], _∷_}
+use mathlib.Core.List.{List, [], _∷_, _++_}
 use lib.ListN.{length}
 use Rattle.text.specs.Bytes.{pick, sameBytes}
 use Rattle.text.specs.Version.{xml10}
@@ -19,7 +19,12 @@ use Rattle.canonical.specs.LastCharacter.{inHand}
 use Rattle.attribute.specs.Checks.{settingsCheck}
 use Rattle.attribute.specs.Walk.{normalize, readingOf}
 use Rattle.attribute.specs.Strict.{readingBy}
-use Rattle.govlezna.specs.Calls.{checkTableCall, normalizeAttributeValueCall, normalizeAttributeValueStrictCall}
+use Rattle.register.specs.Entries.{countIn}
+use Rattle.register.specs.Stored.{register}
+use Rattle.register.specs.RegisterCalls.{countCall}
+use Rattle.register.specs.CallLists.{numberOf}
+use Rattle.register.specs.Places.{Small}
+use Rattle.govlezna.specs.Calls.{checkTableCall, unescapeCall, registerAddCall, registerWithdrawCall, normalizeAttributeValueCall, normalizeAttributeValueStrictCall}
 use Rattle.demands.specs.Demands.{Asked}
 use Rattle.demands.specs.CallDemands.{CallAgain}
 use Rattle.demands.specs.Characters.{decode}
@@ -30,7 +35,10 @@ use Rattle.requests.specs.SmallScratch.{canonicalBy, normalizeBy}
 use Rattle.requests.specs.Standard.{SteadyAsked, GivesNone, GaveStandard, Gives, AnswersStandard}
 use Rattle.requests.proofs.Strict.{answered, k8-completes, k8-again-calls, k8-again-26-calls}
 use Rattle.requests.proofs.SmallScratch.{k7-walk-first, k7-short, k7-no-room, k7-hand}
+use Rattle.requests.specs.Register.{no-room}
 use Rattle.requests.proofs.Standard.{standard-answered, standard-refused, standard-met}
+use Rattle.requests.proofs.MarkedTable.{k4-accepted, k4-refused, k4-middle, k4-unescape}
+use Rattle.requests.proofs.Register.{k10-29, k10-30}
 
 -- a text with e = `x`, under that version
 abbrev asked : ℕ → List ℕ → Asked
@@ -185,3 +193,36 @@ standard-met-so strict = (
   standard-refused strict other other-steady (7 ∷ 7 ∷ []) (refuses strict) refl,
   standard-met strict value value-steady [] (120 ∷ []) (value-gives strict),
 )
+
+-- ---- K4: the table with a mark before it, refused with one behind its definition, and, cut short, refused one byte later
+
+abbrev definition : List ℕ
+definition = 1 ∷ 0 ∷ 0 ∷ 0 ∷ 0 ∷ 1 ∷ 1 ∷ 0 ∷ 0 ∷ 0 ∷ 1 ∷ 0 ∷ []
+
+table-checked : (checkTableCall (definition ++ 0 ∷ []) (101 ∷ 120 ∷ []) ≡ called 0 (1 ∷ 0 ∷ []) []) × (checkTableCall definition (101 ∷ 120 ∷ []) ≡ called 7 (12 ∷ 0 ∷ []) [])
+unfolding checkTableCall tableCheck
+table-checked = (refl, refl)
+
+k4-table-met :
+    (checkTableCall (3 ∷ definition ++ 0 ∷ []) (101 ∷ 120 ∷ []) ≡ called 0 (1 ∷ 0 ∷ []) [])
+    × (checkTableCall (3 ∷ definition) (101 ∷ 120 ∷ []) ≡ called 7 (13 ∷ 0 ∷ []) [])
+    × (checkTableCall (definition ++ 3 ∷ 0 ∷ []) (101 ∷ 120 ∷ []) ≡ called 7 (12 ∷ 0 ∷ []) [])
+    × ((t out : List ℕ) → unescapeCall t (3 ∷ definition ++ 0 ∷ []) (101 ∷ 120 ∷ []) out ≡ unescapeCall t (definition ++ 0 ∷ []) (101 ∷ 120 ∷ []) out)
+unfolding marked
+k4-table-met = (
+  k4-accepted (definition ++ 0 ∷ []) (101 ∷ 120 ∷ []) refl (omega arith) (table-checked .0),
+  k4-refused definition (101 ∷ 120 ∷ []) refl (omega arith) (table-checked .1) (λ z. omega (arith, z)) (λ z. omega (arith, z)),
+  k4-middle 1 (0 ∷ 0 ∷ 0 ∷ 0 ∷ 1 ∷ 1 ∷ 0 ∷ 0 ∷ 0 ∷ 1 ∷ 0 ∷ []) (0 ∷ []) (101 ∷ 120 ∷ []) (omega arith) (table-checked .0),
+  k4-unescape (definition ++ 0 ∷ []) (101 ∷ 120 ∷ []) refl (omega arith) (table-checked .0),
+)
+
+-- ---- K10: a buffer of two bytes has no room for an entry, and none to withdraw from
+
+two-bytes : Small (1 ∷ 2 ∷ [])
+two-bytes zero = omega arith
+two-bytes (suc zero) = omega arith
+two-bytes (suc (suc k)) = omega arith
+
+k10-met : (numberOf (registerAddCall (97 ∷ []) (1 ∷ 2 ∷ []) 0) ≡ 30) × (numberOf (registerWithdrawCall (97 ∷ []) (1 ∷ 2 ∷ []) 0) ≡ 29)
+unfolding countCall register countIn lengthCheck utf8Check utf8End
+k10-met = (k10-30 (97 ∷ []) (1 ∷ 2 ∷ []) 0 two-bytes .1 (no-room refl (omega arith)), k10-29 (97 ∷ []) (1 ∷ 2 ∷ []) 0 .1 refl)

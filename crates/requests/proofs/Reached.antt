@@ -267,7 +267,8 @@ pub refused-reached : (s : Settings) {why first second : ℕ} (p : Place) (depth
 refused-reached s {why} {first} {second} p zero t n r =
     scan (headsIn s p) (stopped s zero) t n why first second (Within s (RefusedAt s why first second) p zero t n)
     (λ k m offset c o. here p zero t n (record { k = k; m = m; token = barred offset; comes = c; own = o }))
-    (λ k m x c q. by-itself k m x c (used-up s x m q)) t 0 0 n [] [] refl refl (unfold run in refl) (same-refusal (sym (walk-run s p zero t n)) r)
+    (λ k m x c q. by-itself k m x c (used-up s x m q)) t 0 0 n [] [] refl refl
+    (unfold run in refl) (same-refusal (sym (walk-run s p zero t n)) r)
   where
     by-itself : (k m : ℕ) (x : Stop) → ComesTo (headsIn s p) (stopped s zero) t n k m (stop x) → Cause s zero x m why first second → Within s (RefusedAt s why first second) p zero t n
     by-itself k m x c (own o) = here p zero t n (record { k = k; m = m; token = stop x; comes = c; own = o })
@@ -275,7 +276,8 @@ refused-reached s {why} {first} {second} p zero t n r =
 refused-reached s {why} {first} {second} p (suc depth) t n r =
     scan (headsIn s p) (stopped s (suc depth)) t n why first second (Within s (RefusedAt s why first second) p (suc depth) t n)
     (λ k m offset c o. here p (suc depth) t n (record { k = k; m = m; token = barred offset; comes = c; own = o }))
-    (λ k m x c q. by-cause (λ u m′ w. refused-reached s inTable depth u m′ w) k m x c (stop-cause s depth m why first second x q)) t 0 0 n [] [] refl refl (unfold run in refl) (same-refusal (sym (walk-run s p (suc depth) t n)) r)
+    (λ k m x c q. by-cause (λ u m′ w. refused-reached s inTable depth u m′ w) k m x c (stop-cause s depth m why first second x q)) t 0 0 n [] [] refl refl
+    (unfold run in refl) (same-refusal (sym (walk-run s p (suc depth) t n)) r)
   where
     by-cause : ((u : List ℕ) (m′ : ℕ) → Refusal (walk s (s .inner) depth u m′) why first second → Within s (RefusedAt s why first second) inTable depth u m′)
         → (k m : ℕ) (x : Stop) → ComesTo (headsIn s p) (stopped s (suc depth)) t n k m (stop x) → Cause s (suc depth) x m why first second
