@@ -264,7 +264,8 @@ check-by a =
     (by-utf8 Not0 (not0 5 (omega arith)) (a .text))))
     (by-table Not0 table-numbers (a .list) (a .pool))
 
-taken-by : (a : Asked) {first second : ℕ} → checkOf a ≡ Done first second → Taken a
+-- what passes the checks of its arguments is taken
+pub taken-by : (a : Asked) {first second : ℕ} → checkOf a ≡ Done first second → Taken a
 taken-by a e =
     let settings = settingsCheck (a .version) (a .depth) (a .limit) in
     let p = then-done (argumentCheck (a .text) settings) (tableCheck (a .list) (a .pool)) e in

@@ -1,8 +1,10 @@
 -- Demand 3's premises are met: by one value whose calls are computed (`value-answered`), and by its form, asked again (`value-again`).
 -- Assumes nothing.
-use mathlib.Core.Path.{_≡_, refl}
+use mathlib.Core.Path.{_≡_, refl, ap}
+use Prim.Native.Nat.{ℕ}
 use native.Mathlib.Omega.{arith}
-use mathlib.Core.List.{[], _∷_}
+use mathlib.Core.List.{List, [], _∷_}
+use lib.ListN.{length}
 use Rattle.text.specs.Call.{called, lengthCheck, utf8Check}
 use Rattle.text.specs.Utf8.{utf8End}
 use Rattle.entity.specs.Table.{declarations, tableCheck}
@@ -55,9 +57,13 @@ value-answered =
       writes = writes;
     }
 
--- that form, asked again at depth 1, with no opening and an empty table
+-- that form, asked again at depth 1, with no opening and a table with another text for e
 abbrev form : Asked
-form = record { version = 1; text = 32 ∷ 38 ∷ 35 ∷ 57 ∷ 59 ∷ []; list = 0 ∷ []; pool = []; depth = 1; limit = 0 }
+form = record { version = 1; text = 32 ∷ 38 ∷ 35 ∷ 57 ∷ 59 ∷ []; list = 1 ∷ 0 ∷ 0 ∷ 0 ∷ 0 ∷ 1 ∷ 1 ∷ 0 ∷ 0 ∷ 0 ∷ 1 ∷ 0 ∷ 0 ∷ []; pool = 101 ∷ 120 ∷ []; depth = 1; limit = 0 }
+
+-- a name of one byte is none of the four
+one-byte : {b c : ℕ} {bs : List ℕ} → 101 ∷ [] ≡ b ∷ c ∷ bs → ⊥
+one-byte {b} {c} {bs} e = let q : length {A = ℕ} (101 ∷ []) ≡ length (b ∷ c ∷ bs) = ap length e in omega (arith, q)
 
 -- it is asked as demand 3 has it
 value-again : CallAgain value value-answered form
@@ -71,7 +77,7 @@ value-again =
       shallow = omega arith;
       deep = omega arith;
       most = omega arith;
-      declared = 0;
+      declared = 1;
       table = refl;
-      free = record { lt = tt; gt = tt; apos = tt; quot = tt };
+      free = record { lt = ((λ e. one-byte e), tt); gt = ((λ e. one-byte e), tt); apos = ((λ e. one-byte e), tt); quot = ((λ e. one-byte e), tt) };
     }

@@ -13,6 +13,7 @@ pub mod Words
 pub mod Agreement
 pub mod Standard
 pub mod StandardDepth
+pub mod AnyDepth
 pub mod StrictStandard
 pub mod StrictValues
 pub mod StrictDemands

@@ -12,18 +12,15 @@ use Rattle.text.specs.Bytes.{pick, sameBytes}
 use Rattle.text.specs.Version.{Rule, xml10, xml11}
 use Rattle.text.specs.Utf8.{WellFormed}
 use Rattle.text.proofs.Bytes.{pick-by, and-left, and-right, or-left, contrary}
-use Rattle.charref.specs.CharRef.{charNumber, anyCharacter, numberAnswer, encode}
+use Rattle.charref.specs.CharRef.{charNumber, numberAnswer, encode}
 use Rattle.charref.specs.declared.CharNumber.{CharNumber}
 use Rattle.charref.specs.declared.CharNumber.the-variants.{Char, UnexpectedSign, InvalidNumber, InvalidCodepoint, IllegalCharacter, Forbidden}
-use Rattle.entity.specs.Table.{marked}
-use Rattle.entity.specs.Binding.{Bound, text, external, predefined, unknown, binding, GoodBound}
-use Rattle.entity.proofs.Tables.{binding-good}
+use Rattle.entity.specs.Binding.{Bound, text, external, predefined, unknown, GoodBound}
 use Rattle.tokens.specs.Tokens.{Stop, number, named, Heads, tokens}
 use Rattle.tokens.specs.Outcome.{Outcome, done, refused, run, numbered, numberOutcome}
 use Rattle.attribute.specs.Heads.{attributeHead}
-use Rattle.attribute.specs.Walk.{Settings, opened, answer, exhausted, walk, normalize, innerHead, reading, readingOf}
+use Rattle.attribute.specs.Walk.{Settings, opened, answer, exhausted, walk, normalize, innerHead, reading}
 use Rattle.attribute.proofs.Strict.{withLegal}
-use Rattle.demands.specs.Demands.{Asked, ruleFor, Accepted}
 use Rattle.demands.specs.Characters.{encodeAll, decode}
 use Rattle.demands.specs.Standard.{alone, lineEndsOf, valueOf, linesOf, characterValue, replacedBy, entityValue, referenceValue, standard, charactersOf, lookupOf, steady, steadyRefs, SteadyText, SteadyBound, FromStandard, limited, Meets}
 use Rattle.demands.proofs.Decoding.{decode-encode}
@@ -254,14 +251,3 @@ module _ (legal : ℕ → CharNumber) (r : Rule) (past : Bool) (bind : List ℕ 
     -- where the standard gives a value, the walk gives its bytes, or refuses by 16 or 17
     pub standard-is-met : (v : List ℕ) → standardValue ≡ some v → Meets (normalize (withLegal legal (reading r past bind limit)) depth t) v
     standard-is-met v e = agree-some (normalize (withLegal legal (reading r past bind limit)) depth t) v (rw e at agrees)
-
--- an accepted value, with its table, is the standard's (demand 2; K4: of a marked list nothing is asked, and its texts are read as in the
--- standard)
-pub accepted-standard : (a : Asked) (value : List ℕ) (openings : ℕ) → Accepted a value openings → SteadyText (ruleFor a) (a .text)
-    → ((name : List ℕ) → SteadyBound (marked (a .list)) (ruleFor a) (binding (a .list) (a .pool) name))
-    → FromStandard
-    (standard anyCharacter (lookupOf (binding (a .list) (a .pool))) (linesOf (marked (a .list)) (ruleFor a)) (a .depth) (lineEndsOf (ruleFor a) (decode (a .text)))) value
-unfolding readingOf reading
-accepted-standard a value openings p still firm =
-    accepted-is-standard anyCharacter (ruleFor a) (marked (a .list)) (binding (a .list) (a .pool)) (a .limit) (binding-good (a .list) (a .pool) (p .taken .table)) firm (a .depth) (a .text)
-    (p .taken .utf8) still value openings (p .reads)

@@ -47,13 +47,7 @@ pub fn replay_declarations(line: &[u8]) -> Outcome {
 }
 
 // Makes the call with so many bytes for the list's commands, and so many for the pool.
-fn lend_table(
-    line: &[u8],
-    text: &[u8],
-    version: u8,
-    commands: usize,
-    bytes: usize,
-) -> Outcome
+fn lend_table(line: &[u8], text: &[u8], version: u8, commands: usize, bytes: usize) -> Outcome
     requires { ⌜ (commands ≤ 2048) × (bytes ≤ 2048) ⌝ }
 {
     let mut list = [UNTOUCHED; 2048];

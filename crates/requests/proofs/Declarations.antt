@@ -44,7 +44,7 @@ use Rattle.table_grammar.proofs.GoodEntities.{read-valid}
 use Rattle.table_grammar.proofs.GrammarRead.{entities-written}
 use Rattle.table_grammar.proofs.GrammarTaken.{entities-taken}
 use Rattle.govlezna.specs.Calls.{checkUtf8Call, checkTableCall, unescapeCall, normalizeAttributeValueCall, canonicalFormCall, normalizeAttributeValueStrictCall, canonicalFormStrictCall, normalizeNmtokensCall, readDeclarationsCall}
-use Rattle.requests.specs.Unused.{Reader, normalizing, forming, listing, unescaping, callWith, namesWith, BindAlike, OneMarking, definitions}
+use Rattle.requests.specs.Unused.{Reader, normalizing, forming, listing, unescaping, callWith, namesWith, reads as reads-by, BindAlike, OneMarking, definitions}
 use Rattle.requests.specs.Declarations.{Lent, callFor, settled, Success, listFrom, poolFrom, Sizes, Room, Taken, readingWith, readThrough, inOrder, Declares, Leaves}
 use Rattle.requests.proofs.Unused.{k13-unused}
 use Rattle.requests.proofs.DeclarationsRead.{written-in-order, counted-in, counted-out, refused-by}
@@ -404,4 +404,4 @@ k3-one-marking a b x y =
 -- K13 of an office's own declarations: two texts that bind alike each name that a reading looks up leave the same
 pub k3-unused : (a b : Lent) (x : Success a) (y : Success b) (reader : Reader) → BindAlike (listFrom x) (poolFrom x) (listFrom y) (poolFrom y) (namesWith reader (listFrom x) (poolFrom x))
     → callWith reader (listFrom x) (poolFrom x) ≡ callWith reader (listFrom y) (poolFrom y)
-k3-unused a b x y reader e = k13-unused (listFrom x) (poolFrom x) (listFrom y) (poolFrom y) (k3-one-marking a b x y) reader e
+k3-unused a b x y reader e = k13-unused (listFrom x) (poolFrom x) (listFrom y) (poolFrom y) (k3-one-marking a b x y) (reads-by reader) e

@@ -1,43 +1,43 @@
--- K4, of the calls: a text of a marked list has a space for each TAB, LF and CR (`k4-value`); these and `&` are its stop bytes under either
--- version (`k4-copied`, `k4-stopped`); an accepted value is the standard's, nothing done to replacement texts first (`k4-standard`); and the
--- standard's own example (`k4-example`). Assumes nothing.
-use mathlib.Core.Path.{_≡_, refl, sym, ap, subst, _∙_}
-use Prim.Native.Nat.{ℕ, zero, suc, _≤_}
-use native.Mathlib.Omega.{arith}
+-- K4, of the calls, wherever the reference stands: a text of a marked list has a space for each TAB, LF and CR (`k4-gives`); these and `&` are its
+-- stop bytes under either version (`k4-gives`, `k4-stopped`); and the standard's own example (`k4-example`). Assumes nothing.
+use mathlib.Core.Path.{_≡_, refl, sym, ap, ap₂, _∙_}
+use Prim.Native.Nat.{ℕ, suc}
 use mathlib.Core.Bool.{Bool, true, false, _||_, true≢false}
-use mathlib.Core.Option.{Option}
-use mathlib.Core.List.{List, [], _∷_, _++_, append-nil}
+use mathlib.Core.List.{List, [], _∷_, _++_, append-nil, append-assoc}
 use lib.Dec.{eqb}
 use lib.ListN.{length, take}
 use borrow.Author.Tests.{ne-eqb}
-use Rattle.text.specs.Bytes.{pick}
-use Rattle.text.specs.Version.{Rule}
-use Rattle.text.specs.Call.{called, laid, lengthCheck, utf8Check}
+use Rattle.text.specs.Version.{Rule, ruleOf}
+use Rattle.text.specs.Call.{called, lengthCheck, utf8Check}
 use Rattle.text.specs.Utf8.{utf8End}
 use Rattle.text.proofs.Bytes.{or-left, or-right}
-use Rattle.charref.specs.CharRef.{anyCharacter}
-use Rattle.output.proofs.Laid.{laid-front}
 use Rattle.entity.specs.Table.{marked, tableCheck}
-use Rattle.entity.specs.Binding.{text, binding}
+use Rattle.entity.specs.Binding.{Bound, text, external, predefined, unknown}
+use Rattle.legal.specs.Legal.{Place, inValue}
 use Rattle.tokens.specs.Tokens.{Stop, named, stop, copy, Token, Head, Heads, tokenOf, skipOf, tokens}
-use Rattle.tokens.specs.Outcome.{Outcome, done, refused, prepend, followed, run, finished}
+use Rattle.tokens.specs.Outcome.{Outcome, done, refused, prepend, followed, run, produced, finished}
 use Rattle.halts.specs.Halts.{anyStop, stopByte}
 use Rattle.halts.proofs.Smooth.{none-plain}
 use Rattle.runs.specs.RunEnds.{isAmp}
-use Rattle.attribute.specs.Heads.{attributeHead, pastHead}
+use Rattle.attribute.specs.Heads.{pastHead}
 use Rattle.attribute.specs.Walk.{Settings, opened, answer, exhausted, walk, normalize, innerHead, reading, readingOf}
+use Rattle.attribute.specs.Strict.{readingBy}
 use Rattle.attribute.specs.Checks.{settingsCheck}
 use Rattle.attribute.proofs.Stops.{IsStop, heads-copy, heads-stop}
 use Rattle.attribute.proofs.Single.{walk-plain}
 use Rattle.govlezna.specs.Calls.{normalizeAttributeValueCall}
-use Rattle.demands.specs.Characters.{decode}
-use Rattle.demands.specs.Demands.{Asked, ruleFor, Accepted}
+use Rattle.demands.specs.Demands.{Asked, ruleFor}
 use Rattle.demands.specs.CallDemands.{normalizeOf}
-use Rattle.demands.specs.Standard.{lineEndsOf, linesOf, standard, lookupOf, SteadyText, SteadyBound, FromStandard}
-use Rattle.demands.proofs.Standard.{accepted-standard}
-use Rattle.demands.proofs.CallDemands.{taken-passes, normalize-roomy, normalize-answered}
-use Rattle.requests.specs.Marked.{eachSpace, RefersTo}
-use Rattle.requests.proofs.External.{name-ended, name-head, amp-value}
+use Rattle.requests.specs.Marked.{eachSpace, MarkedGives, spaced, copied, StopsIn, valuesBefore, Begins}
+use Rattle.requests.specs.External.{ReferenceIn, Through, itself, through}
+use Rattle.requests.specs.Reached.{headsIn, stopped, Opens, Within, here, inside, RefusedAt}
+use Rattle.requests.specs.Refused.{AnswersSo}
+use Rattle.requests.specs.Unused.{normalizing, callWith}
+use Rattle.requests.proofs.Readings.{gave}
+use Rattle.requests.proofs.Reached.{walk-run, refused-reached}
+use Rattle.requests.proofs.Refused.{refused-there}
+use Rattle.requests.proofs.BeforeReference.{value-run}
+use Rattle.requests.proofs.External.{through-within}
 
 -- ---- a text past line ends
 
@@ -86,88 +86,114 @@ exhausted-run (b ∷ bs) offset n e = go (stopByte false b) refl (λ k. exhauste
               ∙ ap (prepend (b ∷ [])) (rest .is);
         }
 
--- ---- a value that is one reference
+-- ---- wherever the reference stands
 
-skip-name : (at : Heads) (offset : ℕ) (name : List ℕ) → tokens at offset (suc (length name)) (name ++ 59 ∷ []) ≡ []
-unfolding tokens
-skip-name at offset [] = refl
-skip-name at offset (b ∷ bs) = skip-name at (suc offset) bs
+produced-followed : (o : Outcome) (g : ℕ → Outcome) → Begins (produced (followed o g)) (produced o)
+produced-followed (done value m) g = go (g m)
+  where
+    go : (o : Outcome) → Begins (produced (prepend value o)) value
+    go (done v k) = record { rest = v; is = refl }
+    go (refused v k why first second) = record { rest = v; is = refl }
+produced-followed (refused before m why first second) g = record { rest = []; is = sym (append-nil before) }
 
-then-over : (o : Outcome) → followed o (λ m. done [] m) ≡ o
-then-over (done value m) = ap (λ (v : List ℕ). done v m) (append-nil value)
-then-over (refused before m why first second) = refl
+produced-prepend : (front : List ℕ) (o : Outcome) → produced (prepend front o) ≡ front ++ produced o
+produced-prepend front (done value m) = refl
+produced-prepend front (refused before m why first second) = refl
 
-module _ (a : Asked) (name u : List ℕ) (k : RefersTo a name u) where
+-- a reference that opens a text is what is made of it
+opened-is : (limit : ℕ) (walked : List ℕ → ℕ → Outcome) (offset : ℕ) (name : List ℕ) (b : Bound) (m : ℕ) (u : List ℕ) (m′ : ℕ) → Opens limit m b u m′
+    → opened limit walked offset name b m ≡ walked u m′
+unfolding opened
+opened-is limit walked offset name (text t) m u m′ h = rw (ne-eqb m limit (h .0)) (ap₂ walked (sym (h .1)) (sym (h .2)))
+opened-is limit walked offset name external m u m′ h = absurd h
+opened-is limit walked offset name (predefined t) m u m′ h = ap₂ walked (sym (h .0)) (sym (h .1))
+opened-is limit walked offset name unknown m u m′ h = absurd h
+
+module _ (r : Rule) (list pool : List ℕ) (limit : ℕ) (marks : marked list ≡ true) where
   abbrev s : Settings
-  s = readingOf (ruleFor a) (a .list) (a .pool) (a .limit)
+  s = readingBy false r list pool limit
 
   inner-is : s .inner ≡ pastHead
-  unfolding readingOf reading innerHead
-  inner-is = rw (k .marks)
+  unfolding readingBy readingOf reading innerHead
+  inner-is = rw marks
 
-  -- what is made of the value is what is made of the text, one opening later
-  opens : (depth : ℕ) → normalize s (suc depth) (a .text) ≡ walk s pastHead depth u 1
-  unfolding normalize walk answer opened readingOf reading run tokens attributeHead
-  opens depth =
-      let ends = name-ended false name [] (k .unended) in
-      let is = name-head 0 name (k .no-number) in
-      let room : eqb 0 (a .limit) ≡ false = ne-eqb 0 (a .limit) (λ q. omega (arith, q, k .some)) in
-      rw (k .is, amp-value (ruleFor a) 0 (name ++ 59 ∷ []), ends, is, k .no-amp, k .bound, room, skip-name (attributeHead (ruleFor a)) 1 name)
-      (then-over (walk s (s .inner) depth u 1) ∙ ap (λ (h : Heads). walk s h depth u 1) inner-is)
+  gives-walk : (gives : List ℕ) {p : Place} {depth : ℕ} {t : List ℕ} {n : ℕ} → MarkedGives gives p depth t n → walk s (headsIn s p) depth t n ≡ done gives n
+  gives-walk gives (spaced p depth less t n place deep plain e) =
+      let is : walk s pastHead (suc less) t n ≡ done (eachSpace t) n = unfold walk in past-run s (λ v j. walk s (s .inner) less v j) t 0 n plain in
+      ap₂ (λ (q : Place) (d : ℕ). walk s (headsIn s q) d t n) place deep ∙ ap (λ (h : Heads). walk s h (suc less) t n) inner-is ∙ is ∙ ap (λ (v : List ℕ). done v n) (sym e)
+  gives-walk gives (copied p depth t n place deep plain e) =
+      ap₂ (λ (q : Place) (d : ℕ). walk s (headsIn s q) d t n) place deep ∙ ap (λ (h : Heads). walk s h 0 t n) inner-is
+      ∙ walk-plain s 2 0 t n (none-plain (stopByte false) t plain) ∙ ap (λ (v : List ℕ). done v n) (sym e)
 
-  -- what the call then answers
-  accepted : {depth : ℕ} {value : List ℕ} → a .depth ≡ suc depth → walk s pastHead depth u 1 ≡ done value 1 → Accepted a value 1
-  accepted {depth} d e = record { taken = k .taken; reads = ap (λ (n : ℕ). normalize s n (a .text)) d ∙ opens depth ∙ e }
+  -- one reference more in front
+  leads : (p : Place) (depth less : ℕ) (t : List ℕ) (n : ℕ) (before name : List ℕ) (m : ℕ) (u : List ℕ) (m′ : ℕ) → depth ≡ suc less
+      → (x : ReferenceIn s p depth t n before name m) → Opens (s .limit) m (s .bind name) u m′ → (front : List ℕ) → Begins (produced (walk s (s .inner) less u m′)) front
+      → Begins (produced (walk s (headsIn s p) depth t n)) (x .value ++ front)
+  unfolding run answer
+  leads p depth less t n before name m u m′ e x o front h =
+      let q = value-run false r list pool limit p depth t before name (x .after) n (x .is) (sym (walk-run s p depth before n) ∙ x .reads) (x .unended) (x .no-number) in
+      let f : Stop → ℕ → Outcome = stopped s (suc less) in
+      let within = walk s (s .inner) less u m′ in
+      let answer-is : f (named (length before) name) m ≡ within =
+      rw (x .no-amp) (opened-is (s .limit) (λ v j. walk s (s .inner) less v j) (length before) name (s .bind name) m u m′ o) in
+      let all : walk s (headsIn s p) depth t n ≡ prepend (x .value) (followed within (λ j. run f (q .later) j)) =
+      walk-run s p depth t n ∙ q .is ∙ ap (λ (d : ℕ). prepend (x .value) (run (stopped s d) (stop (named (length before) name) ∷ q .later) m)) e
+      ∙ ap (λ (y : Outcome). prepend (x .value) (followed y (λ j. run f (q .later) j))) answer-is in
+      let more = produced-followed within (λ j. run f (q .later) j) in
+      record {
+        rest = h .rest ++ more .rest;
+        is =
+            ap produced all ∙ produced-prepend (x .value) (followed within (λ j. run f (q .later) j))
+            ∙ ap (λ (l : List ℕ). x .value ++ l) (more .is ∙ ap (λ (l : List ℕ). l ++ more .rest) (h .is) ∙ append-assoc front (h .rest) (more .rest))
+            ∙ sym (append-assoc (x .value) front (h .rest ++ more .rest));
+      }
 
-  -- K4: "in replacement texts TAB, LF and CR each become one space"
-  pub k4-value : 2 ≤ a .depth → anyStop isAmp u ≡ false → (out : List ℕ) → length u ≤ length out
-      → normalizeOf a out ≡ called 0 (length u ∷ 1 ∷ []) (laid (eachSpace u) out ∷ [])
-  k4-value deep plain out room = go (a .depth) refl deep
-    where
-      go : (depth : ℕ) → a .depth ≡ depth → 2 ≤ depth → normalizeOf a out ≡ called 0 (length u ∷ 1 ∷ []) (laid (eachSpace u) out ∷ [])
-      go zero q h = absurd (omega (arith, h))
-      go (suc zero) q h = absurd (omega (arith, h))
-      go (suc (suc depth)) q h =
-          let e : walk s pastHead (suc depth) u 1 ≡ done (eachSpace u) 1 = unfold walk in past-run s (λ v m. walk s (s .inner) depth v m) u 0 1 plain in
-          let n = each-length u in
-          normalize-roomy a (eachSpace u) 1 (accepted q e) out (omega (arith, n, room))
-          ∙ ap (λ (m : ℕ). called 0 (m ∷ 1 ∷ []) (laid (eachSpace u) out ∷ [])) n
+  walk-begins : (gives : List ℕ) {p : Place} {depth : ℕ} {t : List ℕ} {n : ℕ} (w : Through s (MarkedGives gives) p depth t n)
+      → Begins (produced (walk s (headsIn s p) depth t n)) (valuesBefore s (MarkedGives gives) w ++ gives)
+  unfolding valuesBefore
+  walk-begins gives (itself p depth t n x) = record { rest = []; is = ap produced (gives-walk gives x) ∙ sym (append-nil gives) }
+  walk-begins gives (through p depth less t n before name m u m′ e x o w) =
+      let later = valuesBefore s (MarkedGives gives) w in
+      let y = leads p depth less t n before name m u m′ e x o (later ++ gives) (walk-begins gives w) in
+      record { rest = y .rest; is = y .is ∙ ap (λ (l : List ℕ). l ++ y .rest) (sym (append-assoc (x .value) later gives)) }
 
-  -- K4: "the stop bytes are those three and `&` under either version": at depth 1 a text without them is copied
-  pub k4-copied : a .depth ≡ 1 → anyStop (stopByte false) u ≡ false → (out : List ℕ) → length u ≤ length out
-      → normalizeOf a out ≡ called 0 (length u ∷ 1 ∷ []) (laid u out ∷ [])
-  k4-copied one plain out room = normalize-roomy a u 1 (accepted one (walk-plain s 2 0 u 1 (none-plain (stopByte false) u plain))) out room
+  -- a text that stops where the depth is used up
+  stops-refused : (p : Place) (depth : ℕ) (t : List ℕ) (n : ℕ) → StopsIn p depth t n → Within s (RefusedAt s 16 0 0) p depth t n
+  stops-refused p depth t n h =
+      let x = exhausted-run t 0 n (h .2) in
+      let is : walk s pastHead 0 t n ≡ refused (x .before) n 16 0 0 = unfold walk in x .is in
+      let all : walk s (headsIn s p) depth t n ≡ refused (x .before) n 16 0 0 =
+      ap₂ (λ (q : Place) (d : ℕ). walk s (headsIn s q) d t n) (h .0) (h .1) ∙ ap (λ (at : Heads). walk s at 0 t n) inner-is ∙ is in
+      refused-reached s p depth t n (record { before = x .before; openings = n; is = all })
 
-  -- and one with any of them is 16
-  pub k4-stopped : a .depth ≡ 1 → anyStop (stopByte false) u ≡ true → (out : List ℕ) → normalizeOf a out ≡ called 16 (0 ∷ 0 ∷ []) (out ∷ [])
-  unfolding normalizeAttributeValueCall finished
-  k4-stopped one some out =
-      let x = exhausted-run u 0 1 some in
-      let e : normalize s (a .depth) (a .text) ≡ refused (x .before) 1 16 0 0 = ap (λ (n : ℕ). normalize s n (a .text)) one ∙ opens 0 ∙ unfold walk in x .is in
-      rw (taken-passes a (k .taken), e)
+within-join : (s : Settings) (P Q : Place → ℕ → List ℕ → ℕ → Type 0) → ((p : Place) (depth : ℕ) (t : List ℕ) (n : ℕ) → P p depth t n → Within s Q p depth t n)
+    → {p : Place} {depth : ℕ} {t : List ℕ} {n : ℕ} → Within s P p depth t n → Within s Q p depth t n
+within-join s P Q h (here p depth t n x) = h p depth t n x
+within-join s P Q h (inside p depth less t n u m e o w) = inside p depth less t n u m e o (within-join s P Q h w)
 
--- ---- the standard
+-- ---- of the calls
 
--- K4: "Marked lists are judged by the standard alone": what normalization gives with one is 3.3.3's value after 2.11 in the value itself,
--- with nothing done to replacement texts first, where no reference of the value holds a line end.
-pub k4-standard : (a : Asked) → marked (a .list) ≡ true → SteadyText (ruleFor a) (a .text) → (out : List ℕ) {size openings : ℕ} {left : List ℕ}
-    → normalizeOf a out ≡ called 0 (size ∷ openings ∷ []) (left ∷ [])
-    → FromStandard (standard anyCharacter (lookupOf (binding (a .list) (a .pool))) (λ t. t) (a .depth) (lineEndsOf (ruleFor a) (decode (a .text)))) (take size left)
-k4-standard a marks still out {size} {openings} {left} e =
-    let x = normalize-answered a out e in
-    let holds = x .holds in
-    let n : size ≡ length (x .value) = let q = holds .words-are in cc in
-    let l : left ≡ laid (x .value) out = let q = holds .left-is in cc in
-    let lines : linesOf (marked (a .list)) (ruleFor a) ≡ (λ t. t) = ap (λ (p : Bool). linesOf p (ruleFor a)) marks ∙ unfold linesOf in refl in
-    let is : take size left ≡ x .value = ap (λ (k : ℕ). take k left) n ∙ laid-front (x .value) out l in
-    subst (FromStandard (valueBy (λ t. t))) (sym is)
-    (subst (λ (f : List ℕ → List ℕ). FromStandard (valueBy f) (x .value)) lines (accepted-standard a (x .value) (x .openings) (x .accepted) still firm))
-  where
-    firm : (name : List ℕ) → SteadyBound (marked (a .list)) (ruleFor a) (binding (a .list) (a .pool) name)
-    firm name = subst (λ (p : Bool). SteadyBound p (ruleFor a) (binding (a .list) (a .pool) name)) (sym marks) tt
+-- K4: "in replacement texts TAB, LF and CR each become one space", and where the depth is used up a text without stop bytes is copied: whatever is read
+-- before the references that lead to the text, at any depth of nesting, the value begins with that, and then has what the text gives
+pub k4-gives : (a : Asked) → marked (a .list) ≡ true → (gives : List ℕ)
+    (w : Through (readingBy false (ruleFor a) (a .list) (a .pool) (a .limit)) (MarkedGives gives) inValue (a .depth) (a .text) 0)
+    → (out : List ℕ) {size openings : ℕ} {left : List ℕ} → normalizeOf a out ≡ called 0 (size ∷ openings ∷ []) (left ∷ [])
+    → Begins (take size left) (valuesBefore (readingBy false (ruleFor a) (a .list) (a .pool) (a .limit)) (MarkedGives gives) w ++ gives)
+unfolding readingBy normalize
+k4-gives a marks gives w out {size} {openings} {left} e =
+    let x = walk-begins (ruleFor a) (a .list) (a .pool) (a .limit) marks gives w in
+    let y = gave false a out e in
+    record { rest = x .rest; is = sym (ap produced (y .reads)) ∙ x .is }
 
-    valueBy : (List ℕ → List ℕ) → Option (List ℕ)
-    valueBy f = standard anyCharacter (lookupOf (binding (a .list) (a .pool))) f (a .depth) (lineEndsOf (ruleFor a) (decode (a .text)))
+-- K4: "the stop bytes are those three and `&` under either version": a text with any of them that is opened with the depth used up is 16, at any depth
+-- of nesting
+pub k4-stopped : (t : List ℕ) (version depth limit : ℕ) (list pool out : List ℕ) → marked list ≡ true
+    → Through (readingBy false (ruleOf version) list pool limit) StopsIn inValue depth t 0
+    → AnswersSo (normalizing false t version depth limit out) 16 0 0 (callWith (normalizing false t version depth limit out) list pool)
+k4-stopped t version depth limit list pool out marks w =
+    let s = readingBy false (ruleOf version) list pool limit in
+    refused-there (normalizing false t version depth limit out) list pool
+    (within-join s StopsIn (RefusedAt s 16 0 0) (stops-refused (ruleOf version) list pool limit marks) (through-within false (ruleOf version) list pool limit StopsIn w))
 
 -- ---- the example of XML 1.0, 3.3.3: d = CR, a = LF, da = CR LF
 

@@ -5,12 +5,15 @@
 -- `k10-28-withdraw`, `k10-28-count`); and demand 1 holds of them (`k10-add-refuses`, `k10-withdraw-refuses`, `k10-count-refuses`). Assumes
 -- nothing.
 use mathlib.Core.Path.{_≡_, refl, ap, sym, _∙_, subst}
+use mathlib.Core.Logic.{_≢_, _↔_}
 use Prim.Native.Nat.{ℕ, _+_, _-_, _≤_, _<_}
-use mathlib.Core.Bool.{true, false}
+use native.Mathlib.Omega.{arith}
+use mathlib.Core.Bool.{Bool, true, false}
 use mathlib.Core.List.{List, [], _∷_, _++_}
 use lib.Dec.{eqb, ltb}
 use lib.ListN.{length, getD, take, drop}
-use Rattle.text.specs.Bytes.{pick}
+use borrow.Author.Tests.{eqb-true, eqb-false, ltb-true, ltb-false}
+use Rattle.text.specs.Bytes.{pick, sameBytes}
 use Rattle.text.specs.Utf8.{WellFormed}
 use Rattle.text.specs.Call.{Called, called, guarded, lengthCheck, utf8Check, textCheck, passed, longestText}
 use Rattle.text.specs.declared.Answer.{Answer}
@@ -20,14 +23,15 @@ use Rattle.register.specs.Entries.{Entry, entry, cost, countIn, recount, larges
 use Rattle.register.specs.Stored.{Held, holds, damaged, bytesOf, entries, intact, register, written}
 use Rattle.register.specs.RegisterCalls.{lent, leaves, ofHeld, addCall, withdrawCall, counted, countCall}
 use Rattle.register.specs.CallLists.{Asked, adds, withdraws, counts, Store, empty, answered, leftBy, numberOf, afterCalls, acceptedOf, isAdd, isWithdrawal, forms, becameBy, None}
-use Rattle.register.specs.Places.{Small}
+use Rattle.register.specs.Places.{Small, Narrow}
 use Rattle.register.proofs.Replays.{replayed, replayed-count}
 use Rattle.register.proofs.Keeping.{refused-keeps, past-stays, freed-zero}
-use Rattle.register.proofs.Sits.{held-entries, held-sits}
+use Rattle.register.proofs.Sits.{sits-cost, held-entries, held-sits}
 use Rattle.govlezna.specs.Calls.{registerAddCall, registerWithdrawCall, registerCountCall}
 use Rattle.demands.specs.CallDemands.{listed, Refuses, success, refusal}
 use Rattle.demands.proofs.Numbers.{By, by-then, by-length, by-utf8}
 use Rattle.demands.proofs.CallDemands.{length-passes, utf8-passes}
+use Rattle.requests.specs.Register.{Present, Counts, Full, no-room, at-most}
 
 -- ---- lists of calls from an empty register, nothing else writing
 
@@ -60,6 +64,10 @@ module _ (buffer : List ℕ) (cs : List Asked) where
   -- 28 is for what others wrote: no call of such a list answers it
   pub k10-no-28 : None 28 cs start
   k10-no-28 = replayed buffer cs .none28
+
+  -- there is a register after them
+  pub k10-holds : Present (end .buffer) (end .used)
+  k10-holds = record { present = replayed buffer cs .present; held = replayed buffer cs .is }
 
   -- the entries that the list leaves
   module _ (es : List Entry) (held : register (end .buffer) (end .used) ≡ holds es) where
@@ -125,6 +133,94 @@ module _ (f : List ℕ) (w : WellFormed f) (l : length f ≤ longestText) (buffe
   pub k10-28-count : registerCountCall f buffer used ≡ called 28 (0 ∷ 0 ∷ []) []
   unfolding countCall
   k10-28-count = rw (form-passes f w l, no-register) refl
+
+-- ---- 29 and 30, exactly when
+
+count-narrow : (f : List ℕ) (es : List Entry) → Narrow es → countIn f es < 0x100000000
+unfolding countIn
+count-narrow f [] n = omega arith
+count-narrow f (e ∷ es) n = pick-both (λ (k : ℕ). k < 0x100000000) (sameBytes (e .form) f) {a = e .count} {b = countIn f es} (n .1) (count-narrow f es (n .2))
+
+-- a form that 1 or 5 refuses is refused by no other number
+form-numbers : (f : List ℕ) → By (λ (n : ℕ). (n ≢ 0) × (n ≢ 29) × (n ≢ 30)) (textCheck f)
+form-numbers f =
+    by-then (λ (n : ℕ). (n ≢ 0) × (n ≢ 29) × (n ≢ 30)) (lengthCheck f) (utf8Check f)
+    (by-length (λ (n : ℕ). (n ≢ 0) × (n ≢ 29) × (n ≢ 30)) (λ z. omega (arith, z), λ z. omega (arith, z), λ z. omega (arith, z)) f)
+    (by-utf8 (λ (n : ℕ). (n ≢ 0) × (n ≢ 29) × (n ≢ 30)) (λ z. omega (arith, z), λ z. omega (arith, z), λ z. omega (arith, z)) f)
+
+module _ (f buffer : List ℕ) (used : ℕ) where
+  -- "29 when a withdrawn form is absent": exactly when the call for its count answers 0
+  pub k10-29 : (numberOf (registerWithdrawCall f buffer used) ≡ 29) ↔ Counts f buffer used 0
+  unfolding withdrawCall countCall withdraw
+  k10-29 = go (textCheck f) (form-numbers f) (register buffer used)
+    where
+      held : (es : List Entry) (zero : Bool) → eqb (countIn f es) 0 ≡ zero
+          → (numberOf (leaves buffer used (pick zero (refused 29) (changed (countIn f es - 1) (recount f (countIn f es - 1) es)))) ≡ 29)
+          ↔ (called 0 (countIn f es ∷ 0 ∷ []) [] ≡ called 0 (0 ∷ 0 ∷ []) [])
+      held es true q = (λ e. ap (λ (n : ℕ). called 0 (n ∷ 0 ∷ []) []) (eqb-true (countIn f es) 0 q), λ e. refl)
+      held es false q = (λ e. absurd (omega (arith, e)), λ e. let z : countIn f es ≡ 0 = cc in absurd (eqb-false (countIn f es) 0 q z))
+
+      go : (c : Answer) → By (λ (n : ℕ). (n ≢ 0) × (n ≢ 29) × (n ≢ 30)) c → (h : Held)
+          → (numberOf (guarded c (lent buffer used) (leaves buffer used (ofHeld (withdraw f) h))) ≡ 29) ↔ (guarded c [] (counted f h) ≡ called 0 (0 ∷ 0 ∷ []) [])
+      go (Refused why first second) k h = (λ e. absurd (k .1 e), λ e. let z : why ≡ 0 = cc in absurd (k .0 z))
+      go (Done first second) k (holds es) = held es (eqb (countIn f es) 0) refl
+      go (Done first second) k damaged = (λ e. absurd (omega (arith, e)), λ e. let z : _≡_ {A = ℕ} 28 0 = cc in absurd (omega (arith, z)))
+
+  -- where the call for the count answers otherwise, neither way of being full is met
+  not-full : {number : ℕ} {words : List ℕ} → number ≢ 0 → registerCountCall f buffer used ≡ called number words [] → Full f buffer used → ⊥
+  not-full {number} {words} h e (no-room c l) = let q : called number words [] ≡ called 0 (0 ∷ 0 ∷ []) [] = sym e ∙ c in let z : number ≡ 0 = cc in h z
+  not-full {number} {words} h e (at-most c) = let q : called number words [] ≡ called 0 (largestCount ∷ 0 ∷ []) [] = sym e ∙ c in let z : number ≡ 0 = cc in h z
+
+  -- a register whose used length is the cost of its entries
+  module _ (es : List Entry) (costs : used ≡ cost es) (narrow : countIn f es < 0x100000000) (is : Counts f buffer used (countIn f es)) where
+    of-count : (k : ℕ) → Counts f buffer used k → countIn f es ≡ k
+    of-count k c = let q : called 0 (countIn f es ∷ 0 ∷ []) [] ≡ called 0 (k ∷ 0 ∷ []) [] = sym is ∙ c in cc
+
+    fits : (length buffer < cost es + (8 + length f) → ⊥) → (countIn f es ≡ largestCount → ⊥) → Full f buffer used → ⊥
+    fits room most (no-room c l) = room (omega (arith, l, costs))
+    fits room most (at-most c) = most (of-count largestCount c)
+
+    counted-more : (countIn f es ≡ 0 → ⊥) → (countIn f es ≡ largestCount → ⊥) → Full f buffer used → ⊥
+    counted-more some most (no-room c l) = some (of-count 0 c)
+    counted-more some most (at-most c) = most (of-count largestCount c)
+
+    by-cases : (zero full below : Bool) → eqb (countIn f es) 0 ≡ zero → ltb (length buffer) (cost es + (8 + length f)) ≡ full → ltb (countIn f es) largestCount ≡ below
+        → (fresh more : List Entry)
+        → (numberOf (leaves buffer used (pick zero (pick full (refused 30) (changed 1 fresh)) (pick below (changed (countIn f es + 1) more) (refused 30)))) ≡ 30) ↔ Full f buffer used
+    by-cases true true below z l b fresh more =
+        (λ e. no-room (is ∙ ap (λ (k : ℕ). called 0 (k ∷ 0 ∷ []) []) (eqb-true (countIn f es) 0 z)) (rw costs (ltb-true (length buffer) (cost es + (8 + length f)) l)), λ x. refl)
+    by-cases true false below z l b fresh more =
+        let q = eqb-true (countIn f es) 0 z in
+        let r = ltb-false (length buffer) (cost es + (8 + length f)) l in
+        (λ e. absurd (omega (arith, e)), λ x. absurd (fits (λ h. omega (arith, h, r)) (λ h. omega (arith, h, q)) x))
+    by-cases false full true z l b fresh more =
+        let q = eqb-false (countIn f es) 0 z in
+        let r = ltb-true (countIn f es) largestCount b in
+        (λ e. absurd (omega (arith, e)), λ x. absurd (counted-more q (λ h. omega (arith, h, r)) x))
+    by-cases false full false z l b fresh more =
+        let r = ltb-false (countIn f es) largestCount b in
+        let most : countIn f es ≡ largestCount = omega (arith, r, narrow) in
+        (λ e. at-most (is ∙ ap (λ (k : ℕ). called 0 (k ∷ 0 ∷ []) []) most), λ x. refl)
+
+    held-30 : (numberOf (leaves buffer used (add (length buffer) f es)) ≡ 30) ↔ Full f buffer used
+    unfolding add
+    held-30 =
+        by-cases (eqb (countIn f es) 0) (ltb (length buffer) (cost es + (8 + length f))) (ltb (countIn f es) largestCount) refl refl refl (es ++ (entry f 1 ∷ []))
+        (recount f (countIn f es + 1) es)
+
+  -- "30 when a new form would push the cost past the buffer or a count would pass 4,294,967,295": exactly then, of any buffer of bytes
+  pub k10-30 : Small buffer → (numberOf (registerAddCall f buffer used) ≡ 30) ↔ Full f buffer used
+  unfolding addCall countCall
+  k10-30 small = go (textCheck f) refl (form-numbers f) (register buffer used) refl
+    where
+      go : (c : Answer) → textCheck f ≡ c → By (λ (n : ℕ). (n ≢ 0) × (n ≢ 29) × (n ≢ 30)) c → (h : Held) → register buffer used ≡ h
+          → (numberOf (guarded c (lent buffer used) (leaves buffer used (ofHeld (add (length buffer) f) h))) ≡ 30) ↔ Full f buffer used
+      go (Refused why first second) t k h r = (λ e. absurd (k .2 e), λ x. absurd (not-full {number = why} {words = first ∷ second ∷ []} (k .0) (rw t refl) x))
+      go (Done first second) t k (holds es) r =
+          let sits = held-sits buffer used es r small in
+          held-30 es (sits-cost buffer used es sits) (count-narrow f es (sits .sound .narrow)) (rw (t, r) refl)
+      go (Done first second) t k damaged r =
+          (λ e. absurd (omega (arith, e)), λ x. absurd (not-full {number = 28} {words = 0 ∷ 0 ∷ []} (λ z. omega (arith, z)) (rw (t, r) refl) x))
 
 -- ---- demand 1, of these calls: they answer 0, or refuse by one of their numbers and leave what they were lent
 

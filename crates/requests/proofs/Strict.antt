@@ -1,42 +1,36 @@
 -- K8, of the calls: an answer other than 25 and 26 is the lenient call's (`k8-alike`, `k8-alike-form`), and these leave every buffer as it was
--- (`k8-refuses`, `k8-form-refuses`); every character of a value that a strict
--- call gave is Char (`k8-chars`) and the value is the standard's with Char (`k8-standard`); two such values are equal exactly when their forms
--- are (`k8-equal`); a form read again strictly goes as in demand 3 (`k8-again`), and under 2 gets 26 at its first raw RestrictedChar
--- (`k8-again-26`). Assumes nothing.
+-- (`k8-refuses`, `k8-form-refuses`); every character of a value that a strict call gave is Char (`k8-chars`); two such values are equal exactly
+-- when their forms are (`k8-equal`); a form read again strictly goes as in demand 3 (`k8-again-calls`), and under 2 gets 26 at its first raw RestrictedChar
+-- (`k8-again-26-calls`). Assumes nothing.
 use mathlib.Core.Path.{_≡_, refl, sym, ap, subst, _∙_}
-use Prim.Native.Nat.{ℕ, _≤_}
+use Prim.Native.Nat.{ℕ}
 use native.Mathlib.Omega.{arith}
-use mathlib.Core.Bool.{Bool, true, false, _||_, true≢false}
+use mathlib.Core.Bool.{Bool, true, false}
 use mathlib.Core.Option.{some}
 use mathlib.Core.List.{List, [], _∷_}
-use lib.Dec.{eqb, ltb}
 use lib.ListN.{length, take}
 use borrow.Author.Tests.{le-ltb}
-use Rattle.text.specs.Bytes.{pick}
 use Rattle.text.specs.Version.{Rule, xml11}
 use Rattle.text.specs.Call.{Called, called, guarded, laid, finish}
 use Rattle.text.specs.declared.Answer.{Answer}
 use Rattle.text.specs.declared.Answer.the-variants.{Done, Refused}
 use Rattle.output.proofs.Laid.{laid-front}
-use Rattle.entity.specs.Table.{marked}
-use Rattle.entity.specs.Binding.{binding}
-use Rattle.entity.proofs.Tables.{binding-good}
 use Rattle.tokens.specs.Outcome.{Outcome, done, refused, finished}
 use Rattle.tokens.proofs.Related.{Keeps, Stays}
-use Rattle.attribute.specs.Walk.{normalize, readingOf}
+use Rattle.attribute.specs.Walk.{normalize}
 use Rattle.attribute.specs.Strict.{readingBy}
-use Rattle.attribute.specs.Form.{formed}
+use Rattle.attribute.specs.Form.{handed, formed}
 use Rattle.attribute.proofs.Strict.{strictOnly, strict-alike}
+use Rattle.attribute.proofs.InHand.{in-hand-done}
 use Rattle.govlezna.specs.Calls.{walkCheck, normalizeAttributeValueCall, canonicalFormCall, normalizeAttributeValueStrictCall, canonicalFormStrictCall}
 use Rattle.demands.specs.Demands.{Asked, ruleFor, Taken, formOf, AskedAgain}
 use Rattle.demands.specs.Characters.{decode}
-use Rattle.demands.specs.CallDemands.{normalizeOf, canonicalOf, Answered}
-use Rattle.demands.specs.Standard.{SteadyText, SteadyBound, FromStandard}
+use Rattle.demands.specs.CallDemands.{normalizeOf, canonicalOf, Answered, CallAgain}
 use Rattle.demands.specs.StrictDemands.{strictlyNormalized, StrictlyAccepted, AllChar, restrictedFrom, Rereadable}
-use Rattle.demands.proofs.CallDemands.{taken-passes, normalize-answered, demand-3-calls-equal}
-use Rattle.demands.proofs.StrictStandard.{strict-is-standard}
-use Rattle.demands.proofs.StrictDemands.{strict-chars, strict-again, strict-again-refused}
-use Rattle.requests.specs.Strict.{strictNormalizeOf, strictCanonicalOf, AlikeBut, RefusesStrictly, by-the-rule, as-lenient, charStandardOf, StrictlyAnswered, StrictCallsEqualExactly, StrictCallRereads, StrictCallRefuses}
+use Rattle.demands.proofs.CallDemands.{table-valid, taken-passes, normalize-answered, answered-reads, demand-3-calls-equal}
+use Rattle.demands.proofs.Demands.{demand-3-again}
+use Rattle.demands.proofs.StrictDemands.{strictly-accepted, strict-chars, strict-again, strict-again-refused}
+use Rattle.requests.specs.Strict.{strictNormalizeOf, strictCanonicalOf, AlikeBut, RefusesStrictly, by-the-rule, as-lenient, StrictlyAnswered, StrictCallsEqualExactly, StrictCallRereads, StrictCallRefuses}
 
 -- ---- alike but for 25 and 26
 
@@ -157,21 +151,10 @@ pub k8-chars : (a : Asked) (out : List ℕ) {size openings : ℕ} {left : List �
     → AllChar (ruleFor a) (decode (take size left))
 k8-chars a out {size} {openings} {left} e = strict-chars a (take size left) openings (k8-answered a out e .accepted)
 
--- the standard's wording (3.3.3), of every value that a strict call gave: a character reference may name only Char. As in
--- `accepted-standard`, no reference holds a line end, and of a marked list nothing is asked
-pub k8-standard : (a : Asked) → SteadyText (ruleFor a) (a .text)
-    → ((name : List ℕ) → SteadyBound (marked (a .list)) (ruleFor a) (binding (a .list) (a .pool) name))
-    → (out : List ℕ) {size openings : ℕ} {left : List ℕ} → strictNormalizeOf a out ≡ called 0 (size ∷ openings ∷ []) (left ∷ [])
-    → FromStandard (charStandardOf a) (take size left)
-unfolding readingBy readingOf
-k8-standard a still firm out {size} {openings} {left} e =
-    let p = k8-answered a out e .accepted in
-    strict-is-standard (ruleFor a) (marked (a .list)) (binding (a .list) (a .pool)) (a .limit) (binding-good (a .list) (a .pool) (p .taken .table)) firm (a .depth) (a .text)
-    (p .taken .utf8) still (take size left) openings (p .reads)
-
 -- ---- two values
 
-answered : (a : Asked) → StrictlyAnswered a → Answered a
+-- the lenient calls answered the same
+abbrev pub answered : (a : Asked) → StrictlyAnswered a → Answered a
 answered a x = record {
   out = x .out;
   size = x .size;
@@ -189,30 +172,76 @@ answered a x = record {
 
 -- K8: "Two strictly accepted values keep the canonical equivalence"
 pub k8-equal : (a b : Asked) → ruleFor a ≡ ruleFor b → (x : StrictlyAnswered a) (y : StrictlyAnswered b) → StrictCallsEqualExactly a b x y
-unfolding answered
 k8-equal a b e x y = demand-3-calls-equal a b e (answered a x) (answered b y)
+
+-- acceptance asks nothing of the writer: a value whose strict normalization answers 0, with any output, is strictly answered by both calls
+unfoldable pub k8-completes : (a : Asked) (out : List ℕ) {size openings : ℕ} {left : List ℕ} → strictNormalizeOf a out ≡ called 0 (size ∷ openings ∷ []) (left ∷ []) → StrictlyAnswered a
+unfolding canonicalFormStrictCall
+k8-completes a out {size} {openings} {left} e =
+    let value = take size left in
+    let form = formOf a value in
+    let p = k8-answered a out e .accepted in
+    record {
+      out = out;
+      size = size;
+      openings = openings;
+      left = left;
+      normalizes = e;
+      scratch = 0 ∷ 0 ∷ 0 ∷ 0 ∷ [];
+      formOut = form;
+      formSize = length form;
+      formOpenings = openings;
+      held = handed value (0 ∷ 0 ∷ 0 ∷ 0 ∷ []);
+      formLeft = laid form form;
+      writes = rw (taken-passes a (p .taken), p .reads) (in-hand-done (ruleFor a) value openings (0 ∷ 0 ∷ 0 ∷ 0 ∷ []) form (omega arith) (omega arith));
+    }
 
 -- ---- read again
 
-module _ (a : Asked) (value : List ℕ) (openings : ℕ) (p : StrictlyAccepted a value openings) (b : Asked) (q : AskedAgain a value b) where
-  -- K8: "strict re-reading of their forms goes as in demand 3"
-  pub k8-again : Rereadable (ruleFor b) (b .text) → StrictCallRereads value b
-  unfolding normalizeAttributeValueStrictCall canonicalFormStrictCall finished formed finish
-  k8-again h =
-      let again = strict-again a value openings p b q h in
-      let taken = taken-passes b (again .accepted .taken) in
-      let reads = again .accepted .reads in
-      let form = again .itself in
+-- of the bytes that strict calls gave, asked again as demand 3 has it
+module _ (a : Asked) (x : StrictlyAnswered a) (b : Asked) (c : CallAgain a (answered a x) b) where
+  abbrev value : List ℕ
+  value = take (x .size) (x .left)
+
+  accepted : StrictlyAccepted a value (x .openings)
+  accepted = k8-answered a (x .out) (x .normalizes) .accepted
+
+  again : AskedAgain a value b
+  again =
+      let p = answered-reads a (answered a x) in
       record {
-        normalizes = λ out room. rw (taken, reads, le-ltb (length out) (length value) room);
+        form = c .form ∙ p .form;
+        size = rw (c .form, p .form, sym (p .size)) (omega (arith, c .size));
+        version = c .version;
+        known = c .known;
+        shallow = c .shallow;
+        deep = c .deep;
+        most = c .most;
+        table = table-valid (b .list) (b .pool) (c .table);
+        free = c .free;
+      }
+
+  taken : Taken b
+  taken = demand-3-again a value (x .openings) (strictly-accepted a value (x .openings) accepted) b again .accepted .taken
+
+  -- K8: "strict re-reading of their forms goes as in demand 3"
+  pub k8-again-calls : Rereadable (ruleFor b) (b .text) → StrictCallRereads value b
+  unfolding normalizeAttributeValueStrictCall canonicalFormStrictCall finished formed finish
+  k8-again-calls h =
+      let reread = strict-again a value (x .openings) accepted b again h in
+      let passes = taken-passes b taken in
+      let reads = reread .accepted .reads in
+      let form = reread .itself in
+      record {
+        normalizes = λ out room. rw (passes, reads, le-ltb (length out) (length value) room);
         writes = λ scratch out room space.
-            rw (taken, reads, le-ltb (length scratch) 4 room, form, le-ltb (length out) (length (b .text)) space);
+            rw (passes, reads, le-ltb (length scratch) 4 room, form, le-ltb (length out) (length (b .text)) space);
       }
 
   -- K8: "save that under 2 a form holding a raw RestrictedChar gets 26"
-  pub k8-again-26 : ruleFor b ≡ xml11 → (k : ℕ) → restrictedFrom 0 (b .text) ≡ some k → Taken b → StrictCallRefuses b k
+  pub k8-again-26-calls : ruleFor b ≡ xml11 → (k : ℕ) → restrictedFrom 0 (b .text) ≡ some k → StrictCallRefuses b k
   unfolding normalizeAttributeValueStrictCall canonicalFormStrictCall finished formed
-  k8-again-26 e k h t =
-      let x = strict-again-refused a value openings p b q e k h in
-      let taken = taken-passes b t in
-      record { normalizes = λ out. rw (taken, x .refusal); writes = λ scratch out. rw (taken, x .refusal) }
+  k8-again-26-calls e k h =
+      let reread = strict-again-refused a value (x .openings) accepted b again e k h in
+      let passes = taken-passes b taken in
+      record { normalizes = λ out. rw (passes, reread .refusal); writes = λ scratch out. rw (passes, reread .refusal) }

@@ -33,7 +33,7 @@ use Rattle.walk_depths.specs.LeastDepth.{leastDepth}
 use Rattle.walk_depths.proofs.NamesByDepth.{names-down, least-same}
 use Rattle.govlezna.specs.Calls.{unescapeCall, normalizeAttributeValueCall, canonicalFormCall, normalizeAttributeValueStrictCall, canonicalFormStrictCall, normalizeNmtokensCall, leastDepthCall}
 use Rattle.demands.proofs.CallDemands.{table-valid}
-use Rattle.requests.specs.Unused.{Reader, normalizing, forming, listing, unescaping, deepening, callWith, namesWith, BoundAlike, command1, command2, predefinedInBoth, unknownInBoth, BindAlike, OneMarking, Definition, definitionsIn, definitions, firstOf, Unused, Others}
+use Rattle.requests.specs.Unused.{Reader, normalizing, forming, listing, unescaping, callWith, namesWith, Caller, reads, deepens, callBy, namesBy, BoundAlike, command1, command2, predefinedInBoth, unknownInBoth, BindAlike, OneMarking, Definition, definitionsIn, definitions, firstOf, Unused, Others}
 
 -- ---- bound alike is bound to the same
 
@@ -88,44 +88,53 @@ module _ (list pool list′ pool′ : List ℕ) (m : OneMarking list pool list�
       (each-weaker (λ (name : List ℕ). BoundAlike (binding list pool name) (binding list′ pool′ name)) (λ (name : List ℕ). binding list pool name ≡ binding list′ pool′ name)
       (λ name h. alike-equal h) (lookedUpInText (binding list pool) t) e)
 
-  -- K13: "if two accepted tables of one marking bind each name that a reading looks up alike .., then text, openings, refusal and positions are
-  -- equal, under the same version, depth, limit and room": number, words and every byte of every buffer
-  pub k13-unused : (reader : Reader) → BindAlike list pool list′ pool′ (namesWith reader list pool) → callWith reader list pool ≡ callWith reader list′ pool′
-  unfolding normalizeAttributeValueCall canonicalFormCall normalizeAttributeValueStrictCall canonicalFormStrictCall normalizeNmtokensCall unescapeCall leastDepthCall readingBy
-  k13-unused (normalizing false t version depth limit out) e =
+  -- what a reading leaves
+  reader-unused : (reader : Reader) → BindAlike list pool list′ pool′ (namesWith reader list pool) → callWith reader list pool ≡ callWith reader list′ pool′
+  unfolding normalizeAttributeValueCall canonicalFormCall normalizeAttributeValueStrictCall canonicalFormStrictCall normalizeNmtokensCall unescapeCall readingBy
+  reader-unused (normalizing false t version depth limit out) e =
       guarded-same (argumentCheck t (settingsCheck version depth limit)) (out ∷ [])
       (ap (λ (o : Outcome). finished o out) (value-same false t (ruleOf version) depth limit e .outcome))
-  k13-unused (normalizing true t version depth limit out) e =
+  reader-unused (normalizing true t version depth limit out) e =
       guarded-same (argumentCheck t (settingsCheck version depth limit)) (out ∷ [])
       (ap (λ (o : Outcome). finished o out) (value-same true t (ruleOf version) depth limit e .outcome))
-  k13-unused (forming false t version depth limit scratch out) e =
+  reader-unused (forming false t version depth limit scratch out) e =
       guarded-same (argumentCheck t (settingsCheck version depth limit)) (scratch ∷ out ∷ [])
       (ap (λ (o : Outcome). formed (ruleOf version) o scratch out) (value-same false t (ruleOf version) depth limit e .outcome))
-  k13-unused (forming true t version depth limit scratch out) e =
+  reader-unused (forming true t version depth limit scratch out) e =
       guarded-same (argumentCheck t (settingsCheck version depth limit)) (scratch ∷ out ∷ [])
       (ap (λ (o : Outcome). formed (ruleOf version) o scratch out) (value-same true t (ruleOf version) depth limit e .outcome))
-  k13-unused (listing t version depth limit scratch out) e =
+  reader-unused (listing t version depth limit scratch out) e =
       guarded-same (argumentCheck t (settingsCheck version depth limit)) (scratch ∷ out ∷ [])
       (ap (λ (o : Outcome). collapsed o scratch out) (value-same false t (ruleOf version) depth limit e .outcome))
-  k13-unused (unescaping t out) e = guarded-same (textCheck t) (out ∷ []) (ap (λ (o : Outcome). finished o out) (text-same t e .outcome))
-  k13-unused (deepening t version limit) e =
+  reader-unused (unescaping t out) e = guarded-same (textCheck t) (out ∷ []) (ap (λ (o : Outcome). finished o out) (text-same t e .outcome))
+
+  -- and which names it looks up
+  reader-names : (reader : Reader) → BindAlike list pool list′ pool′ (namesWith reader list pool) → namesWith reader list pool ≡ namesWith reader list′ pool′
+  reader-names (normalizing strict t version depth limit out) e = value-same strict t (ruleOf version) depth limit e .asks
+  reader-names (forming strict t version depth limit scratch out) e = value-same strict t (ruleOf version) depth limit e .asks
+  reader-names (listing t version depth limit scratch out) e = value-same false t (ruleOf version) depth limit e .asks
+  reader-names (unescaping t out) e = text-same t e .asks
+
+  -- K13: "if two accepted tables of one marking bind each name that a reading looks up alike .., then text, openings, refusal and positions are
+  -- equal, under the same version, depth, limit and room": number, words and every byte of every buffer; K14's least depth too
+  pub k13-unused : (caller : Caller) → BindAlike list pool list′ pool′ (namesBy caller list pool) → callBy caller list pool ≡ callBy caller list′ pool′
+  unfolding leastDepthCall readingBy
+  k13-unused (reads reader) e = reader-unused reader e
+  k13-unused (deepens t version limit) e =
       guarded-same (argumentCheck t (settingsCheck version 128 limit)) [] (ap (λ (a : Answer). callOf a []) (depth-same t (ruleOf version) limit e))
 
-  -- both readings look up the same names
-  pub k13-names : (reader : Reader) → BindAlike list pool list′ pool′ (namesWith reader list pool) → namesWith reader list pool ≡ namesWith reader list′ pool′
-  k13-names (normalizing strict t version depth limit out) e = value-same strict t (ruleOf version) depth limit e .asks
-  k13-names (forming strict t version depth limit scratch out) e = value-same strict t (ruleOf version) depth limit e .asks
-  k13-names (listing t version depth limit scratch out) e = value-same false t (ruleOf version) depth limit e .asks
-  k13-names (unescaping t out) e = text-same t e .asks
-  k13-names (deepening t version limit) e = value-same false t (ruleOf version) 128 limit e .asks
+  -- both look up the same names
+  pub k13-names : (caller : Caller) → BindAlike list pool list′ pool′ (namesBy caller list pool) → namesBy caller list pool ≡ namesBy caller list′ pool′
+  k13-names (reads reader) e = reader-names reader e
+  k13-names (deepens t version limit) e = value-same false t (ruleOf version) 128 limit e .asks
 
 -- K13 from the other side: the names that the reading with the second table looks up
-pub k13-symmetric : (list pool list′ pool′ : List ℕ) → OneMarking list pool list′ pool′ → (reader : Reader)
-    → BindAlike list pool list′ pool′ (namesWith reader list′ pool′) → callWith reader list pool ≡ callWith reader list′ pool′
-k13-symmetric list pool list′ pool′ m reader e =
-    sym (k13-unused list′ pool′ list pool (other-first m) reader
+pub k13-symmetric : (list pool list′ pool′ : List ℕ) → OneMarking list pool list′ pool′ → (caller : Caller)
+    → BindAlike list pool list′ pool′ (namesBy caller list′ pool′) → callBy caller list pool ≡ callBy caller list′ pool′
+k13-symmetric list pool list′ pool′ m caller e =
+    sym (k13-unused list′ pool′ list pool (other-first m) caller
     (each-weaker (λ (name : List ℕ). BoundAlike (binding list pool name) (binding list′ pool′ name)) (λ (name : List ℕ). BoundAlike (binding list′ pool′ name) (binding list pool name))
-    (λ name h. equal-alike (binding list′ pool′ name) (sym (alike-equal h))) (namesWith reader list′ pool′) e))
+    (λ name h. equal-alike (binding list′ pool′ name) (sym (alike-equal h))) (namesBy caller list′ pool′) e))
 
 -- ---- a table by its definitions
 
@@ -225,15 +234,15 @@ module _ (list pool list′ pool′ : List ℕ) (m : OneMarking list pool list�
 
   -- definitions moved, repeated or dropped so that the first of each name stays: nothing changes, whoever reads
   pub k13-firsts-stay : ((name : List ℕ) → firstOf (definitions list pool) name ≡ firstOf (definitions list′ pool′) name)
-      → (reader : Reader) → callWith reader list pool ≡ callWith reader list′ pool′
-  k13-firsts-stay h reader =
-      k13-unused list pool list′ pool′ m reader
-      (each-all (λ (name : List ℕ). BoundAlike (binding list pool name) (binding list′ pool′ name)) (λ name. first-alike name (h name)) (namesWith reader list pool))
+      → (caller : Caller) → callBy caller list pool ≡ callBy caller list′ pool′
+  k13-firsts-stay h caller =
+      k13-unused list pool list′ pool′ m caller
+      (each-all (λ (name : List ℕ). BoundAlike (binding list pool name) (binding list′ pool′ name)) (λ name. first-alike name (h name)) (namesBy caller list pool))
 
   -- a definition moved past those of other names: nothing changes, whoever reads
   pub k13-moved : (before between after : List Definition) (d : Definition) → definitions list pool ≡ before ++ d ∷ (between ++ after)
       → definitions list′ pool′ ≡ before ++ (between ++ d ∷ after) → Others (d .name) between
-      → (reader : Reader) → callWith reader list pool ≡ callWith reader list′ pool′
+      → (caller : Caller) → callBy caller list pool ≡ callBy caller list′ pool′
   k13-moved before between after d p q h =
       k13-firsts-stay (λ name.
       ap (λ (ds : List Definition). firstOf ds name) p
@@ -242,15 +251,15 @@ module _ (list pool list′ pool′ : List ℕ) (m : OneMarking list pool list�
 
   -- a definition added at the end whose name an earlier one has: nothing changes, whoever reads
   pub k13-shadowed : (d : Definition) {b : Bound} → definitions list′ pool′ ≡ definitions list pool ++ d ∷ [] → firstOf (definitions list pool) (d .name) ≡ some b
-      → (reader : Reader) → callWith reader list pool ≡ callWith reader list′ pool′
+      → (caller : Caller) → callBy caller list pool ≡ callBy caller list′ pool′
   k13-shadowed d q e = k13-firsts-stay (λ name. never-first (definitions list pool) d e name ∙ sym (ap (λ (ds : List Definition). firstOf ds name) q))
 
   -- definitions replaced by any others, none of them looked up: nothing changes
   pub k13-edited : (before ds es after : List Definition) → definitions list pool ≡ before ++ (ds ++ after) → definitions list′ pool′ ≡ before ++ (es ++ after)
-      → (reader : Reader) → Unused ds (namesWith reader list pool) → Unused es (namesWith reader list pool) → callWith reader list pool ≡ callWith reader list′ pool′
-  k13-edited before ds es after p q reader h k =
-      let names = namesWith reader list pool in
-      k13-unused list pool list′ pool′ m reader
+      → (caller : Caller) → Unused ds (namesBy caller list pool) → Unused es (namesBy caller list pool) → callBy caller list pool ≡ callBy caller list′ pool′
+  k13-edited before ds es after p q caller h k =
+      let names = namesBy caller list pool in
+      k13-unused list pool list′ pool′ m caller
       (each-both (λ (name : List ℕ). firstOf (ds ++ after) name ≡ firstOf after name) (λ (name : List ℕ). firstOf (es ++ after) name ≡ firstOf after name)
       (λ (name : List ℕ). BoundAlike (binding list pool name) (binding list′ pool′ name)) (λ name x y.
       first-alike name
@@ -261,12 +270,12 @@ module _ (list pool list′ pool′ : List ℕ) (m : OneMarking list pool list�
 
   -- a definition added at the end that is not looked up: nothing changes
   pub k13-appended : (d : Definition) → definitions list′ pool′ ≡ definitions list pool ++ d ∷ []
-      → (reader : Reader) → Each (λ (name : List ℕ). d .name ≢ name) (namesWith reader list pool) → callWith reader list pool ≡ callWith reader list′ pool′
-  k13-appended d q reader h = k13-edited (definitions list pool) [] (d ∷ []) [] (sym (append-nil (definitions list pool))) q reader tt (h, tt)
+      → (caller : Caller) → Each (λ (name : List ℕ). d .name ≢ name) (namesBy caller list pool) → callBy caller list pool ≡ callBy caller list′ pool′
+  k13-appended d q caller h = k13-edited (definitions list pool) [] (d ∷ []) [] (sym (append-nil (definitions list pool))) q caller tt (h, tt)
 
   -- the text of a definition replaced that is not looked up, or its kind: nothing changes
   pub k13-replaced : (before after : List Definition) (name : List ℕ) (b c : Bound) → definitions list pool ≡ before ++ record { name = name; bound = b } ∷ after
       → definitions list′ pool′ ≡ before ++ record { name = name; bound = c } ∷ after
-      → (reader : Reader) → Each (λ (other : List ℕ). name ≢ other) (namesWith reader list pool) → callWith reader list pool ≡ callWith reader list′ pool′
-  k13-replaced before after name b c p q reader h =
-      k13-edited before (record { name = name; bound = b } ∷ []) (record { name = name; bound = c } ∷ []) after p q reader (h, tt) (h, tt)
+      → (caller : Caller) → Each (λ (other : List ℕ). name ≢ other) (namesBy caller list pool) → callBy caller list pool ≡ callBy caller list′ pool′
+  k13-replaced before after name b c p q caller h =
+      k13-edited before (record { name = name; bound = b } ∷ []) (record { name = name; bound = c } ∷ []) after p q caller (h, tt) (h, tt)

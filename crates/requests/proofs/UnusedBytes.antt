@@ -17,7 +17,7 @@ use Rattle.text.proofs.Bytes.{or-left, or-right}
 use Rattle.entity.specs.Table.{part, Body, inside, outside, Declaration, nameOf, textOf, markSize, declares, declaration, operands, declarationsFrom, declarations, bodyPast, runsPast, illFormed, declarationCheck, endCheck, commandsCheck, sizeCheck, tableCheck, ValidTable}
 use Rattle.entity.specs.Binding.{Bound, text, bodyBound}
 use Rattle.demands.proofs.CallDemands.{table-valid}
-use Rattle.requests.specs.Unused.{Reader, callWith, namesWith, OneMarking, Definition, definitionsIn, definitions, Unused}
+use Rattle.requests.specs.Unused.{Caller, callBy, namesBy, OneMarking, Definition, definitionsIn, definitions, Unused}
 use Rattle.requests.proofs.MarkedTable.{more-left, same-declaration, end-refused, no-answer}
 use Rattle.requests.proofs.Unused.{k13-edited}
 
@@ -101,9 +101,9 @@ module _ (front rest pool more : List ℕ) (m : OneMarking (front ++ 0 ∷ []) p
       ∙ grown pool more front rest 0 (markSize (front ++ 0 ∷ [])) h)
 
   -- commands put in the place of an accepted list's end, their names and texts behind its pool: nothing changes, where none is looked up
-  pub k13-grown : (reader : Reader) → Unused added (namesWith reader (front ++ 0 ∷ []) pool)
-      → callWith reader (front ++ 0 ∷ []) pool ≡ callWith reader (front ++ rest) (pool ++ more)
-  k13-grown reader h =
+  pub k13-grown : (caller : Caller) → Unused added (namesBy caller (front ++ 0 ∷ []) pool)
+      → callBy caller (front ++ 0 ∷ []) pool ≡ callBy caller (front ++ rest) (pool ++ more)
+  k13-grown caller h =
       let ds = definitions (front ++ 0 ∷ []) pool in
       k13-edited (front ++ 0 ∷ []) pool (front ++ rest) (pool ++ more) m ds [] added [] (sym (append-nil ds))
-      (grown-definitions ∙ ap (λ (es : List Definition). ds ++ es) (sym (append-nil added))) reader tt h
+      (grown-definitions ∙ ap (λ (es : List Definition). ds ++ es) (sym (append-nil added))) caller tt h

@@ -18,7 +18,7 @@ use Rattle.attribute.specs.Walk.{normalize, readingOf}
 use Rattle.attribute.specs.Strict.{readingBy}
 use Rattle.attribute.specs.LookedUp.{lookedUp}
 use Rattle.govlezna.specs.Calls.{checkTableCall, normalizeAttributeValueCall}
-use Rattle.requests.specs.Unused.{Reader, normalizing, callWith, namesWith, command1, BindAlike, OneMarking}
+use Rattle.requests.specs.Unused.{normalizing, callWith, Caller, reads, callBy, namesBy, command1, BindAlike, OneMarking}
 use Rattle.requests.proofs.Unused.{k13-unused}
 use Rattle.requests.proofs.UnusedBytes.{k13-grown}
 
@@ -46,18 +46,18 @@ abbrev editedPool : List ℕ
 editedPool = 103 ∷ 102 ∷ 120 ∷ 101 ∷ 38 ∷ 102 ∷ 59 ∷ 108 ∷ 116 ∷ 121 ∷ []
 
 -- `&e;` under XML 1.0, at depth 2, with two openings
-abbrev reader : Reader
-reader = normalizing false (38 ∷ 101 ∷ 59 ∷ []) 0 2 2 (7 ∷ 7 ∷ [])
+abbrev reader : Caller
+reader = reads (normalizing false (38 ∷ 101 ∷ 59 ∷ []) 0 2 2 (7 ∷ 7 ∷ []))
 
 one-marking : OneMarking list pool edited editedPool
 unfolding checkTableCall tableCheck declarations marked
 one-marking = record { count = 3; accepted = refl; count′ = 4; accepted′ = refl; marking = refl }
 
-alike : BindAlike list pool edited editedPool (namesWith reader list pool)
+alike : BindAlike list pool edited editedPool (namesBy reader list pool)
 unfolding lookedUp readingBy binding
 alike = (command1 (38 ∷ 102 ∷ 59 ∷ []), (command1 (120 ∷ []), tt))
 
-edited-same : callWith reader list pool ≡ callWith reader edited editedPool
+edited-same : callBy reader list pool ≡ callBy reader edited editedPool
 edited-same = k13-unused list pool edited editedPool one-marking reader alike
 
 -- e = `&f;`; f = `x`, and h = `z` put behind them
@@ -77,7 +77,7 @@ grown-marking = record { count = 2; accepted = refl; count′ = 3; accepted′ =
 other : (a b : ℕ) → a < b → b ∷ [] ≢ a ∷ []
 other a b h e = let z : b ≡ a = cc in omega (arith, h, z)
 
-grown-same : callWith reader (front ++ 0 ∷ []) frontPool ≡ callWith reader (front ++ added) (frontPool ++ 104 ∷ 122 ∷ [])
+grown-same : callBy reader (front ++ 0 ∷ []) frontPool ≡ callBy reader (front ++ added) (frontPool ++ 104 ∷ 122 ∷ [])
 unfolding lookedUp readingBy
 grown-same = k13-grown front added frontPool (104 ∷ 122 ∷ []) grown-marking reader ((other 101 104 (lit< tt), (other 102 104 (lit< tt), tt)), tt)
 

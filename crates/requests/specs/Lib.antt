@@ -5,5 +5,10 @@ pub mod Unused
 pub mod Nmtokens
 pub mod C14n
 pub mod SmallScratch
+pub mod Standard
+pub mod Register
+pub mod Reached
+pub mod Refused
+pub mod Allowed
 pub mod LeastDepths
 pub mod Declarations

@@ -3,19 +3,13 @@ use mathlib.Core.Path.{_≡_}
 use mathlib.Core.Logic.{_↔_}
 use Prim.Native.Nat.{ℕ, _≤_}
 use mathlib.Core.Bool.{true, false, _||_}
-use mathlib.Core.Option.{Option}
 use mathlib.Core.List.{List, [], _∷_}
 use lib.Dec.{eqb}
 use lib.ListN.{length, take}
 use Rattle.attribute.specs.Form.{handed}
 use Rattle.text.specs.Call.{Called, called, laid}
 use Rattle.govlezna.specs.Calls.{normalizeAttributeValueStrictCall, canonicalFormStrictCall}
-use Rattle.entity.specs.Table.{marked}
-use Rattle.entity.specs.Binding.{binding}
-use Rattle.attribute.specs.Strict.{onlyChar}
-use Rattle.demands.specs.Demands.{Asked, ruleFor}
-use Rattle.demands.specs.Characters.{decode}
-use Rattle.demands.specs.Standard.{lineEndsOf, linesOf, standard, lookupOf}
+use Rattle.demands.specs.Demands.{Asked}
 
 -- K8: the two calls, as they are asked, with the buffers that they are lent
 abbrev pub strictNormalizeOf : Asked → List ℕ → Called
@@ -33,11 +27,6 @@ AlikeBut (called number words buffers) lenient = eqb number 25 || eqb number 26 
 pub data RefusesStrictly (entry : List (List ℕ)) (lenient : Called) : Called → Type 0 where
   by-the-rule : (number : ℕ) (words : List ℕ) → eqb number 25 || eqb number 26 ≡ true → RefusesStrictly entry lenient (called number words entry)
   as-lenient : RefusesStrictly entry lenient lenient
-
--- XML 1.0 and 1.1, 3.3.3 after 2.11, where a character reference may name only Char (2.2, 4.1): what a call is asked to read
-abbrev pub charStandardOf : Asked → Option (List ℕ)
-charStandardOf a =
-    standard (onlyChar (ruleFor a)) (lookupOf (binding (a .list) (a .pool))) (linesOf (marked (a .list)) (ruleFor a)) (a .depth) (lineEndsOf (ruleFor a) (decode (a .text)))
 
 -- K8: strictly accepted: with these buffers the strict normalization answers 0, and so does the strict canonical form with these
 pub record StrictlyAnswered (a : Asked) : Type 0 where

@@ -24,7 +24,6 @@ pub data Reader : Type 0 where
   forming : (strict : Bool) (t : List ℕ) (version depth limit : ℕ) (scratch out : List ℕ) → Reader
   listing : (t : List ℕ) (version depth limit : ℕ) (scratch out : List ℕ) → Reader
   unescaping : (t out : List ℕ) → Reader
-  deepening : (t : List ℕ) (version limit : ℕ) → Reader
 
 -- what it leaves with a table: number, words and every buffer
 abbrev pub callWith : Reader → List ℕ → List ℕ → Called
@@ -34,15 +33,27 @@ callWith (forming false t version depth limit scratch out) list pool = canonical
 callWith (forming true t version depth limit scratch out) list pool = canonicalFormStrictCall t version depth limit list pool scratch out
 callWith (listing t version depth limit scratch out) list pool = normalizeNmtokensCall t version depth limit list pool scratch out
 callWith (unescaping t out) list pool = unescapeCall t list pool out
-callWith (deepening t version limit) list pool = leastDepthCall t version limit list pool
 
--- K13, "each name that a reading looks up", in a table; the least depth (K14) as at depth 128
+-- K13, "each name that a reading looks up", in a table
 abbrev pub namesWith : Reader → List ℕ → List ℕ → List (List ℕ)
 namesWith (normalizing strict t version depth limit out) list pool = lookedUp (readingBy strict (ruleOf version) list pool limit) depth t
 namesWith (forming strict t version depth limit scratch out) list pool = lookedUp (readingBy strict (ruleOf version) list pool limit) depth t
 namesWith (listing t version depth limit scratch out) list pool = lookedUp (readingBy false (ruleOf version) list pool limit) depth t
 namesWith (unescaping t out) list pool = lookedUpInText (binding list pool) t
-namesWith (deepening t version limit) list pool = lookedUp (readingBy false (ruleOf version) list pool limit) 128 t
+
+-- K13, K14: a reading, or the search for the depth that it needs
+pub data Caller : Type 0 where
+  reads : Reader → Caller
+  deepens : (t : List ℕ) (version limit : ℕ) → Caller
+
+abbrev pub callBy : Caller → List ℕ → List ℕ → Called
+callBy (reads reader) list pool = callWith reader list pool
+callBy (deepens t version limit) list pool = leastDepthCall t version limit list pool
+
+-- K13, K14: the names of the least depth are those of depth 128
+abbrev pub namesBy : Caller → List ℕ → List ℕ → List (List ℕ)
+namesBy (reads reader) list pool = namesWith reader list pool
+namesBy (deepens t version limit) list pool = lookedUp (readingBy false (ruleOf version) list pool limit) 128 t
 
 -- ---- two tables
 
