@@ -8,7 +8,7 @@ mod rows;
 
 use crate::call::Call;
 use crate::call::Parameter::{Choice, Limit, Table, Text};
-use crate::calls::normalize_attribute_value;
+use crate::calls::normalize_attribute_value::run as count;
 use crate::faults::{external, marked, table::LOOKUP, walk::REFERENCES};
 use crate::inputs::attribute::{self, Attribute};
 use crate::inputs::{entities, woven};
@@ -89,8 +89,3 @@ pub const CALL: Call = Call {
         )
     },
 };
-
-/// Normalization: without an output it counts.
-unsafe fn count(lent: &Lent) -> u32 {
-    (normalize_attribute_value::CALL.run)(lent)
-}

@@ -40,7 +40,7 @@ macro_rules! declare {
             ) -> u32;
         }
 
-        unsafe fn $run(lent: &Lent) -> u32 {
+        pub unsafe fn $run(lent: &Lent) -> u32 {
             $call(
                 lent.text,
                 lent.text_length,
