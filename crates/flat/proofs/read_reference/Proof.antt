@@ -51,7 +51,7 @@ returns-2 : tie.Need-returns-2
 returns-2 c =
     let end = c .before in
     let start = entry end in
-    means-none (start .args .text .now) (start .args .at) (start .pre .2) (end .name-end .ensures) (c .if2 .taken)
+    means-none (start .args .rule) (start .args .text .now) (start .args .at) (start .pre .2) (end .name-end .ensures) (c .if2 .taken)
 
 shared-slice-read-if3 : tie.Need-shared-slice-read-if3
 shared-slice-read-if3 c = search needs
@@ -79,7 +79,7 @@ returns-3 c =
     let known = c .before .before .before in
     let end = ended known in
     let start = entry end in
-    means-number (start .args .text .now) (start .args .at) (start .pre .2) (end .name-end .ensures) (closed known) (c .before .before .if3 .taken)
+    means-number (start .args .rule) (start .args .text .now) (start .args .at) (start .pre .2) (end .name-end .ensures) (closed known) (c .before .before .if3 .taken)
     (c .number-meaning .result) (c .number-meaning .ensures)
 
 sub-is-three : tie.Need-sub-is-three
@@ -102,7 +102,7 @@ returns-4 c =
     let known = c .before .before .before .before in
     let end = ended known in
     let start = entry end in
-    means-amp (start .args .text .now) (start .args .at) (start .pre .2) (end .name-end .ensures) (closed known) (c .before .before .before .if3 .left)
+    means-amp (start .args .rule) (start .args .text .now) (start .args .at) (start .pre .2) (end .name-end .ensures) (closed known) (c .before .before .before .if3 .left)
     (sym (c .before .is-three .ensures) ∙ c .if4 .taken)
 
 returns-5 : tie.Need-returns-5
@@ -110,7 +110,7 @@ returns-5 c =
     let known = c .before .before .before .before in
     let end = ended known in
     let start = entry end in
-    means-name (start .args .text .now) (start .args .at) (start .pre .2) (end .name-end .ensures) (closed known) (c .before .before .before .if3 .left)
+    means-name (start .args .rule) (start .args .text .now) (start .args .at) (start .pre .2) (end .name-end .ensures) (closed known) (c .before .before .before .if3 .left)
     (sym (c .before .is-three .ensures) ∙ c .if4 .left)
 
 pub read-reference-spec : {M : Type 1} → statement M
