@@ -334,7 +334,9 @@ uint32_t govlezna_least_depth(const uint8_t *text, size_t text_length, uint8_t v
  * Refusals, in this order: those of govlezna_normalize_attribute_value without its last; NO_SCRATCH (scratch shorter
  * than 4 bytes, for an empty value too; answer[0]: 4); NO_ROOM (answer[0]: the length needed). None writes to `out` or to
  * `scratch`.
- * Time: as govlezna_normalize_attribute_value; what is written is escaped on the way.
+ * Time: as govlezna_normalize_attribute_value; what is written is escaped on the way. Two walks also where `out` is just as
+ * long as the form, and a third only where entities make the value longer than `text` and `out` has six times the length
+ * of `text`, but not of the value.
  * Example: with the settings above `&e;` TAB `&#9;` gives `sail &#9;`, openings 1, and the scratch begins with 9, 0, 0, 0.
  */
 GOVLEZNA_MUST_USE

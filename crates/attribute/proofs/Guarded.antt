@@ -1,5 +1,5 @@
--- Document 02, K8: guarded heads beside the heads themselves. Where no head is barred both are read alike; where the heads themselves give
--- a value, the guarded ones are refused by 26 at the first head that is barred (`guard-run`). Assumes nothing.
+-- Document 02, K8: barring heads beside the heads themselves. Where no head is barred both are read alike; where the heads themselves give
+-- a value, the barring ones are refused by 26 at the first head that is barred (`guard-run`). Assumes nothing.
 use mathlib.Core.Path.{_≡_, refl, ap}
 use Prim.Native.Nat.{ℕ, zero, suc}
 use mathlib.Core.Bool.{Bool, true, false}
@@ -9,7 +9,7 @@ use Rattle.text.specs.Bytes.{pick}
 use Rattle.legal.specs.Legal.{faultAt}
 use Rattle.tokens.specs.Tokens.{Stop, copy, stop, barred, Head, head, tokenOf, skipOf, Heads, tokens}
 use Rattle.tokens.specs.Outcome.{Outcome, done, refused, prepend, followed, run}
-use Rattle.attribute.specs.Strict.{guarded}
+use Rattle.attribute.specs.Strict.{barring}
 
 -- the offset of the first head at which a fault begins
 unfoldable pub firstBarred : (ℕ → Bool) → Heads → ℕ → ℕ → List ℕ → Option ℕ
@@ -25,7 +25,7 @@ abbrev pub Barred : ℕ → Outcome → Type 0
 Barred k (done value m) = ⊥
 Barred k (refused before m why first second) = (why ≡ 26) × (first ≡ k) × (second ≡ 0)
 
--- what is read by guarded heads, beside what is read by the heads themselves
+-- what is read by barring heads, beside what is read by the heads themselves
 abbrev pub Guards : Option ℕ → Outcome → Outcome → Type 0
 Guards none o p = p ≡ o
 Guards (some k) (done value m) p = Barred k p
@@ -57,17 +57,17 @@ module _ (may : ℕ → Bool) (at : Heads) (f : Stop → ℕ → Outcome) where
   plainRun offset skip t n = run f (tokens at offset skip t) n
 
   abbrev guardedRun : ℕ → ℕ → List ℕ → ℕ → Outcome
-  guardedRun offset skip t n = run f (tokens (guarded may at) offset skip t) n
+  guardedRun offset skip t n = run f (tokens (barring may at) offset skip t) n
 
   pub guard-run : (t : List ℕ) (offset skip n : ℕ) → Guards (firstBarred may at offset skip t) (plainRun offset skip t n) (guardedRun offset skip t n)
-  unfolding firstBarred guarded tokens run
+  unfolding firstBarred barring tokens run
   guard-run [] offset skip n = refl
   guard-run (b ∷ bs) offset (suc skip) n = guard-run bs (suc offset) skip n
   guard-run (b ∷ bs) offset zero n = go (at offset b bs) (faultAt may (b ∷ bs)) (λ k m. guard-run bs (suc offset) k m)
     where
       go : (z : Head) (x : Bool) → ((k m : ℕ) → Guards (firstBarred may at (suc offset) k bs) (plainRun (suc offset) k bs m) (guardedRun (suc offset) k bs m))
           → Guards (pick x (some offset) (firstBarred may at (suc offset) (skipOf z) bs)) (run f (tokenOf z ∷ tokens at (suc offset) (skipOf z) bs) n)
-          (run f (tokenOf (pick x (head (barred offset) 0) z) ∷ tokens (guarded may at) (suc offset) (skipOf (pick x (head (barred offset) 0) z)) bs) n)
+          (run f (tokenOf (pick x (head (barred offset) 0) z) ∷ tokens (barring may at) (suc offset) (skipOf (pick x (head (barred offset) 0) z)) bs) n)
       go z true ih = barred-here (run f (tokenOf z ∷ tokens at (suc offset) (skipOf z) bs) n) n offset
       go (head (copy c) k) false ih = guards-prepend (firstBarred may at (suc offset) k bs) (c ∷ []) (plainRun (suc offset) k bs n) (guardedRun (suc offset) k bs n) (ih k n)
       go (head (stop s) k) false ih = guards-then (firstBarred may at (suc offset) k bs) (f s n) (λ m. plainRun (suc offset) k bs m) (λ m. guardedRun (suc offset) k bs m) (λ m. ih k m)

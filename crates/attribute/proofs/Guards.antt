@@ -27,7 +27,7 @@ use Rattle.tokens.specs.Walking.{headAt}
 use Rattle.tokens.proofs.Carried.{Moves, Moving}
 use Rattle.tokens.proofs.Lengths.{lengths}
 use Rattle.attribute.specs.Walk.{Settings, walk}
-use Rattle.attribute.specs.Strict.{guarded}
+use Rattle.attribute.specs.Strict.{barring}
 use Rattle.attribute.specs.Steps.{headsBy, faultBy, guardBy, readBy, Refers, stopAnswer, Blank}
 use Rattle.attribute.proofs.Stops.{heads-refer}
 use Rattle.attribute.proofs.Single.{walk-run, one-of-four, walk-predefined}
@@ -36,12 +36,12 @@ use Rattle.attribute.proofs.Single.{walk-run, one-of-four, walk-predefi
 
 module _ (at : Heads) (offset b : ℕ) (bs : List ℕ) where
   pub unguarded : (guard : ℕ) → faultBy guard (b ∷ bs) ≡ false → guardBy guard at offset b bs ≡ at offset b bs
-  unfolding guarded faultsBy
+  unfolding barring faultsBy
   unguarded zero e = refl
   unguarded (suc rule) e = rw e
 
   pub bars : (guard : ℕ) → faultBy guard (b ∷ bs) ≡ true → guardBy guard at offset b bs ≡ head (barred offset) 0
-  unfolding guarded faultsBy
+  unfolding barring faultsBy
   bars zero e = absurd (true≢false (sym e))
   bars (suc rule) e = rw e
 
@@ -144,7 +144,7 @@ read-predefined s how guard list pool name depth c n no-amp e =
 -- ---- lengths
 
 pub guard-lengths : (legal : ℕ → CharNumber) (at : Heads) → Moving (lengths legal) at → (guard : ℕ) → Moving (lengths legal) (guardBy guard at)
-unfolding guarded
+unfolding barring
 guard-lengths legal at g zero = g
 guard-lengths legal at g (suc rule) = λ x offset b bs h.
     pick-both (λ (z : Head). Moves (lengths legal) x bs z) (faultAt (mayBy rule) (b ∷ bs)) {a = head (barred offset) 0} {b = at offset b bs}

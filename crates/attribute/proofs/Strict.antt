@@ -18,14 +18,14 @@ use Rattle.tokens.specs.Tokens.{Stop, kept, space, number, named, unterminated,
 use Rattle.tokens.specs.Outcome.{Outcome, done, refused, run, numbered, numberOutcome}
 use Rattle.tokens.proofs.Related.{Related, Keeps, keeps-related}
 use Rattle.attribute.specs.Walk.{Settings, opened, answer, exhausted, walk, normalize, reading, readingOf}
-use Rattle.attribute.specs.Strict.{guarded, onlyChar, strictly, readingBy}
+use Rattle.attribute.specs.Strict.{barring, onlyChar, strictly, readingBy}
 use Rattle.attribute.proofs.Deeper.{pick-related}
 
 -- settings with another rule for character numbers
 abbrev pub withLegal : (ℕ → CharNumber) → Settings → Settings
 withLegal legal s = record { outer = s .outer; inner = s .inner; bind = s .bind; limit = s .limit; legal = legal }
 
--- ---- guarded heads beside the heads themselves: every outcome is the same, but for refusals by some numbers, 26 one of them
+-- ---- barring heads beside the heads themselves: every outcome is the same, but for refusals by some numbers, 26 one of them
 
 module _ (excused : ℕ → Bool) (bars : excused 26 ≡ true) where
   abbrev Beside : Outcome → Outcome → Type 0
@@ -39,19 +39,19 @@ module _ (excused : ℕ → Bool) (bars : excused 26 ≡ true) where
 
   module _ (may : ℕ → Bool) (at : Heads) (f g : Stop → ℕ → Outcome) (h : (s : Stop) (n : ℕ) → Beside (f s n) (g s n)) where
     abbrev strictRun : ℕ → ℕ → List ℕ → ℕ → Outcome
-    strictRun offset skip t n = run f (tokens (guarded may at) offset skip t) n
+    strictRun offset skip t n = run f (tokens (barring may at) offset skip t) n
 
     abbrev lenientRun : ℕ → ℕ → List ℕ → ℕ → Outcome
     lenientRun offset skip t n = run g (tokens at offset skip t) n
 
     guarded-beside : (t : List ℕ) (offset skip n : ℕ) → Beside (strictRun offset skip t n) (lenientRun offset skip t n)
-    unfolding guarded tokens run
+    unfolding barring tokens run
     guarded-beside [] offset skip n = refl
     guarded-beside (b ∷ bs) offset (suc skip) n = guarded-beside bs (suc offset) skip n
     guarded-beside (b ∷ bs) offset zero n = go (at offset b bs) (faultAt may (b ∷ bs)) (λ k m. guarded-beside bs (suc offset) k m)
       where
         go : (z : Head) (x : Bool) → ((k m : ℕ) → Beside (strictRun (suc offset) k bs m) (lenientRun (suc offset) k bs m))
-            → Beside (run f (tokenOf (pick x (head (barred offset) 0) z) ∷ tokens (guarded may at) (suc offset) (skipOf (pick x (head (barred offset) 0) z)) bs) n)
+            → Beside (run f (tokenOf (pick x (head (barred offset) 0) z) ∷ tokens (barring may at) (suc offset) (skipOf (pick x (head (barred offset) 0) z)) bs) n)
             (run g (tokenOf z ∷ tokens at (suc offset) (skipOf z) bs) n)
         go z true ih = barred-beside n offset (run g (tokenOf z ∷ tokens at (suc offset) (skipOf z) bs) n)
         go (head (copy c) k) false ih =
@@ -84,11 +84,11 @@ module _ (excused : ℕ → Bool) (bars : excused 26 ≡ true) where
 
     -- at any level, with any depth, after any openings
     pub walk-beside : (may : ℕ → Bool) (at : Heads) (depth : ℕ) (t : List ℕ) (n : ℕ)
-        → Keeps excused (walk (strictly r s) (guarded may at) depth t n) (walk (withLegal legal s) at depth t n)
+        → Keeps excused (walk (strictly r s) (barring may at) depth t n) (walk (withLegal legal s) at depth t n)
     unfolding walk strictly
     walk-beside may at zero t n = guarded-beside may at exhausted exhausted (λ x m. beside .same (exhausted x m)) t 0 0 n
     walk-beside may at (suc depth) t n =
-        let f : List ℕ → ℕ → Outcome = λ u m. walk (strictly r s) (guarded (mayStand inTable r) (s .inner)) depth u m in
+        let f : List ℕ → ℕ → Outcome = λ u m. walk (strictly r s) (barring (mayStand inTable r) (s .inner)) depth u m in
         let g : List ℕ → ℕ → Outcome = λ u m. walk (withLegal legal s) (s .inner) depth u m in
         guarded-beside may at (answer (strictly r s) f) (answer (withLegal legal s) g) (answer-beside f g (λ u m. walk-beside (mayStand inTable r) (s .inner) depth u m)) t 0 0 n
 
@@ -136,7 +136,7 @@ number-alike r digits n =
 -- K8: what is strictly read, other than refusals by 25 and 26, is what the lenient reading gives: in any text, with any depth, after any
 -- openings.
 pub walk-alike : (r : Rule) (s : Settings) (may : ℕ → Bool) (at : Heads) (depth : ℕ) (t : List ℕ) (n : ℕ)
-    → Keeps strictOnly (walk (strictly r s) (guarded may at) depth t n) (walk (withLegal anyCharacter s) at depth t n)
+    → Keeps strictOnly (walk (strictly r s) (barring may at) depth t n) (walk (withLegal anyCharacter s) at depth t n)
 walk-alike r s may at depth t n = walk-beside strictOnly refl r s anyCharacter (number-alike r) may at depth t n
 
 pub normalize-alike : (r : Rule) (s : Settings) (depth : ℕ) (t : List ℕ)

@@ -24,7 +24,7 @@ use Rattle.tokens.specs.Tokens.{head, copy, skipOf, Heads}
 use Rattle.tokens.specs.Outcome.{Outcome, done}
 use Rattle.attribute.specs.Heads.{attributeHead}
 use Rattle.attribute.specs.Walk.{Settings, answer, walk, normalize, reading}
-use Rattle.attribute.specs.Strict.{guarded, onlyChar, strictly}
+use Rattle.attribute.specs.Strict.{barring, onlyChar, strictly}
 use Rattle.attribute.proofs.Reread.{LeavesPredefined, Readable, other-head, c2-head, e2-head, reread, readable}
 use Rattle.attribute.proofs.Guarded.{firstBarred, Barred, Guards, guard-run, guards-none, guards-some}
 
@@ -120,8 +120,8 @@ pieces-meet r value form (more {bytes = bytes} {front = front} {rest = rest} {fo
 
 -- ---- the strict reading of a form
 
-copied : (r : Rule) (at : Heads) (b : ℕ) → within 0x20 0x7E b ≡ true → at 0 b [] ≡ head (copy b) 0 → guarded (mayStand inTable r) at 0 b [] ≡ head (copy b) 0
-unfolding guarded
+copied : (r : Rule) (at : Heads) (b : ℕ) → within 0x20 0x7E b ≡ true → at 0 b [] ≡ head (copy b) 0 → barring (mayStand inTable r) at 0 b [] ≡ head (copy b) 0
+unfolding barring
 copied r at b e h = rw (printable-passes inTable r b [] e) h
 
 passed : (r : Rule) (n : ℕ) → isChar r n ≡ true → onlyChar r n ≡ Char n

@@ -29,7 +29,7 @@ use Rattle.tokens.proofs.Carried.{Carried, Onward, Moves, Moving}
 use Rattle.tokens.proofs.WellFormedness.{utf8, number-well-formed}
 use Rattle.attribute.specs.Heads.{spaceOr, otherHead, attributeHead, pastHead}
 use Rattle.attribute.specs.Walk.{Settings, walk, normalize, innerHead, reading}
-use Rattle.attribute.specs.Strict.{guarded, onlyChar, strictly}
+use Rattle.attribute.specs.Strict.{barring, onlyChar, strictly}
 use Rattle.attribute.proofs.Walked.{Opening, walk-carried}
 use Rattle.attribute.proofs.Heads.{attribute-utf8, inner-utf8}
 
@@ -193,7 +193,7 @@ module _ (may : ℕ → Bool) (legal : ℕ → CharNumber) (gives : Gives may le
         numbers = λ x y digits c l e n. l (encode c) (number-well-formed legal own digits c e) (number-legal digits c e);
       }
 
-  -- ---- guarded heads
+  -- ---- barring heads
 
   module _ (blank : may 32 ≡ true) where
     moves-byte : (s : State) (n b : ℕ) (bs : List ℕ) → StandsAt may (spot s n) (b ∷ bs) → faultAt may (b ∷ bs) ≡ false → Onward characters (spot s n) (copy b) bs
@@ -237,9 +237,9 @@ module _ (may : ℕ → Bool) (legal : ℕ → CharNumber) (gives : Gives may le
     lost-moves bs (head t k) = record { to = lost; leads = lost-leads may t; stands = tt }
 
     guarded-moves : (q : ℕ → Bool) → ((n : ℕ) → q n ≡ true → may n ≡ true) → (at : Heads) → Moving (utf8 legal own) at
-        → ((offset b : ℕ) (bs : List ℕ) → Copies b (at offset b bs)) → Moving characters (guarded q at)
-    unfolding guarded faultAt
-    guarded-moves q imp at u c lost offset b bs h = lost-moves bs (guarded q at offset b bs)
+        → ((offset b : ℕ) (bs : List ℕ) → Copies b (at offset b bs)) → Moving characters (barring q at)
+    unfolding barring faultAt
+    guarded-moves q imp at u c lost offset b bs h = lost-moves bs (barring q at offset b bs)
     guarded-moves q imp at u c (spot s n) offset b bs h =
         pick-by (Moves characters (spot s n) bs) (faultAt q (b ∷ bs)) {a = head (barred offset) 0} (λ e. record { to = lost; leads = tt; stands = tt })
         (λ e. head-moves s n b bs (at offset b bs) h (refuses-weaker q may imp (charFrom between 0 (b ∷ bs)) e) (c offset b bs) (u s offset b bs (h .0)))
@@ -318,7 +318,7 @@ strict-legal r past bind limit depth t value openings good w e =
     walk-characters (isChar r) st gives (two r .1) good
     (guarded-moves (isChar r) (onlyChar r) gives (two r .0) (mayStand inTable r) (stands-in-table r) (innerHead past r)
     (inner-utf8 (onlyChar r) (λ m n q. gives m n q .0) past r) (inner-copies past r))
-    (guarded (mayStand inValue r) (attributeHead r))
+    (barring (mayStand inValue r) (attributeHead r))
     (guarded-moves (isChar r) (onlyChar r) gives (two r .0) (mayStand inValue r) (stands-in-value r) (attributeHead r)
     (attribute-utf8 (onlyChar r) (λ m n q. gives m n q .0) r) (attribute-copies r))
     depth t 0 value openings w e

@@ -14,8 +14,8 @@ use Rattle.tokens.specs.Outcome.{Outcome, done, refused}
 abbrev pub besides : List ℕ → Called → Called
 besides scratch (called number words buffers) = called number words (scratch ∷ buffers)
 
--- document 01: 18 where the scratch is shorter than the value; else it holds the value, its rest kept, and the form goes to the output, after
--- 19 too. No call is asked for this; K7's form, openings and refusals are the same (proofs/InHand.antt)
+-- document 01 before K7: 18 where the scratch is shorter than the value; else it holds the value, its rest kept, with 19 too, and the form goes to
+-- the output. No call gives this now: it says what K7's form, openings and refusals are the same as (requests/proofs/SmallScratch.antt)
 unfoldable pub formedWhole : Rule → Outcome → List ℕ → List ℕ → Called
 unfolding finish canonical
 formedWhole r (done value openings) scratch out =

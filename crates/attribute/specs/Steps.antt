@@ -6,9 +6,7 @@ use mathlib.Core.Bool.{Bool, false}
 use lib.Dec.{eqb}
 use lib.ListN.{length}
 use Rattle.text.specs.Bytes.{pick, sameBytes}
-use Rattle.text.specs.Version.{xml10, xml11}
-use Rattle.charref.specs.CharRef.{anyCharacter}
-use Rattle.charref.specs.declared.CharNumber.{CharNumber}
+pub use Rattle.charref.specs.Reading.{legalBy}
 use Rattle.legal.specs.FirstFault.{mayBy, faultsBy}
 use Rattle.eols.specs.Stops.{ruleFor}
 use Rattle.eols.specs.declared.Step.{Step}
@@ -21,7 +19,7 @@ use Rattle.tokens.specs.Tokens.{Stop, Heads, tokenOf, nameAt, referenceAt}
 use Rattle.tokens.specs.Outcome.{Outcome, done}
 use Rattle.tokens.specs.Walking.{headAt, nextAt, outcomeOf}
 use Rattle.attribute.specs.Heads.{attributeHead, pastHead}
-use Rattle.attribute.specs.Strict.{guarded, onlyChar}
+use Rattle.attribute.specs.Strict.{barring}
 use Rattle.attribute.specs.Walk.{Settings, answer, exhausted, walk}
 
 -- Attribute walk: a stop at a depth
@@ -41,16 +39,10 @@ faultBy (suc rule) bytes = faultsBy rule bytes
 
 abbrev pub guardBy : ℕ → Heads → Heads
 guardBy zero at = at
-guardBy (suc rule) at = guarded (mayBy rule) at
+guardBy (suc rule) at = barring (mayBy rule) at
 
 abbrev pub readBy : ℕ → ℕ → Heads
 readBy how guard = guardBy guard (headsBy how)
-
--- and which characters a number may name: all, those of XML 1.0, those of XML 1.1
-abbrev pub legalBy : ℕ → ℕ → CharNumber
-legalBy zero = anyCharacter
-legalBy (suc zero) = onlyChar xml10
-legalBy (suc (suc rule)) = onlyChar xml11
 
 -- heads under which `&` starts a reference
 abbrev pub Refers : Heads → Type 0

@@ -4,27 +4,21 @@ use mathlib.Core.Bool.{Bool, true, false}
 use mathlib.Core.List.{List, _∷_}
 use Rattle.text.specs.Bytes.{pick}
 use Rattle.text.specs.Version.{Rule}
-use Rattle.charref.specs.declared.CharNumber.{CharNumber}
-use Rattle.charref.specs.declared.CharNumber.the-variants.{Char, Forbidden}
-use Rattle.legal.specs.Legal.{isChar, inValue, inTable, mayStand, faultAt}
+unfoldable pub use Rattle.charref.specs.CharRef.{onlyChar}
+use Rattle.legal.specs.Legal.{inValue, inTable, mayStand, faultAt}
 use Rattle.tokens.specs.Tokens.{barred, head, Heads}
 use Rattle.attribute.specs.Walk.{Settings, readingOf}
 
 -- K8: 26 where a character begins that may not stand there, whatever these heads make of it
-unfoldable pub guarded : (ℕ → Bool) → Heads → Heads
+unfoldable pub barring : (ℕ → Bool) → Heads → Heads
 unfolding faultAt
-guarded may at offset b bs = let other = at offset b bs in pick (faultAt may (b ∷ bs)) (head (barred offset) 0) other
-
--- K8: 25 where a number that 12 to 15 let pass is of a character outside Char
-unfoldable pub onlyChar : Rule → ℕ → CharNumber
-unfolding isChar
-onlyChar r n = pick (isChar r n) (Char n) Forbidden
+barring may at offset b bs = let other = at offset b bs in pick (faultAt may (b ∷ bs)) (head (barred offset) 0) other
 
 -- K8: a reading made strict, alike but for 25 and 26; in texts of the table only Char is asked
 unfoldable pub strictly : Rule → Settings → Settings
-unfolding guarded mayStand onlyChar
+unfolding barring mayStand onlyChar
 strictly r s =
-    record { outer = guarded (mayStand inValue r) (s .outer); inner = guarded (mayStand inTable r) (s .inner); bind = s .bind; limit = s .limit; legal = onlyChar r }
+    record { outer = barring (mayStand inValue r) (s .outer); inner = barring (mayStand inTable r) (s .inner); bind = s .bind; limit = s .limit; legal = onlyChar r }
 
 -- the reading of a call, lenient or strict
 unfoldable pub readingBy : Bool → Rule → List ℕ → List ℕ → ℕ → Settings

@@ -4,7 +4,8 @@ use Prim.Native.Nat.{ℕ}
 use mathlib.Core.List.{List, [], _∷_}
 use Rattle.text.specs.declared.Answer.{Answer}
 use Rattle.text.specs.declared.Answer.the-variants.{Done, Refused}
-use Rattle.charref.specs.CharRef.{charNumber, anyCharacter, numberAnswer, encode}
+use Rattle.charref.specs.CharRef.{charNumber, anyCharacter, onlyChar, numberAnswer, encode}
+use Rattle.charref.specs.Reading.{legalBy}
 
 answers : List ℕ → Answer
 answers text = numberAnswer (charNumber anyCharacter text)
@@ -41,3 +42,18 @@ table :
     × (encode 0x10FFFF ≡ 0xF4 ∷ 0x8F ∷ 0xBF ∷ 0xBF ∷ [])  -- U+10FFFF
 unfolding answers numberAnswer charNumber encode
 table = (refl, refl, refl, refl, refl, refl, refl, refl, refl, refl, refl, refl, refl, refl, refl, refl, refl, refl, refl, refl, refl, refl, refl, refl, refl, refl, refl, refl, refl)
+
+-- the answers of the three rules: lenient, Char of XML 1.0, Char of XML 1.1
+by-rules : List ℕ → List Answer
+by-rules text = numberAnswer (charNumber (legalBy 0) text) ∷ numberAnswer (charNumber (legalBy 1) text) ∷ numberAnswer (charNumber (legalBy 2) text) ∷ []
+
+rules :
+    (by-rules (49 ∷ []) ≡ Done 1 0 ∷ Refused 25 0 0 ∷ Done 1 0 ∷ [])  -- 1
+    × (by-rules (57 ∷ []) ≡ Done 9 0 ∷ Done 9 0 ∷ Done 9 0 ∷ [])  -- 9
+    × (by-rules (120 ∷ 49 ∷ 70 ∷ []) ≡ Done 31 0 ∷ Refused 25 0 0 ∷ Done 31 0 ∷ [])  -- x1F
+    × (by-rules (120 ∷ 70 ∷ 70 ∷ 70 ∷ 68 ∷ []) ≡ Done 65533 0 ∷ Done 65533 0 ∷ Done 65533 0 ∷ [])  -- xFFFD
+    × (by-rules (120 ∷ 70 ∷ 70 ∷ 70 ∷ 69 ∷ []) ≡ Done 65534 0 ∷ Refused 25 0 0 ∷ Refused 25 0 0 ∷ [])  -- xFFFE
+    × (by-rules (48 ∷ []) ≡ Refused 15 0 0 ∷ Refused 15 0 0 ∷ Refused 15 0 0 ∷ [])  -- 0
+    × (by-rules (120 ∷ 68 ∷ 56 ∷ 48 ∷ 48 ∷ []) ≡ Refused 14 55296 0 ∷ Refused 14 55296 0 ∷ Refused 14 55296 0 ∷ [])  -- xD800
+unfolding by-rules numberAnswer charNumber onlyChar
+rules = (refl, refl, refl, refl, refl, refl, refl)

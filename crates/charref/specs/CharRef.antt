@@ -1,12 +1,14 @@
--- Character numbers (document 01, Character numbers and Refusals by place) and the UTF-8 of a character (RFC 3629). Assumes nothing.
+-- Character numbers (document 01, Character numbers and Refusals by place; document 02, K8) and the UTF-8 of a character (RFC 3629). Assumes nothing.
 use Prim.Native.Nat.{ℕ, _+_, _-_, _*_, _/_, _%_}
 use mathlib.Core.Bool.{_||_}
 use mathlib.Core.Option.{Option, none, some}
 use mathlib.Core.List.{List, [], _∷_}
 use lib.Dec.{eqb, ltb}
 use Rattle.text.specs.Bytes.{pick, within}
+use Rattle.text.specs.Version.{Rule}
 use Rattle.text.specs.declared.Answer.{Answer}
 use Rattle.text.specs.declared.Answer.the-variants.{Done, Refused}
+use Rattle.charref.specs.Chars.{isChar}
 use Rattle.charref.specs.declared.Parsed.{Parsed}
 use Rattle.charref.specs.declared.Parsed.the-variants.{Value, Signed, NoNumber}
 use Rattle.charref.specs.declared.CharNumber.{CharNumber}
@@ -60,6 +62,11 @@ charNumber legal (b ∷ bs) = judge legal (pick (eqb b 120) (inBase 16 bs) (inBa
 -- Character numbers: every character that 12 to 15 let pass
 abbrev pub anyCharacter : ℕ → CharNumber
 anyCharacter n = Char n
+
+-- K8: 25 where a number that 12 to 15 let pass is of a character outside Char
+unfoldable pub onlyChar : Rule → ℕ → CharNumber
+unfolding isChar
+onlyChar r n = pick (isChar r n) (Char n) Forbidden
 
 -- Refusals by place: the number and values of each case; document 02, K8: 25 has the values 0, 0
 unfoldable pub numberAnswer : CharNumber → Answer

@@ -1,2 +1,3 @@
+pub mod Chars
 pub mod CharRef
 pub mod Reading

@@ -1,13 +1,21 @@
--- Digits read up to the `;`: the terms in which the quick way to a character is proved. Assumes nothing.
-use Prim.Native.Nat.{ℕ, _-_, _≤_, _<_}
+-- The terms in which the reading of character numbers is proved: the rules by number, and digits read up to the `;`. Assumes nothing.
+use Prim.Native.Nat.{ℕ, zero, suc, _-_, _≤_, _<_}
 use mathlib.Core.Path.{_≡_}
 use mathlib.Core.Logic.{_≢_}
 use mathlib.Core.List.{List}
 use lib.ListN.{length, getD, take, drop}
-use Rattle.charref.specs.CharRef.{inBase, charNumber, anyCharacter}
+use Rattle.text.specs.Version.{xml10, xml11}
+use Rattle.charref.specs.CharRef.{inBase, charNumber, anyCharacter, onlyChar}
 use Rattle.charref.specs.declared.Parsed.the-variants.{Value}
+use Rattle.charref.specs.declared.CharNumber.{CharNumber}
 use Rattle.charref.specs.declared.CharNumber.the-variants.{Char}
 use Rattle.charref.specs.declared.Quick.{Quick}
+
+-- which characters a number may name, by the code's number: all, those of XML 1.0, those of XML 1.1
+abbrev pub legalBy : ℕ → ℕ → CharNumber
+legalBy zero = anyCharacter
+legalBy (suc zero) = onlyChar xml10
+legalBy (suc (suc rule)) = onlyChar xml11
 
 -- the first `;` from `from` on is at `end`, and no `&` comes before it
 pub record Closed (text : List ℕ) (from end : ℕ) : Type 0 where

@@ -4,8 +4,12 @@ ghost use mathlib.Core.Logic.{_≢_};
 ghost use Prim.Native.Nat.{ℕ, _≤_};
 ghost use mathlib.Core.List.{_++_};
 ghost use lib.ListN.{length, drop};
-ghost use Rattle.charref.specs.CharRef.{digitValue, numberFrom, small, inBase, judge, charNumber, anyCharacter, numberAnswer, encode};
-ghost use Rattle.charref.specs.Reading.{Written, Quickly};
+ghost use Rattle.text.specs.Bytes.{pick};
+ghost use Rattle.text.specs.Version.{xml10, xml11};
+ghost use Rattle.charref.specs.declared.CharNumber.the-variants.{Char, Forbidden};
+ghost use Rattle.charref.specs.CharRef.{digitValue, numberFrom, small, inBase, judge, charNumber, numberAnswer, encode};
+ghost use Rattle.charref.specs.Chars.{isChar};
+ghost use Rattle.charref.specs.Reading.{legalBy, Written, Quickly};
 use text::Answer;
 use text::refusals;
 
@@ -108,45 +112,81 @@ fn from_str_radix(text: &[u8], base: u64) -> Parsed
     }
 }
 
-fn judge_value(n: u32) -> CharNumber
-    ensures { λ r. ⌜ r ≡ judge anyCharacter (Parsed.Value n) ⌝ }
+// Is it a character of the version?
+pub fn is_char(c: u32, newer: bool) -> bool
+    ensures { λ r. ⌜ r ≡ isChar (pick newer xml11 xml10) c ⌝ }
+{
+    if newer {
+        return ((1 <= c) & (c <= 0xd7ff))
+            | ((0xe000 <= c) & (c <= 0xfffd))
+            | ((0x10000 <= c) & (c <= 0x10ffff));
+    }
+    (c == 9)
+        | (c == 0xa)
+        | (c == 0xd)
+        | ((0x20 <= c) & (c <= 0xd7ff))
+        | ((0xe000 <= c) & (c <= 0xfffd))
+        | ((0x10000 <= c) & (c <= 0x10ffff))
+}
+
+// Does the rule let a number name the character? 0 is the lenient rule, 1 Char of XML 1.0, all above it Char of XML 1.1 (`legalBy`).
+pub fn is_allowed(c: u32, rule: u8) -> bool
+    ensures { λ r. ⌜ legalBy rule c ≡ pick r (Char c) Forbidden ⌝ }
+{
+    if rule == 0 {
+        return true;
+    }
+    is_char(c, 1 < rule)
+}
+
+// A number that 12 to 15 let pass, by the rule.
+fn by_rule(n: u32, rule: u8) -> CharNumber
+    ensures { λ r. ⌜ r ≡ legalBy rule n ⌝ }
+{
+    if is_allowed(n, rule) {
+        return CharNumber::Char(n);
+    }
+    CharNumber::Forbidden
+}
+
+fn judge_value(n: u32, rule: u8) -> CharNumber
+    ensures { λ r. ⌜ r ≡ judge (legalBy rule) (Parsed.Value n) ⌝ }
 {
     if n == 0 {
         return CharNumber::IllegalCharacter;
     }
-    if n < 0xD800 {
-        return CharNumber::Char(n);
+    if 0xD800 <= n {
+        if n <= 0xDFFF {
+            return CharNumber::InvalidCodepoint(n);
+        }
+        if 1114111 < n {
+            return CharNumber::InvalidCodepoint(n);
+        }
     }
-    if n <= 0xDFFF {
-        return CharNumber::InvalidCodepoint(n);
-    }
-    if 1114111 < n {
-        return CharNumber::InvalidCodepoint(n);
-    }
-    CharNumber::Char(n)
+    by_rule(n, rule)
 }
 
-fn judge(p: Parsed) -> CharNumber
-    ensures { λ r. ⌜ r ≡ judge anyCharacter p ⌝ }
+fn judge(p: Parsed, rule: u8) -> CharNumber
+    ensures { λ r. ⌜ r ≡ judge (legalBy rule) p ⌝ }
 {
     match p {
-        Parsed::Value(n) => judge_value(n),
+        Parsed::Value(n) => judge_value(n, rule),
         Parsed::Signed => CharNumber::UnexpectedSign,
         Parsed::NoNumber => CharNumber::InvalidNumber,
     }
 }
 
-// The text after `#`.
-pub fn parse_number(text: &[u8]) -> CharNumber
-    ensures { λ r. ⌜ r ≡ charNumber anyCharacter (now (text .entry)) ⌝ }
+// The text after `#`, by the rule that the caller wants.
+pub fn parse_number(text: &[u8], rule: u8) -> CharNumber
+    ensures { λ r. ⌜ r ≡ charNumber (legalBy rule) (now (text .entry)) ⌝ }
 {
     if text.len() == 0 {
         return CharNumber::InvalidNumber;
     }
     if text[0] == b'x' {
-        return judge(from_str_radix(&text[1..], 16));
+        return judge(from_str_radix(&text[1..], 16), rule);
     }
-    judge(from_str_radix(text, 10))
+    judge(from_str_radix(text, 10), rule)
 }
 
 // Reads digits up to the `;`. Leaves to `parse_number` whatever is no character below the surrogates.

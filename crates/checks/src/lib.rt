@@ -48,7 +48,7 @@ pub fn checked_number(text: &[u8]) -> Answer
     else {
         return length;
     };
-    let number = charref::answer_of(charref::parse_number(text));
+    let number = charref::answer_of(charref::parse_number(text, 0));
     let Answer::Refused {
         number: _,
         first: _,

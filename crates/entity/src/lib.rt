@@ -211,21 +211,6 @@ pub fn is_named(list: &[u8], pool: &[u8], at: usize, name: &[u8]) -> bool
     true
 }
 
-// The same, the names' ends first: most are told apart by them.
-fn has_name(list: &[u8], pool: &[u8], at: usize, name: &[u8]) -> bool
-    requires { ⌜ at + 6 ≤ length (now list) ⌝ }
-    requires { ⌜ littleEndian (now list) (at + 1) 4 + getD (now list) (at + 5) 0 ≤ length (now pool) ⌝ }
-    ensures { λ r. ⌜ r ≡ sameBytes (commandName (now (list .entry)) (now (pool .entry)) at) (now (name .entry)) ⌝ }
-{
-    if wide(list[at + 5]) != name.len() {
-        return false;
-    }
-    if ends_differ(pool, u32_at(list, at + 1), name) {
-        return false;
-    }
-    is_named(list, pool, at, name)
-}
-
 // What the command at `at`, at which a lookup stops, gives its name.
 fn referent_at(list: &[u8], at: usize) -> Referent
     requires { ⌜ (at < length (now list)) × (getD (now list) at 0 ≡ 1 → at + 12 ≤ length (now list)) ⌝ }
@@ -242,19 +227,40 @@ fn referent_at(list: &[u8], at: usize) -> Referent
     Referent::External
 }
 
-// What a name refers to, from `from` on, where commands of both kinds stand.
+// What a name refers to, from `from` on, where commands of both kinds stand: each is passed over by its own width. What it gives its name is
+// decoded once, outside the loop over the bytes.
 fn find_later(list: &[u8], pool: &[u8], name: &[u8], from: usize) -> Referent
     requires { ⌜ Here (now list) (now pool) (now name) from ⌝ }
     ensures { λ r. ⌜ Refers (now (list .entry)) (now (pool .entry)) (now (name .entry)) r ⌝ }
 {
     let mut at = from;
-    while list[at] != 0 {
-        if has_name(list, pool, at, name) {
-            return referent_at(list, at);
+    'commands: loop {
+        if list[at] == 0 {
+            break 'commands plain_referent(name);
+        }
+        let length = wide(list[at + 5]);
+        if length != name.len() {
+            at += command_size(list[at]);
+            continue 'commands;
+        }
+        let first = u32_at(list, at + 1);
+        if ends_differ(pool, first, name) {
+            at += command_size(list[at]);
+            continue 'commands;
+        }
+        let found = referent_at(list, at);
+        let mut i = same_words(pool, first, name);
+        'bytes: loop {
+            if i == length {
+                break 'commands found;
+            }
+            if pool[first + i] != name[i] {
+                break 'bytes;
+            }
+            i += 1;
         }
         at += command_size(list[at]);
     }
-    plain_referent(name)
 }
 
 // What a name refers to in a list without mark: the first command that has it, else one of the five, else nothing. Commands 1 have a loop of their own, as

@@ -12,9 +12,6 @@ use lib.ListN.{length, getD, set, take, drop, length-take}
 use lib.Seq.{take-all}
 use borrow.Author.Tests.{eq-eqb, eqb-true, ne-eqb, ltb-true, ltb-false}
 use Rattle.charref.specs.CharRef.{encode}
-use Rattle.charref.specs.declared.CharNumber.{CharNumber}
-use Rattle.charref.specs.declared.CharNumber.the-variants.{Forbidden}
-use Rattle.charref.specs.declared.CharNumber.the-variants.{Char as Character}
 use Rattle.legal.specs.FirstFault.{Clean}
 use Rattle.charref.proofs.Encoding.{encode-at-most}
 use Rattle.halts.specs.Halts.{halts, Smooth, blanksSpaced}
@@ -220,21 +217,17 @@ module _ (r : Reading) (t list pool : List ℕ) (p : Place) (deep : r .depth ≢
   refers : Refers (readBy (r .how) (r .guard))
   refers = read-refers (r .how) (r .guard)
 
-  -- what the rule says of a character, as the settings have it
-  judged : (c : ℕ) {x : CharNumber} → legalBy (r .inguard) c ≡ x → reads .legal c ≡ x
-  judged c e = ap (λ (f : ℕ → CharNumber). f c) legal ∙ e
-
   -- a reference that stands for a character
-  pub halt-char : {c next more : ℕ} → ForChar t (p .at) c next → legalBy (r .inguard) c ≡ Character c → {new : List ℕ} → Writes (shaped (r .form) (encode c)) (p .len) old new more
+  pub halt-char : {c next more : ℕ} → ForChar (r .inguard) t (p .at) c next → {new : List ℕ} → Writes (shaped (r .form) (encode c)) (p .len) old new more
       → HaltKeeps level (r .base) p old seen new seen (Next next more (p .openings))
-  halt-char {c} {next} {more} f may {new} w =
+  halt-char {c} {next} {more} f {new} w =
       record {
         past = (omega (arith, f .on), f .to);
         buffer = w .1 .buffer;
         words = refl;
         goes = λ d le v whole begun e k.
             let inside : p .at < length t = omega (arith, f .on, f .to) in
-            let given = f .given heads refers reads (judged c may) d (deep-at r deep d le) (p .openings) in
+            let given = f .given heads refers reads legal d (deep-at r deep d le) (p .openings) in
             subst (λ (m : ℕ). Came (atDepth d level) v whole begun new seen next (p .len + m) (p .openings)) (sym (w .0))
             (came-token (atDepth d level) v whole begun k (encode c) inside (f .next-is heads refers) (f .to) given (f .utf8)
             (token-rest (r .how) (r .guard) t (p .at) inside (k .rest) reads d (p .openings) (encode c) given (f .utf8) (f .next-is heads refers))
@@ -242,26 +235,14 @@ module _ (r : Reading) (t list pool : List ℕ) (p : Place) (deep : r .depth ≢
       }
 
   -- one that is refused
-  pub halt-refused : {number first second : ℕ} → p .at < length t → Answers t (p .at) (λ n. refused [] n number first second)
+  pub halt-refused : {number first second : ℕ} → p .at < length t → Answers (r .inguard) t (p .at) (λ n. refused [] n number first second)
       → HaltKeeps level (r .base) p old seen old seen (Stopped number first second)
   halt-refused inside f =
       record {
         past = tt;
         buffer = refl;
         words = refl;
-        goes = λ d le v whole begun e k. came-stop (atDepth d level) v whole begun k [] (p .openings) inside (f heads refers reads tt d (deep-at r deep d le) (p .openings));
-      }
-
-  -- refusal 25
-  pub halt-forbidden : {c next : ℕ} → p .at < length t → ForChar t (p .at) c next → c ≢ 38 → legalBy (r .inguard) c ≡ Forbidden
-      → HaltKeeps level (r .base) p old seen old seen (Stopped 25 0 0)
-  halt-forbidden {c} inside f other may =
-      record {
-        past = tt;
-        buffer = refl;
-        words = refl;
-        goes = λ d le v whole begun e k.
-            came-stop (atDepth d level) v whole begun k [] (p .openings) inside (f .forbidden other heads refers reads (judged c may) d (deep-at r deep d le) (p .openings));
+        goes = λ d le v whole begun e k. came-stop (atDepth d level) v whole begun k [] (p .openings) inside (f heads refers reads legal d (deep-at r deep d le) (p .openings));
       }
 
   module _ {end : ℕ} (f : ForName t (p .at) end) where

@@ -14,14 +14,14 @@ use types.Run.{OneOf}
 use denote.Enum.Declared.{tagOf}
 use Rattle.text.specs.Bytes.{sameBytes}
 use Rattle.text.proofs.Utf8.{ascii-well-formed}
-use Rattle.charref.specs.CharRef.{charNumber, anyCharacter, numberAnswer}
-use Rattle.charref.specs.Reading.{Found, Closed}
+use Rattle.charref.specs.CharRef.{charNumber, numberAnswer}
+use Rattle.charref.specs.Reading.{legalBy, Found, Closed}
 use Rattle.charref.specs.declared.Quick.{Quick}
 use Rattle.charref.specs.declared.CharNumber.{CharNumber}
 use Rattle.charref.specs.declared.CharNumber.the-variants.{Char, UnexpectedSign, InvalidNumber, InvalidCodepoint, IllegalCharacter, Forbidden}
 use Rattle.charref.proofs.CharNumber.{the-type}
 use Rattle.charref.proofs.Encoding.{encode-1}
-use Rattle.charref.proofs.Numbers.{charNumber-character, charNumber-well-formed, charNumber-passes, relegal, relegal-number}
+use Rattle.charref.proofs.Rules.{rule-character, rule-well-formed, rule-allows}
 use Rattle.text.proofs.Patterns.{at-head}
 use Rattle.entity.specs.Binding.{Bound, predefined, predefinedOf, boundTo}
 use Rattle.entity.specs.Commands.{Unhidden}
@@ -30,7 +30,8 @@ use Rattle.tokens.specs.Outcome.{done, numbered, numberOutcome}
 use Rattle.tokens.specs.Walking.{NameEnd, nextAt}
 use Rattle.tokens.proofs.Names.{closed-name, closed-reference}
 use Rattle.tokens.specs.Tokens.{Heads}
-use Rattle.attribute.specs.Steps.{Refers, ampOr}
+use Rattle.attribute.specs.Walk.{Settings}
+use Rattle.attribute.specs.Steps.{Refers, ampOr, outcomeAt}
 use Rattle.attribute.proofs.Single.{at-none, at-number, at-predefined, next-offset}
 use Rattle.memory.specs.Levels.{settingsBy}
 use Rattle.flat.specs.Between.{Answers, ForPlain, nameOf, Means, handedTo, NumberMeans}
@@ -40,48 +41,49 @@ use Rattle.flat.specs.declared.Meaning.the-variants.{Char as Character}
 
 -- ---- a number
 
-pub number-char : (digits : List ℕ) (next : ℕ) {c : ℕ} → charNumber anyCharacter digits ≡ Char c → NumberMeans digits next (Character c next)
-unfolding numberOutcome numbered
-number-char digits next {c} e =
-    (refl, charNumber-character digits c e .most, charNumber-well-formed digits c e, λ legal n. ap (λ (x : CharNumber). numbered (numberAnswer x) n) (relegal-number legal digits ∙ ap (relegal legal) e))
+module _ (rule : ℕ) (digits : List ℕ) (next : ℕ) where
+  pub number-char : {c : ℕ} → charNumber (legalBy rule) digits ≡ Char c → NumberMeans rule digits next (Character c next)
+  unfolding numberOutcome numbered numberAnswer
+  number-char {c} e =
+      (refl, rule-character rule digits c e .most, rule-well-formed rule digits c e, λ n. ap (λ (x : CharNumber). numbered (numberAnswer x) n) e)
 
--- what is asked of a number by any rule, where the lenient one gives another case than a character
-other-number : (legal : ℕ → CharNumber) (digits : List ℕ) (n : ℕ) {x : CharNumber} → charNumber anyCharacter digits ≡ x
-    → numberOutcome legal digits n ≡ numbered (numberAnswer (relegal legal x)) n
-unfolding numberOutcome
-other-number legal digits n e = ap (λ (y : CharNumber). numbered (numberAnswer y) n) (relegal-number legal digits ∙ ap (relegal legal) e)
+  -- every case but the first is a refusal
+  handed-on : (x : CharNumber) → OneOf (1 ∷ 2 ∷ 3 ∷ 4 ∷ 5 ∷ []) (tagOf the-type x) → charNumber (legalBy rule) digits ≡ x
+      → NumberMeans rule digits next (handedTo (numberAnswer x))
+  unfolding numberAnswer numberOutcome numbered
+  handed-on (Char c) (inl e) q = absurd (omega arith)
+  handed-on (Char c) (inr (inl e)) q = absurd (omega arith)
+  handed-on (Char c) (inr (inr (inl e))) q = absurd (omega arith)
+  handed-on (Char c) (inr (inr (inr (inl e)))) q = absurd (omega arith)
+  handed-on (Char c) (inr (inr (inr (inr e)))) q = absurd (omega arith)
+  handed-on UnexpectedSign k q = λ n. ap (λ (x : CharNumber). numbered (numberAnswer x) n) q
+  handed-on InvalidNumber k q = λ n. ap (λ (x : CharNumber). numbered (numberAnswer x) n) q
+  handed-on (InvalidCodepoint v) k q = λ n. ap (λ (x : CharNumber). numbered (numberAnswer x) n) q
+  handed-on IllegalCharacter k q = λ n. ap (λ (x : CharNumber). numbered (numberAnswer x) n) q
+  handed-on Forbidden k q = λ n. ap (λ (x : CharNumber). numbered (numberAnswer x) n) q
 
--- every case but the first is a refusal
-handed-on : (n : CharNumber) → OneOf (1 ∷ 2 ∷ 3 ∷ 4 ∷ 5 ∷ []) (tagOf the-type n) → (digits : List ℕ) (next : ℕ) → charNumber anyCharacter digits ≡ n
-    → NumberMeans digits next (handedTo (numberAnswer n))
-unfolding numberAnswer numberOutcome numbered
-handed-on (Char c) (inl e) digits next q = absurd (omega arith)
-handed-on (Char c) (inr (inl e)) digits next q = absurd (omega arith)
-handed-on (Char c) (inr (inr (inl e))) digits next q = absurd (omega arith)
-handed-on (Char c) (inr (inr (inr (inl e)))) digits next q = absurd (omega arith)
-handed-on (Char c) (inr (inr (inr (inr e)))) digits next q = absurd (omega arith)
-handed-on UnexpectedSign k digits next q = λ legal n. other-number legal digits n q
-handed-on InvalidNumber k digits next q = λ legal n. other-number legal digits n q
-handed-on (InvalidCodepoint v) k digits next q = λ legal n. other-number legal digits n q
-handed-on IllegalCharacter k digits next q = λ legal n. other-number legal digits n q
-handed-on Forbidden k digits next q = absurd (charNumber-passes digits q)
-
-pub number-refused : (digits : List ℕ) (next : ℕ) {n : CharNumber} {r : Meaning} → charNumber anyCharacter digits ≡ n → OneOf (1 ∷ 2 ∷ 3 ∷ 4 ∷ 5 ∷ []) (tagOf the-type n)
-    → r ≡ handedTo (numberAnswer n) → NumberMeans digits next r
-number-refused digits next {n} e k q = rw q (handed-on n k digits next e)
+  pub number-refused : {x : CharNumber} {r : Meaning} → charNumber (legalBy rule) digits ≡ x → OneOf (1 ∷ 2 ∷ 3 ∷ 4 ∷ 5 ∷ []) (tagOf the-type x)
+      → r ≡ handedTo (numberAnswer x) → NumberMeans rule digits next r
+  number-refused {x} e k q = rw q (handed-on x k e)
 
 -- ---- the reference whose `&` is at an offset
 
-module _ (t : List ℕ) (at : ℕ) (amp : getD t at 0 ≡ 38) {end : ℕ} (e : NameEnd false t (at + 1) end) where
-  pub means-none : end ≡ length t → Means t at (Refused 10 at end)
+module _ (rule : ℕ) (t : List ℕ) (at : ℕ) (amp : getD t at 0 ≡ 38) {end : ℕ} (e : NameEnd false t (at + 1) end) where
+  pub means-none : end ≡ length t → Means rule t at (Refused 10 at end)
   means-none q = λ heads refers s such depth deep n. at-none heads refers s depth deep t at n end amp e q
 
   module _ (h : end < length t) where
     goes-to : (heads : Heads) → Refers heads → nextAt heads t at ≡ end + 1
     goes-to heads refers = next-offset heads refers (settingsBy 0 0 [] [] 0) 1 (λ z. omega (arith, z)) t at 0 end amp e h
 
-    pub means-number : getD t (at + 1) 0 ≡ 35 → (r : Meaning) → NumberMeans (take (end - (at + 1 + 1)) (drop (at + 1 + 1) t)) (end + 1) r → Means t at r
-    unfolding numberAnswer numbered
+    -- the outcome of a number in a reading by the rule
+    number-outcome : (heads : Heads) → Refers heads → (s : Settings) → s .legal ≡ legalBy rule → (depth : ℕ) → depth ≢ 0 → (n : ℕ) → getD t (at + 1) 0 ≡ 35
+        → outcomeAt s heads depth t at n ≡ numberOutcome (legalBy rule) (take (end - (at + 1 + 1)) (drop (at + 1 + 1) t)) n
+    number-outcome heads refers s is depth deep n b =
+        at-number heads refers s depth deep t at n end amp e h b
+        ∙ ap (λ (l : ℕ → CharNumber). numberOutcome l (take (end - (at + 1 + 1)) (drop (at + 1 + 1) t)) n) is
+
+    pub means-number : getD t (at + 1) 0 ≡ 35 → (r : Meaning) → NumberMeans rule (take (end - (at + 1 + 1)) (drop (at + 1 + 1) t)) (end + 1) r → Means rule t at r
     means-number b (Character c after) m =
         let to = m .0 in
         record {
@@ -90,16 +92,13 @@ module _ (t : List ℕ) (at : ℕ) (amp : getD t at 0 ≡ 38) {end : ℕ} (e : N
           on = omega (arith, to, e .from);
           to = omega (arith, to, h);
           next-is = λ heads refers. goes-to heads refers ∙ sym to;
-          given = λ heads refers s is depth deep n.
-              at-number heads refers s depth deep t at n end amp e h b ∙ m .3 (s .legal) n ∙ ap (λ (x : CharNumber). numbered (numberAnswer x) n) is;
-          forbidden = λ other heads refers s is depth deep n.
-              at-number heads refers s depth deep t at n end amp e h b ∙ m .3 (s .legal) n ∙ ap (λ (x : CharNumber). numbered (numberAnswer x) n) is;
+          given = λ heads refers s is depth deep n. number-outcome heads refers s is depth deep n b ∙ m .3 n;
         }
     means-number b (Name x) m = absurd m
-    means-number b (Refused number first second) m = λ heads refers s such depth deep n. at-number heads refers s depth deep t at n end amp e h b ∙ m (s .legal) n
+    means-number b (Refused number first second) m = λ heads refers s is depth deep n. number-outcome heads refers s is depth deep n b ∙ m n
 
     module _ (b : getD t (at + 1) 0 ≢ 35) where
-      pub means-amp : sameBytes (nameOf t at end) (97 ∷ 109 ∷ 112 ∷ []) ≡ true → Means t at (Character 38 (end + 1))
+      pub means-amp : sameBytes (nameOf t at end) (97 ∷ 109 ∷ 112 ∷ []) ≡ true → Means rule t at (Character 38 (end + 1))
       unfolding boundTo
       means-amp q =
           record {
@@ -108,27 +107,28 @@ module _ (t : List ℕ) (at : ℕ) (amp : getD t at 0 ≡ 38) {end : ℕ} (e : N
             on = omega (arith, e .from);
             to = omega (arith, h);
             next-is = goes-to;
-            given = λ heads refers s is depth deep n. given-amp heads refers s tt depth deep n ∙ ap (λ (x : List ℕ). done x n) (sym (encode-1 38 (omega arith)));
-            forbidden = λ other. absurd (other refl);
+            given = λ heads refers s is depth deep n. given-amp heads refers s is depth deep n ∙ ap (λ (x : List ℕ). done x n) (sym (encode-1 38 (omega arith)));
           }
         where
           is-amp : (bound : Bound) → boundTo [] (Predefined 38) ≡ ampOr (nameOf t at end) bound
           is-amp bound = rw q
 
-          given-amp : Answers t at (λ n. done (38 ∷ []) n)
+          given-amp : Answers rule t at (λ n. done (38 ∷ []) n)
           given-amp heads refers s such depth deep n =
               at-predefined heads refers s depth deep t at n end amp e h b (s .bind (nameOf t at end)) refl [] 38 (is-amp (s .bind (nameOf t at end)))
               (λ f g. absurd (true≢false (sym q ∙ f)))
 
-      pub means-name : sameBytes (nameOf t at end) (97 ∷ 109 ∷ 112 ∷ []) ≡ false → Means t at (Name end)
+      pub means-name : sameBytes (nameOf t at end) (97 ∷ 109 ∷ 112 ∷ []) ≡ false → Means rule t at (Name end)
       means-name q = record { amp = amp; ends = e; inside = h; no-number = b; no-amp = q }
 
 -- digits that end at the `;` by themselves
-pub means-quick : (t : List ℕ) (at : ℕ) → getD t at 0 ≡ 38 → (q : Quick) → getD t (at + 1) 0 ≡ 35 → Found t (at + 1 + 1) q → Means t at (Character (q .c) (q .end + 1))
-means-quick t at amp q b f =
+pub means-quick : (rule : ℕ) (t : List ℕ) (at : ℕ) → getD t at 0 ≡ 38 → (q : Quick) → getD t (at + 1) 0 ≡ 35 → Found t (at + 1 + 1) q → legalBy rule (q .c) ≡ Char (q .c)
+    → Means rule t at (Character (q .c) (q .end + 1))
+means-quick rule t at amp q b f may =
     let e = closed-reference false t b (f .closed) in
-    means-number t at amp e (f .closed .inside) b (Character (q .c) (q .end + 1))
-    (number-char (take (q .end - (at + 1 + 1)) (drop (at + 1 + 1) t)) (q .end + 1) (f .character))
+    let digits = take (q .end - (at + 1 + 1)) (drop (at + 1 + 1) t) in
+    means-number rule t at amp e (f .closed .inside) b (Character (q .c) (q .end + 1))
+    (number-char rule digits (q .end + 1) (rule-allows rule digits (f .character) may))
 
 -- a name that begins with `#` has its end behind it
 pub past-hash : (t : List ℕ) (from end : ℕ) → NameEnd false t from end → end < length t → getD t from 0 ≡ 35 → from + 1 ≤ end

@@ -10,17 +10,15 @@ use Rattle.text.specs.Utf8.{WellFormed}
 use Rattle.text.specs.declared.Answer.{Answer}
 use Rattle.text.specs.declared.Answer.the-variants.{Done}
 use Rattle.text.specs.declared.Answer.the-variants.{Refused as Refusal}
-use Rattle.charref.specs.CharRef.{numberAnswer, encode}
-use Rattle.charref.specs.declared.CharNumber.{CharNumber}
-use Rattle.charref.specs.declared.CharNumber.the-variants.{Forbidden}
-use Rattle.charref.specs.declared.CharNumber.the-variants.{Char as Character}
+use Rattle.charref.specs.CharRef.{encode}
+use Rattle.charref.specs.Reading.{legalBy}
 use Rattle.legal.specs.FirstFault.{Clean}
 use Rattle.halts.specs.Halts.{Smooth}
 use Rattle.entity.specs.Table.{ValidTable}
 use Rattle.entity.specs.Binding.{predefined, predefinedOf, binding}
 use Rattle.entity.specs.Commands.{commandName, commandText, Defines}
 use Rattle.tokens.specs.Tokens.{named, stop, Heads, tokenOf}
-use Rattle.tokens.specs.Outcome.{Outcome, done, refused, numbered, numberOutcome}
+use Rattle.tokens.specs.Outcome.{Outcome, done, refused, numberOutcome}
 use Rattle.tokens.specs.Walking.{NameEnd, headAt, nextAt}
 use Rattle.attribute.specs.Walk.{Settings}
 use Rattle.attribute.specs.Steps.{faultBy, readBy, Refers, outcomeAt}
@@ -47,23 +45,19 @@ pub record Leaf (newer : Bool) (guard : ℕ) (text : List ℕ) : Type 0 where
 
 -- ---- references
 
--- the outcome of the `&` at an offset, however the text is read, in every such reading and at every depth that is not used up
-abbrev pub AnswersWhere : (Settings → Type 0) → List ℕ → ℕ → (ℕ → Outcome) → Type 0
-AnswersWhere such text at outcome =
-    (heads : Heads) → Refers heads → (s : Settings) → such s → (depth : ℕ) → depth ≢ 0 → (n : ℕ) → outcomeAt s heads depth text at n ≡ outcome n
-
-abbrev pub Answers : List ℕ → ℕ → (ℕ → Outcome) → Type 0
-Answers text at outcome = AnswersWhere (λ s. Unit {0}) text at outcome
+-- the outcome of the `&` at an offset, however the text is read, in every reading of numbers by the rule and at every depth that is not used up
+abbrev pub Answers : ℕ → List ℕ → ℕ → (ℕ → Outcome) → Type 0
+Answers rule text at outcome =
+    (heads : Heads) → Refers heads → (s : Settings) → s .legal ≡ legalBy rule → (depth : ℕ) → depth ≢ 0 → (n : ℕ) → outcomeAt s heads depth text at n ≡ outcome n
 
 -- the `&` at an offset stands for a character; what comes after it starts at `next`
-pub record ForChar (text : List ℕ) (at c next : ℕ) : Type 0 where
+pub record ForChar (rule : ℕ) (text : List ℕ) (at c next : ℕ) : Type 0 where
   pub small : c ≤ 1114111
   pub utf8 : WellFormed (encode c)
   pub on : at + 2 ≤ next
   pub to : next ≤ length text
   pub next-is : (heads : Heads) → Refers heads → nextAt heads text at ≡ next
-  pub given : AnswersWhere (λ s. s .legal c ≡ Character c) text at (λ n. done (encode c) n)
-  pub forbidden : c ≢ 38 → AnswersWhere (λ s. s .legal c ≡ Forbidden) text at (λ n. refused [] n 25 0 0)
+  pub given : Answers rule text at (λ n. done (encode c) n)
 
 -- the name between `&` and `;`
 abbrev pub nameOf : List ℕ → ℕ → ℕ → List ℕ
@@ -84,10 +78,10 @@ pub record ForPlain (text list pool : List ℕ) (at b : ℕ) : Type 0 where
   pub bound : binding list pool (nameOf text at (at + 3)) ≡ predefined (b ∷ [])
 
 -- what a reference means besides a text
-abbrev pub Means : List ℕ → ℕ → Meaning → Type 0
-Means text at (Char c next) = ForChar text at c next
-Means text at (Name end) = ForName text at end
-Means text at (Refused number first second) = Answers text at (λ n. refused [] n number first second)
+abbrev pub Means : ℕ → List ℕ → ℕ → Meaning → Type 0
+Means rule text at (Char c next) = ForChar rule text at c next
+Means rule text at (Name end) = ForName text at end
+Means rule text at (Refused number first second) = Answers rule text at (λ n. refused [] n number first second)
 
 -- Character numbers: the refusal passed upward as it came; of a character nothing is passed on
 abbrev pub handedTo : Answer → Meaning
@@ -95,11 +89,11 @@ handedTo (Done first second) = Refused 0 first second
 handedTo (Refusal number first second) = Refused number first second
 
 -- a character number, with the text after `#`
-abbrev pub NumberMeans : List ℕ → ℕ → Meaning → Type 0
-NumberMeans digits next (Char c after) =
-    (after ≡ next) × (c ≤ 1114111) × WellFormed (encode c) × ((legal : ℕ → CharNumber) (n : ℕ) → numberOutcome legal digits n ≡ numbered (numberAnswer (legal c)) n)
-NumberMeans digits next (Name end) = ⊥
-NumberMeans digits next (Refused number first second) = (legal : ℕ → CharNumber) (n : ℕ) → numberOutcome legal digits n ≡ refused [] n number first second
+abbrev pub NumberMeans : ℕ → List ℕ → ℕ → Meaning → Type 0
+NumberMeans rule digits next (Char c after) =
+    (after ≡ next) × (c ≤ 1114111) × WellFormed (encode c) × ((n : ℕ) → numberOutcome (legalBy rule) digits n ≡ done (encode c) n)
+NumberMeans rule digits next (Name end) = ⊥
+NumberMeans rule digits next (Refused number first second) = (n : ℕ) → numberOutcome (legalBy rule) digits n ≡ refused [] n number first second
 
 -- ---- a halt
 

@@ -4,20 +4,18 @@
 // output is written, else nothing: a walk that counts lends a short one.
 ghost use mathlib.Core.Path.{_≡_};
 ghost use mathlib.Core.Logic.{_≢_};
-ghost use mathlib.Core.Bool.{true, false};
+ghost use mathlib.Core.Bool.{true};
 ghost use mathlib.Core.List.{List, [], _∷_};
 ghost use Prim.Native.Nat.{ℕ, _+_, _-_, _≤_, _<_};
 ghost use lib.Dec.{eqb};
 ghost use lib.ListN.{length, getD, take, drop};
-ghost use Rattle.text.specs.Bytes.{pick};
 ghost use Rattle.charref.specs.CharRef.{encode};
-ghost use Rattle.charref.specs.declared.CharNumber.the-variants.{Char, Forbidden};
 ghost use Rattle.eols.specs.Stops.{ruleFor};
 ghost use Rattle.canonical.specs.Canonical.{canonical};
 ghost use Rattle.legal.specs.FirstFault.{FirstFault};
 ghost use Rattle.halts.specs.Halts.{halts, HaltAt, blanksSpaced};
 ghost use Rattle.entity.specs.Table.{ValidTable};
-ghost use Rattle.attribute.specs.Steps.{headsBy, faultBy, legalBy, Blank};
+ghost use Rattle.attribute.specs.Steps.{headsBy, faultBy, Blank};
 ghost use Rattle.memory.specs.Slots.{shaped, Trusts};
 ghost use Rattle.memory.specs.Levels.{Bounds, Lent, FlatKeeps, levelOf};
 ghost use Rattle.flat.specs.Between.{Writes, Leaf, Means, ForName, ForPlain, handedTo, NumberMeans, HaltKeeps, Referred};
@@ -207,29 +205,31 @@ fn handed(a: Answer) -> Meaning
 }
 
 // A character reference with the text after `#`; what comes after it starts at `next`.
-fn number_meaning(digits: &[u8], next: usize) -> Meaning
-    ensures { λ r. ⌜ NumberMeans (now (digits .entry)) next r ⌝ }
+fn number_meaning(digits: &[u8], next: usize, rule: u8) -> Meaning
+    ensures { λ r. ⌜ NumberMeans rule (now (digits .entry)) next r ⌝ }
 {
-    let n = charref::parse_number(digits);
+    let n = charref::parse_number(digits, rule);
     let CharNumber::Char(c) = n else {
         return handed(charref::answer_of(n));
     };
     Meaning::Char { c, next }
 }
 
-// The reference whose `&` is at `at`. Digits end at the `;` by themselves, so that most numbers need no search for it.
-fn read_reference(text: &[u8], at: usize) -> Meaning
+// The reference whose `&` is at `at`. Digits end at the `;` by themselves, so that most numbers that the rule allows need no search for it.
+fn read_reference(text: &[u8], at: usize, rule: u8) -> Meaning
     requires { ⌜ (at < length (now text)) × (length (now text) ≤ 16777216) × (getD (now text) at 0 ≡ 38) ⌝ }
-    ensures { λ r. ⌜ Means (now (text .entry)) at r ⌝ }
+    ensures { λ r. ⌜ Means rule (now (text .entry)) at r ⌝ }
 {
     let from = at + 1;
     let quick = tokens::quick_reference(text, from);
     let c = quick.c;
     if c != 0 {
-        return Meaning::Char {
-            c,
-            next: quick.end + 1,
-        };
+        if charref::is_allowed(c, rule) {
+            return Meaning::Char {
+                c,
+                next: quick.end + 1,
+            };
+        }
     }
     let end = tokens::name_end(text, from, false);
     if end == text.len() {
@@ -240,7 +240,7 @@ fn read_reference(text: &[u8], at: usize) -> Meaning
         };
     }
     if text[from] == b'#' {
-        return number_meaning(&text[from + 1..end], end + 1);
+        return number_meaning(&text[from + 1..end], end + 1, rule);
     }
     if entity::is_three(&text[from..end], b'a', b'm', b'p') {
         return Meaning::Char {
@@ -417,17 +417,6 @@ fn quick_plain(text: &[u8], at: usize, seen: &[u64], list: &[u8]) -> u8
     0
 }
 
-// Does the rule of the reading forbid the character that a number names?
-fn is_forbidden(c: u32, guard: u8) -> bool
-    ensures { λ r. ⌜ legalBy guard c ≡ pick r Forbidden (Char c) ⌝ }
-    ensures { λ r. ⌜ (c ≡ 38 → r ≡ false) ⌝ }
-{
-    if guard == 0 {
-        return false;
-    }
-    !legal::is_char(c, 1 < guard)
-}
-
 // How many bytes the one space stands for that is written at a halt other than `&`: a line end, or past line ends a CR alone.
 fn blank_width(text: &[u8], at: usize, how: u8) -> usize
     requires { ⌜ (at < length (now text)) × (length (now text) ≤ 16777216) ⌝ }
@@ -477,15 +466,8 @@ fn halt_step(
             openings: place.openings,
         };
     }
-    match read_reference(text, at) {
+    match read_reference(text, at, reading.inguard) {
         Meaning::Char { c, next } => {
-            if is_forbidden(c, reading.inguard) {
-                return Halted::Stopped {
-                    number: refusals::FORBIDDEN_REFERENCE,
-                    first: 0,
-                    second: 0,
-                };
-            }
             let more = write_char(c, len, reading.form, out);
             Halted::Next {
                 at: next,

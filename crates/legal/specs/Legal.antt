@@ -4,17 +4,13 @@ use Prim.Native.Nat.{ℕ, _+_, _-_, _*_}
 use mathlib.Core.Bool.{Bool, false, not, _&&_, _||_}
 use mathlib.Core.Option.{Option, none, some}
 use mathlib.Core.List.{List, [], _∷_}
-use lib.Dec.{eqb, leb}
+use lib.Dec.{leb}
 use Rattle.text.specs.Bytes.{pick, within}
 use Rattle.text.specs.Version.{Rule, xml10, xml11}
 use Rattle.text.specs.Utf8.{State, between, next, isBetween}
+unfoldable pub use Rattle.charref.specs.Chars.{isChar}
 
 -- ---- characters
-
--- 2.2, Char
-unfoldable pub isChar : Rule → ℕ → Bool
-isChar xml10 n = eqb n 9 || eqb n 0xA || eqb n 0xD || within 0x20 0xD7FF n || within 0xE000 0xFFFD n || within 0x10000 0x10FFFF n
-isChar xml11 n = within 1 0xD7FF n || within 0xE000 0xFFFD n || within 0x10000 0x10FFFF n
 
 -- XML 1.1, 2.2, RestrictedChar
 unfoldable pub isRestricted : ℕ → Bool

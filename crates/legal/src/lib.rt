@@ -5,27 +5,7 @@ ghost use mathlib.Core.Path.{_≡_};
 ghost use mathlib.Core.Bool.{true, false, not};
 ghost use Prim.Native.Nat.{ℕ, _+_, _≤_, _<_};
 ghost use lib.ListN.{length, drop, getD};
-ghost use Rattle.text.specs.Bytes.{pick};
-ghost use Rattle.text.specs.Version.{xml10, xml11};
-ghost use Rattle.legal.specs.Legal.{isChar};
 ghost use Rattle.legal.specs.FirstFault.{mayBy, faultsBy, Part, CleanByAny, FirstFault};
-
-// Is it a character of the version?
-pub fn is_char(c: u32, newer: bool) -> bool
-    ensures { λ r. ⌜ r ≡ isChar (pick newer xml11 xml10) c ⌝ }
-{
-    if newer {
-        return ((1 <= c) & (c <= 0xd7ff))
-            | ((0xe000 <= c) & (c <= 0xfffd))
-            | ((0x10000 <= c) & (c <= 0x10ffff));
-    }
-    (c == 9)
-        | (c == 0xa)
-        | (c == 0xd)
-        | ((0x20 <= c) & (c <= 0xd7ff))
-        | ((0xe000 <= c) & (c <= 0xfffd))
-        | ((0x10000 <= c) & (c <= 0x10ffff))
-}
 
 // ---- a fault at a place
 

@@ -27,7 +27,7 @@ use Rattle.tokens.specs.Walking.{headAt, nextAt, outcomeOf}
 use Rattle.tokens.proofs.Carried.{Moves, Moving}
 use Rattle.tokens.proofs.WellFormedness.{Leaves, utf8, any-own}
 use Rattle.attribute.specs.Walk.{Settings, answer, exhausted}
-use Rattle.attribute.specs.Strict.{guarded}
+use Rattle.attribute.specs.Strict.{barring}
 use Rattle.attribute.specs.Steps.{headsBy, guardBy, readBy, stopAnswer}
 use Rattle.attribute.proofs.Heads.{attribute-utf8, past-utf8}
 use Rattle.attribute.proofs.Stops.{by-how}
@@ -36,7 +36,7 @@ use Rattle.attribute.proofs.Stops.{by-how}
 
 module _ (legal : ℕ → CharNumber) (own : (m n : ℕ) → legal m ≡ Char n → m ≡ n) where
   guard-utf8 : (at : Heads) → Moving (utf8 legal own) at → (guard : ℕ) → Moving (utf8 legal own) (guardBy guard at)
-  unfolding guarded after
+  unfolding barring after
   guard-utf8 at g zero = g
   guard-utf8 at g (suc rule) = λ s offset b bs h.
       pick-both (λ (z : Head). Moves (utf8 legal own) s bs z) (faultAt (mayBy rule) (b ∷ bs)) {a = head (barred offset) 0} {b = at offset b bs}

@@ -38,7 +38,7 @@ use Rattle.tokens.proofs.Progress.{fromOn, run-at}
 use Rattle.tokens.proofs.Finished.{ended-refused, ended-short, ended-written, ended-held, whole-short, whole-written}
 use Rattle.attribute.specs.Heads.{attributeHead}
 use Rattle.attribute.specs.Walk.{Settings, walk, normalize, innerHead, reading, readingOf}
-use Rattle.attribute.specs.Strict.{guarded, strictly, readingBy}
+use Rattle.attribute.specs.Strict.{barring, strictly, readingBy}
 use Rattle.attribute.specs.Steps.{headsBy, faultBy, readBy, stopAnswer}
 use Rattle.attribute.proofs.Outer.{withOuter, walk-outer}
 use Rattle.memory.specs.Slots.{shaped, shapedIn}
@@ -305,10 +305,10 @@ shown-plain (refused before made number first second) = refl
 -- the heads of the value itself, and those of the texts of the table
 abbrev outerHeads : Bool → Bool → Heads
 outerHeads false newer = attributeHead (ruleFor newer)
-outerHeads true newer = guarded (mayStand inValue (ruleFor newer)) (attributeHead (ruleFor newer))
+outerHeads true newer = barring (mayStand inValue (ruleFor newer)) (attributeHead (ruleFor newer))
 
 outer-is : (strict newer : Bool) → readBy (pick newer 1 0) (pick strict (pick newer 2 1) 0) ≡ outerHeads strict newer
-unfolding guarded mayBy mayStand
+unfolding barring mayBy mayStand
 outer-is false true = refl
 outer-is false false = refl
 outer-is true true = refl
@@ -324,7 +324,7 @@ normalize-walk true newer list pool limit depth t = refl
 settings-for : (strict newer : Bool) (list pool : List ℕ) (limit : ℕ) (past : Bool) → marked list ≡ past
     → settingsBy (pick past 2 (pick newer 1 0)) (pick strict (pick newer 3 1) 0) list pool limit
     ≡ withOuter (readBy (pick past 2 (pick newer 1 0)) (pick strict (pick newer 3 1) 0)) (readingBy strict (ruleFor newer) list pool limit)
-unfolding settingsBy readingBy strictly readingOf reading innerHead guarded mayBy mayStand
+unfolding settingsBy readingBy strictly readingOf reading innerHead barring mayBy mayStand
 settings-for false true list pool limit true e = rw e
 settings-for false false list pool limit true e = rw e
 settings-for false true list pool limit false e = rw e

@@ -212,6 +212,7 @@ fn form_counted(
     reading: Reading,
     list: &[u8],
     pool: &[u8],
+    lacks: bool,
     short: u32,
     out: &mut [u8],
 ) -> Answer
@@ -219,7 +220,7 @@ fn form_counted(
     requires { ⌜ (reading .base ≡ 0) × Walkable reading (now text) ⌝ }
     requires { ⌜ HaltAt (eqb (reading .how) 1) (now text) 0 first ⌝ }
     requires { ⌜ WellFormed (now text) ⌝ }
-    ensures { λ r. ⌜ Ended short (formOf reading (now (list .entry)) (now (pool .entry)) (now (text .entry))) (now (out .entry)) (now (out .exit)) r ⌝ }
+    ensures { λ r. ⌜ Ended short (writtenIn (reading .form) lacks (walkOf reading (now (list .entry)) (now (pool .entry)) (now (text .entry)))) (now (out .entry)) (now (out .exit)) r ⌝ }
 {
     let mut none = [0u8; 1];
     let counted = normalize_text(text, first, reading, list, pool, &mut none[..0]);
@@ -230,6 +231,9 @@ fn form_counted(
     else {
         return counted;
     };
+    if lacks {
+        return no_scratch();
+    }
     if (out.len() as u64) < len {
         return Answer::Refused {
             number: short,
@@ -240,8 +244,9 @@ fn form_counted(
     normalize_text(text, first, reading, list, pool, out)
 }
 
-// The form of the value of a long text. The value is counted first, which is quicker; where the output has six times its length there is
-// room, and the form needs no count.
+// The form of the value of a long text. Where the output has six times the text's length, the value is counted first, which is quicker: has
+// the output six times its length too, there is room, and the form needs no count. A shorter output may be just as long as the form, so that
+// the form is counted at once.
 fn form_into(
     text: &[u8],
     first: usize,
@@ -258,6 +263,9 @@ fn form_into(
     requires { ⌜ WellFormed (now text) ⌝ }
     ensures { λ r. ⌜ Ended short (writtenIn (reading .form) lacks (walkOf reading (now (list .entry)) (now (pool .entry)) (now (text .entry)))) (now (out .entry)) (now (out .exit)) r ⌝ }
 {
+    if out.len() / 6 < text.len() {
+        return form_counted(text, first, reading, list, pool, lacks, short, out);
+    }
     let mut none = [0u8; 1];
     let plain = as_value(reading);
     let counted = normalize_text(text, first, plain, list, pool, &mut none[..0]);
@@ -272,7 +280,7 @@ fn form_into(
         return no_scratch();
     }
     if out.len() as u64 / 6 < len {
-        return form_counted(text, first, reading, list, pool, short, out);
+        return form_counted(text, first, reading, list, pool, lacks, short, out);
     }
     normalize_text(text, first, reading, list, pool, out)
 }

@@ -9,19 +9,20 @@ use Rattle.text.specs.Bytes.{pick, sameBytes}
 use Rattle.text.specs.Version.{Rule}
 use Rattle.text.specs.Call.{guarded}
 use Rattle.text.proofs.Bytes.{and-left, and-right}
-use Rattle.charref.specs.CharRef.{charNumber, anyCharacter, numberAnswer}
+use Rattle.charref.specs.CharRef.{charNumber, anyCharacter, numberAnswer, onlyChar}
 use Rattle.charref.specs.declared.CharNumber.{CharNumber}
 use Rattle.charref.specs.declared.CharNumber.the-variants.{Char, Forbidden}
 use Rattle.charref.proofs.Rules.{char-related}
 use Rattle.entity.specs.Binding.{Bound, text, external, predefined, unknown}
-use Rattle.legal.specs.Legal.{isChar, inValue, inTable, mayStand, faultAt}
+use Rattle.charref.specs.Chars.{isChar}
+use Rattle.legal.specs.Legal.{inValue, inTable, mayStand, faultAt}
 use Rattle.tokens.specs.Tokens.{Stop, kept, space, number, named, unterminated, Token, copy, stop, barred, Head, head, tokenOf, skipOf, Heads, tokens}
 use Rattle.tokens.specs.Outcome.{Outcome, done, refused, prepend, followed, run, numbered, numberOutcome, finished}
 use Rattle.tokens.specs.Lookups.{unlessRefused, lookups, Each}
 use Rattle.tokens.proofs.Lookups.{each-left, each-right}
 use Rattle.attribute.specs.Walk.{Settings, opened, answer, exhausted, walk, normalize, reading, readingOf}
-use Rattle.attribute.specs.Strict.{onlyChar, strictly, readingBy}
-use Rattle.attribute.specs.Strict.{guarded as guard}
+use Rattle.attribute.specs.Strict.{strictly, readingBy}
+use Rattle.attribute.specs.Strict.{barring as guard}
 use Rattle.attribute.specs.Form.{formed}
 use Rattle.attribute.proofs.Strict.{withLegal}
 use Rattle.govlezna.specs.Calls.{walkCheck, normalizeAttributeValueCall, canonicalFormCall, normalizeAttributeValueStrictCall, canonicalFormStrictCall}

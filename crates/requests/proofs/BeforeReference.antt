@@ -28,7 +28,7 @@ use Rattle.halts.specs.Halts.{anyStop}
 use Rattle.unescape.specs.Unescape.{textHead, replaced}
 use Rattle.attribute.specs.Heads.{spaceOr, otherHead, attributeHead, pastHead}
 use Rattle.attribute.specs.Walk.{Settings, answer, exhausted, innerHead, reading, readingOf}
-use Rattle.attribute.specs.Strict.{guarded, strictly, readingBy}
+use Rattle.attribute.specs.Strict.{barring, strictly, readingBy}
 use Rattle.requests.specs.External.{endsName}
 use Rattle.requests.specs.Reached.{headsIn, stopped, ReadTo, ComesTo}
 use Rattle.requests.proofs.Reached.{run-append}
@@ -210,9 +210,9 @@ fault-before may b bs rest =
     (whole-or (isBetween (next between b)) (bits between 0 b) (charFrom (next between b) (bits between 0 b) (bs ++ 38 ∷ rest)) (charFrom (next between b) (bits between 0 b) bs)
     (λ q. char-before (next between b) bs rest (bits between 0 b) q))
 
-guarded-blind : (may : ℕ → Bool) (at : Heads) → Blind at → Blind (guarded may at)
-unfolding guarded
-guarded-blind may at h k b bs rest =
+barring-blind : (may : ℕ → Bool) (at : Heads) → Blind at → Blind (barring may at)
+unfolding barring
+barring-blind may at h k b bs rest =
     let bar = head (barred k) 0 in
     subst (λ (x : Bool). Same (pick (faultAt may (b ∷ bs)) bar (at k b bs)) (pick x bar (at k b (bs ++ 38 ∷ rest))) bs) (sym (fault-before may b bs rest))
     (same-pick (faultAt may (b ∷ bs)) bar (at k b bs) bar (at k b (bs ++ 38 ∷ rest)) bs (same-itself (barred k) bs) (h k b bs rest))
@@ -221,8 +221,8 @@ value-blind : (strict : Bool) (r : Rule) (list pool : List ℕ) (limit : ℕ) (p
 unfolding readingBy readingOf reading strictly
 value-blind false r list pool limit inValue = attribute-blind r
 value-blind false r list pool limit inTable = inner-blind (marked list) r
-value-blind true r list pool limit inValue = guarded-blind (mayStand inValue r) (attributeHead r) (attribute-blind r)
-value-blind true r list pool limit inTable = guarded-blind (mayStand inTable r) (innerHead (marked list) r) (inner-blind (marked list) r)
+value-blind true r list pool limit inValue = barring-blind (mayStand inValue r) (attributeHead r) (attribute-blind r)
+value-blind true r list pool limit inTable = barring-blind (mayStand inTable r) (innerHead (marked list) r) (inner-blind (marked list) r)
 
 -- ---- tokens before a `&`
 
@@ -365,16 +365,16 @@ amp-clear : (p : Place) (r : Rule) (bs : List ℕ) → faultAt (mayStand p r) (3
 unfolding faultAt
 amp-clear p r bs = ap (refuses (mayStand p r)) (char-ascii 38 bs (omega arith)) ∙ ap not (amp-stands p r)
 
-guarded-refers : (p : Place) (r : Rule) (at : Heads) → Refers false at → Refers false (guarded (mayStand p r) at)
-unfolding guarded
-guarded-refers p r at h k bs = rw (amp-clear p r bs) (h k bs)
+barring-refers : (p : Place) (r : Rule) (at : Heads) → Refers false at → Refers false (barring (mayStand p r) at)
+unfolding barring
+barring-refers p r at h k bs = rw (amp-clear p r bs) (h k bs)
 
 value-refers : (strict : Bool) (r : Rule) (list pool : List ℕ) (limit : ℕ) (p : Place) → Refers false (headsIn (readingBy strict r list pool limit) p)
 unfolding readingBy readingOf reading strictly
 value-refers false r list pool limit inValue = attribute-refers r
 value-refers false r list pool limit inTable = inner-refers (marked list) r
-value-refers true r list pool limit inValue = guarded-refers inValue r (attributeHead r) (attribute-refers r)
-value-refers true r list pool limit inTable = guarded-refers inTable r (innerHead (marked list) r) (inner-refers (marked list) r)
+value-refers true r list pool limit inValue = barring-refers inValue r (attributeHead r) (attribute-refers r)
+value-refers true r list pool limit inTable = barring-refers inTable r (innerHead (marked list) r) (inner-refers (marked list) r)
 
 -- the value so far, then the reference and whatever comes after it
 pub record NameRun (f : Stop → ℕ → Outcome) (o : Outcome) (value : List ℕ) (k : ℕ) (name : List ℕ) (m : ℕ) : Type 0 where

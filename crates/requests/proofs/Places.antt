@@ -18,7 +18,7 @@ use Rattle.tokens.proofs.Barred.{IsBarred, BarsNothing}
 use Rattle.unescape.specs.Unescape.{textHead}
 use Rattle.attribute.specs.Heads.{spaceOr, otherHead, attributeHead, pastHead}
 use Rattle.attribute.specs.Walk.{innerHead, reading, readingOf}
-use Rattle.attribute.specs.Strict.{guarded, strictly, readingBy}
+use Rattle.attribute.specs.Strict.{barring, strictly, readingBy}
 use Rattle.attribute.proofs.Heads.{attribute-passes, inner-passes}
 use Rattle.requests.specs.Reached.{headsIn}
 
@@ -76,17 +76,17 @@ inner-names true r k b bs =
     pick-both (Names k) (eqb b 38) {a = referenceAt k bs (nameAt false bs)} {b = pick white (head (stop space) 0) (head (copy b) 0)} (names-reference k bs (nameAt false bs))
     (pick-both (Names k) white {a = head (stop space) 0} {b = head (copy b) 0} (names-space k 0) (names-copy k b 0))
 
-guarded-names : (may : ℕ → Bool) (at : Heads) → NamesHere at → NamesHere (guarded may at)
-unfolding guarded
-guarded-names may at h k b bs = pick-both (Names k) (faultAt may (b ∷ bs)) {a = head (barred k) 0} {b = at k b bs} (names-barred k k 0) (h k b bs)
+barring-names : (may : ℕ → Bool) (at : Heads) → NamesHere at → NamesHere (barring may at)
+unfolding barring
+barring-names may at h k b bs = pick-both (Names k) (faultAt may (b ∷ bs)) {a = head (barred k) 0} {b = at k b bs} (names-barred k k 0) (h k b bs)
 
 -- in every text that a call reads as an attribute's, and in one that it unescapes
 pub value-names : (strict : Bool) (r : Rule) (list pool : List ℕ) (limit : ℕ) (p : Place) → NamesHere (headsIn (readingBy strict r list pool limit) p)
 unfolding readingBy readingOf reading strictly
 value-names false r list pool limit inValue = attribute-names r
 value-names false r list pool limit inTable = inner-names (marked list) r
-value-names true r list pool limit inValue = guarded-names (mayStand inValue r) (attributeHead r) (attribute-names r)
-value-names true r list pool limit inTable = guarded-names (mayStand inTable r) (innerHead (marked list) r) (inner-names (marked list) r)
+value-names true r list pool limit inValue = barring-names (mayStand inValue r) (attributeHead r) (attribute-names r)
+value-names true r list pool limit inTable = barring-names (mayStand inTable r) (innerHead (marked list) r) (inner-names (marked list) r)
 
 pub text-names : NamesHere textHead
 unfolding textHead
@@ -102,23 +102,23 @@ Bars may at = (k b : ℕ) (bs : List ℕ) (offset : ℕ) → barred offset ≡ t
 abbrev BarsAll : (ℕ → Bool) → Heads → Type 0
 BarsAll may at = (k b : ℕ) (bs : List ℕ) → faultAt may (b ∷ bs) ≡ true → barred k ≡ tokenOf (at k b bs)
 
-guarded-bars : (may : ℕ → Bool) (at : Heads) → BarsNothing at → Bars may (guarded may at)
-unfolding guarded
-guarded-bars may at none k b bs offset e = go (faultAt may (b ∷ bs)) refl e
+barring-bars : (may : ℕ → Bool) (at : Heads) → BarsNothing at → Bars may (barring may at)
+unfolding barring
+barring-bars may at none k b bs offset e = go (faultAt may (b ∷ bs)) refl e
   where
     go : (x : Bool) → faultAt may (b ∷ bs) ≡ x → barred offset ≡ tokenOf (pick x (head (barred k) 0) (at k b bs)) → (offset ≡ k) × (faultAt may (b ∷ bs) ≡ true)
     go true q i = (cc, q)
     go false q i = absurd (none k b bs (subst IsBarred i tt))
 
-guarded-all : (may : ℕ → Bool) (at : Heads) → BarsAll may (guarded may at)
-unfolding guarded
-guarded-all may at k b bs e = rw e refl
+barring-all : (may : ℕ → Bool) (at : Heads) → BarsAll may (barring may at)
+unfolding barring
+barring-all may at k b bs e = rw e refl
 
 -- in every text that is strictly read
 pub value-bars : (r : Rule) (list pool : List ℕ) (limit : ℕ) (p : Place)
     → Bars (mayStand p r) (headsIn (readingBy true r list pool limit) p) × BarsAll (mayStand p r) (headsIn (readingBy true r list pool limit) p)
 unfolding readingBy readingOf reading strictly
 value-bars r list pool limit inValue =
-    (guarded-bars (mayStand inValue r) (attributeHead r) (attribute-passes r), guarded-all (mayStand inValue r) (attributeHead r))
+    (barring-bars (mayStand inValue r) (attributeHead r) (attribute-passes r), barring-all (mayStand inValue r) (attributeHead r))
 value-bars r list pool limit inTable =
-    (guarded-bars (mayStand inTable r) (innerHead (marked list) r) (inner-passes (marked list) r), guarded-all (mayStand inTable r) (innerHead (marked list) r))
+    (barring-bars (mayStand inTable r) (innerHead (marked list) r) (inner-passes (marked list) r), barring-all (mayStand inTable r) (innerHead (marked list) r))

@@ -9,16 +9,17 @@ use mathlib.Core.List.{List, [], _∷_}
 use Rattle.text.specs.Version.{ruleOf}
 use Rattle.text.specs.Call.{called, lengthCheck, utf8Check}
 use Rattle.text.specs.Utf8.{utf8End}
-use Rattle.charref.specs.CharRef.{charNumber}
+use Rattle.charref.specs.CharRef.{charNumber, onlyChar}
 use Rattle.entity.specs.Table.{tableCheck, marked}
 use Rattle.entity.specs.Binding.{binding}
-use Rattle.legal.specs.Legal.{inValue, inTable, isChar, mayStand, faultAt}
+use Rattle.charref.specs.Chars.{isChar}
+use Rattle.legal.specs.Legal.{inValue, inTable, mayStand, faultAt}
 use Rattle.tokens.specs.Tokens.{tokens}
 use Rattle.tokens.specs.Outcome.{run, finished}
 use Rattle.unescape.specs.Unescape.{unescape}
 use Rattle.attribute.specs.Checks.{settingsCheck}
 use Rattle.attribute.specs.Walk.{walk, normalize, readingOf}
-use Rattle.attribute.specs.Strict.{onlyChar, readingBy}
+use Rattle.attribute.specs.Strict.{readingBy}
 use Rattle.govlezna.specs.Calls.{normalizeAttributeValueCall, normalizeAttributeValueStrictCall}
 use Rattle.demands.specs.Demands.{Asked, ruleFor}
 use Rattle.demands.specs.CallDemands.{normalizeOf}

@@ -10,16 +10,17 @@ use Rattle.text.specs.Bytes.{pick, sameBytes}
 use Rattle.text.specs.Version.{Rule, ruleOf}
 use Rattle.text.specs.Call.{called}
 use Rattle.text.specs.declared.Answer.the-variants.{Refused}
-use Rattle.charref.specs.CharRef.{charNumber, anyCharacter, numberAnswer}
+use Rattle.charref.specs.CharRef.{charNumber, anyCharacter, numberAnswer, onlyChar}
 use Rattle.charref.specs.declared.CharNumber.{CharNumber}
 use Rattle.charref.specs.declared.CharNumber.the-variants.{Char, UnexpectedSign, InvalidNumber, InvalidCodepoint, IllegalCharacter, Forbidden}
 use Rattle.charref.proofs.Numbers.{relegal, relegal-number, charNumber-passes}
 use Rattle.entity.specs.Binding.{Bound, text, external, predefined, unknown, binding}
-use Rattle.legal.specs.Legal.{Place, inValue, isChar, mayStand, charFrom, faultAt}
+use Rattle.charref.specs.Chars.{isChar}
+use Rattle.legal.specs.Legal.{Place, inValue, mayStand, charFrom, faultAt}
 use Rattle.tokens.specs.Tokens.{Stop, kept, space, number, named, unterminated, Token, copy, stop, barred}
 use Rattle.unescape.specs.Unescape.{textHead, replaced}
 use Rattle.attribute.specs.Walk.{Settings, readingOf}
-use Rattle.attribute.specs.Strict.{onlyChar, strictly, readingBy}
+use Rattle.attribute.specs.Strict.{strictly, readingBy}
 use Rattle.demands.specs.CallDemands.{listed}
 use Rattle.requests.specs.Unused.{Reader, normalizing, forming, listing, unescaping, callWith}
 use Rattle.requests.specs.Reached.{headsIn, stopped, ReadTo, ComesTo, Within, here, inside, Own, OwnName, RefusedAt, OwnCopied, OwnInText, RefusedInText}

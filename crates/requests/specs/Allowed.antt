@@ -6,7 +6,7 @@ use mathlib.Core.List.{List, [], _∷_}
 use lib.Dec.{eqb}
 use Rattle.text.specs.Bytes.{pick, sameBytes}
 use Rattle.text.specs.Version.{Rule}
-use Rattle.charref.specs.CharRef.{charNumber}
+use Rattle.charref.specs.CharRef.{charNumber, onlyChar}
 use Rattle.charref.specs.declared.CharNumber.{CharNumber}
 use Rattle.charref.specs.declared.CharNumber.the-variants.{Char, UnexpectedSign, InvalidNumber, InvalidCodepoint, IllegalCharacter, Forbidden}
 use Rattle.entity.specs.Binding.{Bound, text, external, predefined, unknown}
@@ -14,7 +14,6 @@ use Rattle.legal.specs.Legal.{inValue, inTable, mayStand, faultAt}
 use Rattle.tokens.specs.Tokens.{Stop, kept, space, number, named, unterminated, Token, copy, stop, barred, tokenOf, skipOf, Heads, tokens}
 use Rattle.tokens.specs.Lookups.{lookups, Each}
 use Rattle.attribute.specs.Walk.{Settings, answer, walk, readingOf}
-use Rattle.attribute.specs.Strict.{onlyChar}
 use Rattle.demands.specs.Demands.{Asked, ruleFor}
 
 -- 12 to 15, or a character that the rule lets pass

@@ -11,7 +11,8 @@ use Rattle.text.specs.Call.{Called, called}
 use Rattle.charref.specs.CharRef.{charNumber, anyCharacter}
 use Rattle.charref.specs.declared.CharNumber.the-variants.{Char}
 use Rattle.entity.specs.Binding.{Bound, external, binding}
-use Rattle.legal.specs.Legal.{Place, inValue, isChar, mayStand, faultAt}
+use Rattle.charref.specs.Chars.{isChar}
+use Rattle.legal.specs.Legal.{Place, inValue, mayStand, faultAt}
 use Rattle.tokens.specs.Tokens.{number, named, stop}
 use Rattle.unescape.specs.Unescape.{textHead, replaced}
 use Rattle.attribute.specs.Walk.{Settings}

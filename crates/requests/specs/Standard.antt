@@ -7,11 +7,10 @@ use mathlib.Core.Option.{Option, none, some}
 use mathlib.Core.List.{List, [], _∷_}
 use lib.ListN.{length}
 use Rattle.text.specs.Call.{Called, called, laid}
-use Rattle.charref.specs.CharRef.{anyCharacter}
+use Rattle.charref.specs.CharRef.{anyCharacter, onlyChar}
 use Rattle.charref.specs.declared.CharNumber.{CharNumber}
 use Rattle.entity.specs.Table.{marked}
 use Rattle.entity.specs.Binding.{binding}
-use Rattle.attribute.specs.Strict.{onlyChar}
 use Rattle.demands.specs.Demands.{Asked, ruleFor}
 use Rattle.demands.specs.CallDemands.{listed}
 use Rattle.demands.specs.Characters.{encodeAll, decode}

@@ -136,7 +136,7 @@ fn number_step(text: &[u8], from: usize, quote: u8, newer: bool, out: &mut [u8])
     if text[end] != b';' {
         return Step::Misplaced { at: end };
     }
-    let number = charref::answer_of(charref::parse_number(&text[from..end]));
+    let number = charref::answer_of(charref::parse_number(&text[from..end], 0));
     match number {
         Answer::Done { first, second: _ } => {
             char_step(text, from, first as u32, end + 1, newer, out)

@@ -152,7 +152,7 @@ pub fn number_step(digits: &[u8], next: usize, openings: u64, out: &mut [u8]) ->
         return handed(charref::answer_of(CharNumber::InvalidNumber));
     }
     // As a part: a slice that is handed on whole is copied by one load, which waits for the caller's two stores.
-    let n = charref::parse_number(&digits[..len]);
+    let n = charref::parse_number(&digits[..len], 0);
     let CharNumber::Char(c) = n else {
         return handed(charref::answer_of(n));
     };

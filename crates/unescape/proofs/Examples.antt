@@ -28,10 +28,11 @@ table :
     × (empty (38 ∷ 35 ∷ 59 ∷ []) ≡ refused [] 0 13 0 0)  -- &#;
     × (empty (38 ∷ 35 ∷ 120 ∷ 68 ∷ 56 ∷ 48 ∷ 48 ∷ 59 ∷ []) ≡ refused [] 0 14 55296 0)  -- &#xD800;
     × (empty (38 ∷ 35 ∷ 48 ∷ 59 ∷ []) ≡ refused [] 0 15 0 0)  -- &#0;
+    × (empty (38 ∷ 35 ∷ 49 ∷ 59 ∷ []) ≡ done (1 ∷ []) 0)  -- &#1;
     × (empty (38 ∷ 97 ∷ 109 ∷ 112 ∷ 59 ∷ 108 ∷ 116 ∷ 59 ∷ []) ≡ done (38 ∷ 108 ∷ 116 ∷ 59 ∷ []) 0)  -- &amp;lt;
     × (amp-is-x (38 ∷ 97 ∷ 109 ∷ 112 ∷ 59 ∷ []) ≡ done (88 ∷ []) 0)  -- &amp;
 unfolding empty amp-is-x unescape binding
-table = (refl, refl, refl, refl, refl, refl, refl, refl, refl, refl, refl)
+table = (refl, refl, refl, refl, refl, refl, refl, refl, refl, refl, refl, refl)
 
 -- K13: e = `&f;`; `amp` is looked up, the names in a text that is copied are not, and none is after the refusal
 names : List ℕ → List (List ℕ)

@@ -1,6 +1,6 @@
 //! Rows of the calls on attribute values: values of each kind and of usual lengths, and long ones.
 
-use super::table::{ours, table_row, Ours, References, TableRule, Tables, GROWTH};
+use super::table::{exact_row, ours, table_row, Ours, References, TableRule, Tables, GROWTH};
 use crate::arguments::DEEPEST;
 use crate::counting::{Row, Side};
 use crate::draft::Draft;
@@ -51,6 +51,17 @@ pub fn timed(calls: [&str; 2], sides: (impl Ours, TableRule)) -> Vec<timing::Row
         rows.push(table_row(calls[1], input, &text, 2, marked, sides));
     }
     rows
+}
+
+/// Long values of each kind under 1.0, in an output just as long as the result.
+pub fn exactly_timed(call: &str, sides: (impl Ours, TableRule)) -> Vec<timing::Row> {
+    let tables = Tables::new(Draft::of(&DEFINITIONS));
+    let row = |(input, pieces, distance): References| {
+        let text = letters_with(pieces, distance, MEBIBYTE);
+        let input = format!("{input}, exact room").leak();
+        exact_row(call, input, &text, 0, tables, sides)
+    };
+    INPUTS.into_iter().map(row).collect()
 }
 
 /// Counts the openings too.

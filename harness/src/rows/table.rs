@@ -81,6 +81,22 @@ pub fn table_row(
     writing_row(call, input, text, ours, make)
 }
 
+/// The same in an output just as long as the result, which a caller lends who has asked for the length.
+pub fn exact_row(
+    call: &str,
+    input: &'static str,
+    text: &[u8],
+    version: u8,
+    tables: Tables,
+    (run, rule): (impl Ours, TableRule),
+) -> Row {
+    let (text, rule) = (aligned(text), black_box(rule));
+    let make = move |text| rule(text, version, tables.read).unwrap();
+    let room = make(std::str::from_utf8(text).unwrap()).0.len();
+    let ours = ours(run, text, version, tables.lent, room);
+    writing_row(call, input, text, ours, make)
+}
+
 /// Names and distances of references, of which a text of this size has a few or many.
 pub type References = (&'static str, &'static [&'static str], usize);
 

@@ -1,13 +1,14 @@
 -- `charref::parse_number` meets its contract: the three cases of `charNumber`, with the digits after x as a part of the text. Assumes nothing.
 use Rattle.charref.proofs.Numbers.{char-none, char-hex, char-decimal}
-use Rattle.charref.specs.CharRef.{judge, anyCharacter}
+use Rattle.charref.specs.CharRef.{judge}
+use Rattle.charref.specs.Reading.{legalBy}
 use mathlib.Core.Path.{_∙_, ap}
 use borrow.Author.Needs.{needs}
 use Rattle.charref.proofs.parse_number.Statement.{statement}
 use Rattle.charref.proofs.parse_number.Tie as tie
 
 returns : tie.Need-returns
-returns c = char-none anyCharacter (c .before .before .args .text .now) (c .if1 .taken)
+returns c = let a = c .before .before .args in char-none (legalBy (a .rule)) (a .text .now) (c .if1 .taken)
 
 shared-slice-read-if2 : tie.Need-shared-slice-read-if2
 shared-slice-read-if2 c = search needs
@@ -31,8 +32,9 @@ returns-2 : tie.Need-returns-2
 returns-2 c =
     let some = c .before .before .before .before .before in
     let start = some .before .before in
-    c .judge .ensures ∙ ap (judge anyCharacter) (c .before .from-str-radix .ensures)
-    ∙ char-hex anyCharacter (start .args .text .now) (some .if1 .left) (c .before .before .before .if2 .taken)
+    let legal = legalBy (start .args .rule) in
+    c .judge .ensures ∙ ap (judge legal) (c .before .from-str-radix .ensures)
+    ∙ char-hex legal (start .args .text .now) (some .if1 .left) (c .before .before .before .if2 .taken)
 
 from-str-radix-requires-2 : tie.Need-from-str-radix-requires-2
 from-str-radix-requires-2 c κs = search needs
@@ -42,8 +44,10 @@ judge-requires-2 c κs = search needs
 
 returns-3 : tie.Need-returns-3
 returns-3 c =
-    c .judge2 .ensures ∙ ap (judge anyCharacter) (c .before .from-str-radix2 .ensures)
-    ∙ char-decimal anyCharacter (c .before .before .before .before .before .before .args .text .now) (c .before .before .before .before .if1 .left) (c .before .before .if2 .left)
+    let a = c .before .before .before .before .before .before .args in
+    let legal = legalBy (a .rule) in
+    c .judge2 .ensures ∙ ap (judge legal) (c .before .from-str-radix2 .ensures)
+    ∙ char-decimal legal (a .text .now) (c .before .before .before .before .if1 .left) (c .before .before .if2 .left)
 
 pub parse-number-spec : {M : Type 1} → statement M
 parse-number-spec =

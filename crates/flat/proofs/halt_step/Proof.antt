@@ -1,14 +1,13 @@
 -- A halt is a line end or a blank, one space (`halt-blank`), or a reference: `&lt;` or `&gt;` told by its bytes (`halt-plain`), or what it means
--- decides (`means`): a character is written or forbidden by the rule, a name goes on in `named_step`, a refusal is handed on. Without a memory it may pause instead, and
+-- decides (`means`): a character is written, a name goes on in `named_step`, a refusal is handed on. Without a memory it may pause instead, and
 -- nothing has changed.
 use Prim.Native.Nat.{_+_}
-use mathlib.Core.Path.{_≡_, sym, subst, _∙_}
-use mathlib.Core.Bool.{true≢false}
+use mathlib.Core.Path.{_≡_, subst}
 use native.Mathlib.Omega.{arith}
 use Rattle.memory.proofs.Readings.{lent-within, lent-room, lent-trusts}
 use Rattle.flat.specs.Between.{Means}
 use Rattle.flat.specs.declared.Meaning.{Meaning}
-use Rattle.flat.proofs.Halting.{halt-blank, halt-plain, plain-ascii, halt-char, halt-forbidden, halt-refused}
+use Rattle.flat.proofs.Halting.{halt-blank, halt-plain, plain-ascii, halt-char, halt-refused}
 use borrow.Author.Needs.{needs}
 use Rattle.flat.proofs.halt_step.Statement.{statement}
 use Rattle.flat.proofs.halt_step.Tie as tie
@@ -24,8 +23,8 @@ abbrev entry : tie.After-read-reference → tie.Start
 entry c = entry-quick (c .before .before)
 
 -- what the reference means, as it was matched
-means : (c : tie.After-read-reference) {r : Meaning} → c .read-reference .result ≡ r → Means (entry c .args .text .now) (entry c .args .place .at) r
-means c q = subst (Means (entry c .args .text .now) (entry c .args .place .at)) q (c .read-reference .ensures)
+means : (c : tie.After-read-reference) {r : Meaning} → c .read-reference .result ≡ r → Means (entry c .args .reading .inguard) (entry c .args .text .now) (entry c .args .place .at) r
+means c q = subst (Means (entry c .args .reading .inguard) (entry c .args .text .now) (entry c .args .place .at)) q (c .read-reference .ensures)
 
 shared-slice-read-if1 : tie.Need-shared-slice-read-if1
 shared-slice-read-if1 c = search needs
@@ -93,40 +92,25 @@ read-reference-requires c κs = search needs
 enum-known-c : tie.Need-enum-known-c
 enum-known-c c = search needs
 
-is-forbidden-requires : tie.Need-is-forbidden-requires
-is-forbidden-requires c κs = search needs
-
-same-length-4 : tie.Need-same-length-4
-same-length-4 c = search needs
-
-returns-3 : tie.Need-returns-3
-returns-3 c =
-    let judged = c .before in
-    let read = judged .before .before .before .before in
-    let start = entry read in
-    let a = start .args in
-    let says = judged .is-forbidden .ensures in
-    halt-forbidden (a .reading) (a .text .now) (a .list .now) (a .pool .now) (a .place) (start .pre .1 .0 .0) (a .out .now) (a .seen .now)
-    (start .pre .1 .1 .0 .0) (means read (judged .before .before .c .given .1)) (λ q. true≢false (sym (c .if3 .taken) ∙ says .1 q)) (rw (c .if3 .taken) at (says .0))
-
 write-char-requires : tie.Need-write-char-requires
 write-char-requires c κs =
-    let read = c .before .before .before .before .before .before in
+    let matched = c .before .before in
+    let read = matched .before .before in
     let start = entry read in
     let a = start .args in
     let lent = start .pre .1 .1 .1 in
     let room = lent-room (a .reading) (a .list .now) (a .pool .now) (a .text .now) lent in
     let within = lent-within (a .reading) (a .list .now) (a .pool .now) (a .text .now) lent in
-    (means read (c .before .before .before .before .c .given .1) .small, omega (arith, room, within, start .pre .1 .0 .1))
+    (means read (matched .c .given .1) .small, omega (arith, room, within, start .pre .1 .0 .1))
 
 enum-known-end : tie.Need-enum-known-end
 enum-known-end c = search needs
 
-same-length-5 : tie.Need-same-length-5
-same-length-5 c = search needs
+same-length-4 : tie.Need-same-length-4
+same-length-4 c = search needs
 
-returns-4 : tie.Need-returns-4
-returns-4 c = search needs
+returns-3 : tie.Need-returns-3
+returns-3 c = search needs
 
 named-step-requires : tie.Need-named-step-requires
 named-step-requires c κs =
@@ -137,37 +121,36 @@ named-step-requires c κs =
 enum-known-number : tie.Need-enum-known-number
 enum-known-number c = search needs
 
+same-length-5 : tie.Need-same-length-5
+same-length-5 c = search needs
+
 same-length-6 : tie.Need-same-length-6
 same-length-6 c = search needs
+
+returns-4 : tie.Need-returns-4
+returns-4 c =
+    let wrote = c .before .before in
+    let matched = wrote .before .before .before in
+    let read = matched .before .before in
+    let start = entry read in
+    let a = start .args in
+    halt-char (a .reading) (a .text .now) (a .list .now) (a .pool .now) (a .place) (start .pre .1 .0 .0) (a .out .now) (a .seen .now)
+    (means read (matched .c .given .1)) (wrote .write-char .ensures)
 
 same-length-7 : tie.Need-same-length-7
 same-length-7 c = search needs
 
-returns-5 : tie.Need-returns-5
-returns-5 c =
-    let wrote = c .before .before in
-    let judged = wrote .before .before .before in
-    let read = judged .before .before .before .before in
-    let start = entry read in
-    let a = start .args in
-    halt-char (a .reading) (a .text .now) (a .list .now) (a .pool .now) (a .place) (start .pre .1 .0 .0) (a .out .now) (a .seen .now)
-    (means read (judged .before .before .c .given .1)) (rw (wrote .before .before .if3 .left) at (judged .is-forbidden .ensures .0))
-    (wrote .write-char .ensures)
-
 same-length-8 : tie.Need-same-length-8
 same-length-8 c = search needs
+
+returns-5 : tie.Need-returns-5
+returns-5 c = search needs
 
 same-length-9 : tie.Need-same-length-9
 same-length-9 c = search needs
 
 returns-6 : tie.Need-returns-6
-returns-6 c = search needs
-
-same-length-10 : tie.Need-same-length-10
-same-length-10 c = search needs
-
-returns-7 : tie.Need-returns-7
-returns-7 c =
+returns-6 c =
     let read = c .before .before .before in
     let start = entry read in
     let a = start .args in
@@ -192,20 +175,17 @@ halt-step-spec =
     returns-2
     read-reference-requires
     enum-known-c
-    is-forbidden-requires
-    same-length-4
-    returns-3
     write-char-requires
     enum-known-end
-    same-length-5
-    returns-4
+    same-length-4
+    returns-3
     named-step-requires
     enum-known-number
+    same-length-5
     same-length-6
+    returns-4
     same-length-7
-    returns-5
     same-length-8
+    returns-5
     same-length-9
-    returns-6
-    same-length-10
-    returns-7)
+    returns-6)

@@ -22,14 +22,14 @@ returns : tie.Need-returns
 returns c =
     let parsed = c .before .before .before in
     let a = parsed .before .before .args in
-    number-refused (a .digits .now) (a .next) (sym (parsed .parse-number .ensures)) (c .before .before .match .keys2)
+    number-refused (a .rule) (a .digits .now) (a .next) (sym (parsed .parse-number .ensures)) (c .before .before .match .keys2)
     (c .handed .ensures ∙ ap handedTo (c .before .answer-of .ensures))
 
 returns-2 : tie.Need-returns-2
 returns-2 c =
     let parsed = c .before .before .before in
     let a = parsed .before .before .args in
-    number-char (a .digits .now) (a .next) (sym (parsed .parse-number .ensures) ∙ c .before .n .given .1)
+    number-char (a .rule) (a .digits .now) (a .next) (sym (parsed .parse-number .ensures) ∙ c .before .n .given .1)
 
 pub number-meaning-spec : {M : Type 1} → statement M
 number-meaning-spec =

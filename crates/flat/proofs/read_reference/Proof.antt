@@ -1,4 +1,4 @@
--- Digits that end by themselves are the character (`means-quick`). Else the name's end is looked for: none is a refusal, `#` a number, `amp` the
+-- Digits that end by themselves are the character, where the rule allows it (`means-quick`). Else the name's end is looked for: none is a refusal, `#` a number, `amp` the
 -- character, and any other name is left to the table; each is a law of References.antt.
 use Prim.Native.Nat.{_+_, _≤_, _<_}
 use lib.ListN.{length, getD}
@@ -18,7 +18,7 @@ ended c = c .before .before
 
 -- the name ends at a `;`
 closed : (c : tie.After-shared-slice-known2) → ended c .name-end .result < length (entry (ended c) .args .text .now)
-closed c = omega (arith, ended c .name-end .ensures .to, c .before .if2 .left)
+closed c = omega (arith, ended c .name-end .ensures .to, c .before .if3 .left)
 
 -- the digits start inside, when the name starts with `#`
 digits-inside : (c : tie.After-shared-slice-known2) → getD (entry (ended c) .args .text .now) (entry (ended c) .args .at + 1) 0 ≡ 35
@@ -34,15 +34,24 @@ add-from c = search needs
 quick-reference-requires : tie.Need-quick-reference-requires
 quick-reference-requires c κs = search needs
 
-add-t8 : tie.Need-add-t8
-add-t8 c = omega (arith, c .before .before .quick-reference .ensures (c .before .if1 .taken) .2 .closed .inside, c .before .before .before .before .pre)
+is-allowed-requires : tie.Need-is-allowed-requires
+is-allowed-requires c κs = search needs
+
+add-t10 : tie.Need-add-t10
+add-t10 c =
+    let some = c .before .before .before in
+    let quick = some .before in
+    omega (arith, quick .quick-reference .ensures (some .if1 .taken) .2 .closed .inside, quick .before .before .pre)
 
 returns : tie.Need-returns
 returns c =
-    let quick = c .before .before in
+    let asked = c .before .before in
+    let some = asked .before in
+    let quick = some .before in
     let start = quick .before .before in
-    let found = quick .quick-reference .ensures (c .before .if1 .taken) in
-    means-quick (start .args .text .now) (start .args .at) (start .pre .2) (quick .quick-reference .result) (found .1) (found .2)
+    let found = quick .quick-reference .ensures (some .if1 .taken) in
+    means-quick (start .args .rule) (start .args .text .now) (start .args .at) (start .pre .2) (quick .quick-reference .result) (found .1) (found .2)
+    (rw (c .before .if2 .taken) at (asked .is-allowed .ensures))
 
 name-end-requires : tie.Need-name-end-requires
 name-end-requires c κs = search needs
@@ -51,19 +60,19 @@ returns-2 : tie.Need-returns-2
 returns-2 c =
     let end = c .before in
     let start = entry end in
-    means-none (start .args .text .now) (start .args .at) (start .pre .2) (end .name-end .ensures) (c .if2 .taken)
+    means-none (start .args .rule) (start .args .text .now) (start .args .at) (start .pre .2) (end .name-end .ensures) (c .if3 .taken)
 
-shared-slice-read-if3 : tie.Need-shared-slice-read-if3
-shared-slice-read-if3 c = search needs
+shared-slice-read-if4 : tie.Need-shared-slice-read-if4
+shared-slice-read-if4 c = search needs
 
 add-number-meaning : tie.Need-add-number-meaning
 add-number-meaning c = search needs
 
 sub-number-meaning : tie.Need-sub-number-meaning
-sub-number-meaning c = digits-inside (c .before) (c .if3 .taken)
+sub-number-meaning c = digits-inside (c .before) (c .if4 .taken)
 
 part-number-meaning-start : tie.Need-part-number-meaning-start
-part-number-meaning-start c = digits-inside (c .before) (c .if3 .taken)
+part-number-meaning-start c = digits-inside (c .before) (c .if4 .taken)
 
 part-number-meaning-end : tie.Need-part-number-meaning-end
 part-number-meaning-end c = search needs
@@ -79,7 +88,7 @@ returns-3 c =
     let known = c .before .before .before in
     let end = ended known in
     let start = entry end in
-    means-number (start .args .text .now) (start .args .at) (start .pre .2) (end .name-end .ensures) (closed known) (c .before .before .if3 .taken)
+    means-number (start .args .rule) (start .args .text .now) (start .args .at) (start .pre .2) (end .name-end .ensures) (closed known) (c .before .before .if4 .taken)
     (c .number-meaning .result) (c .number-meaning .ensures)
 
 sub-is-three : tie.Need-sub-is-three
@@ -94,24 +103,24 @@ part-is-three-end c = search needs
 is-three-requires : tie.Need-is-three-requires
 is-three-requires c κs = search needs
 
-add-t24 : tie.Need-add-t24
-add-t24 c = search needs
+add-t26 : tie.Need-add-t26
+add-t26 c = search needs
 
 returns-4 : tie.Need-returns-4
 returns-4 c =
     let known = c .before .before .before .before in
     let end = ended known in
     let start = entry end in
-    means-amp (start .args .text .now) (start .args .at) (start .pre .2) (end .name-end .ensures) (closed known) (c .before .before .before .if3 .left)
-    (sym (c .before .is-three .ensures) ∙ c .if4 .taken)
+    means-amp (start .args .rule) (start .args .text .now) (start .args .at) (start .pre .2) (end .name-end .ensures) (closed known) (c .before .before .before .if4 .left)
+    (sym (c .before .is-three .ensures) ∙ c .if5 .taken)
 
 returns-5 : tie.Need-returns-5
 returns-5 c =
     let known = c .before .before .before .before in
     let end = ended known in
     let start = entry end in
-    means-name (start .args .text .now) (start .args .at) (start .pre .2) (end .name-end .ensures) (closed known) (c .before .before .before .if3 .left)
-    (sym (c .before .is-three .ensures) ∙ c .if4 .left)
+    means-name (start .args .rule) (start .args .text .now) (start .args .at) (start .pre .2) (end .name-end .ensures) (closed known) (c .before .before .before .if4 .left)
+    (sym (c .before .is-three .ensures) ∙ c .if5 .left)
 
 pub read-reference-spec : {M : Type 1} → statement M
 read-reference-spec =
@@ -119,11 +128,12 @@ read-reference-spec =
     (tie.spec
     add-from
     quick-reference-requires
-    add-t8
+    is-allowed-requires
+    add-t10
     returns
     name-end-requires
     returns-2
-    shared-slice-read-if3
+    shared-slice-read-if4
     add-number-meaning
     sub-number-meaning
     part-number-meaning-start
@@ -135,6 +145,6 @@ read-reference-spec =
     part-is-three-start
     part-is-three-end
     is-three-requires
-    add-t24
+    add-t26
     returns-4
     returns-5)

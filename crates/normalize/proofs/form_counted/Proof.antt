@@ -1,8 +1,9 @@
--- `form_counted` counts what is written, and then writes it where it fits.
+-- `form_counted` counts what is written, and then writes it where it fits; where a scratch lacks, a walk that had success is refused
+-- (`lacks-counted`).
 use native.Mathlib.Omega.{arith}
 use Rattle.tokens.specs.Outcome.{Outcome}
-use Rattle.normalize.specs.Calls.{formOf}
-use Rattle.normalize.proofs.Texts.{walks-refused, walks-short, walks-written}
+use Rattle.normalize.specs.Calls.{walkOf, formOf}
+use Rattle.normalize.proofs.Texts.{lacks-refused, lacks-counted, lacks-none, walks-short, walks-written}
 use borrow.Author.Needs.{needs}
 use Rattle.normalize.proofs.form_counted.Statement.{statement}
 use Rattle.normalize.proofs.form_counted.Tie as tie
@@ -13,6 +14,12 @@ entry c = c .before .before .before .before .before .before
 
 abbrev count-of : tie.After-counted → tie.After-normalize-text
 count-of c = c .before .before .before
+
+-- what the text gives
+abbrev given : tie.After-normalize-text → Outcome
+given c =
+    let a = entry c .args in
+    walkOf (a .reading) (a .list .now) (a .pool .now) (a .text .now)
 
 abbrev formed : tie.After-normalize-text → Outcome
 formed c =
@@ -38,14 +45,28 @@ returns : tie.Need-returns
 returns c =
     let count = c .before .before .before in
     let a = entry count .args in
-    walks-refused (a .short) (formed count) (a .out .now) (count .normalize-text .ensures) (c .enum-told .given .1)
+    lacks-refused (a .short) (a .out .now) (a .reading .form) (a .lacks) (a .reading .form) (given count) (count .normalize-text .ensures) (c .enum-told .given .1)
+
+no-scratch-requires : tie.Need-no-scratch-requires
+no-scratch-requires c κs = search needs
 
 returns-2 : tie.Need-returns-2
 returns-2 c =
-    let known = c .before .before in
+    let test = c .before in
+    let known = test .before .before in
     let count = count-of known in
     let a = entry count .args in
-    walks-short (a .short) (formed count) (a .out .now) (count .normalize-text .ensures) (known .counted .given .1) (omega (arith, c .if1 .taken))
+    lacks-counted (a .short) (a .out .now) (a .reading .form) (a .lacks) (a .reading .form) (given count) (count .normalize-text .ensures) (test .if1 .taken)
+    (known .counted .given .1) (c .no-scratch .ensures)
+
+returns-3 : tie.Need-returns-3
+returns-3 c =
+    let test = c .before in
+    let known = test .before .before in
+    let count = count-of known in
+    let a = entry count .args in
+    lacks-none (a .short) (a .out .now) (a .reading .form) (a .lacks) (test .if1 .left) (given count)
+    (walks-short (a .short) (formed count) (a .out .now) (count .normalize-text .ensures) (known .counted .given .1) (omega (arith, c .if2 .taken)))
 
 normalize-text-requires-2 : tie.Need-normalize-text-requires-2
 normalize-text-requires-2 c κs = search needs
@@ -53,15 +74,17 @@ normalize-text-requires-2 c κs = search needs
 same-length : tie.Need-same-length
 same-length c = search needs
 
-returns-3 : tie.Need-returns-3
-returns-3 c =
+returns-4 : tie.Need-returns-4
+returns-4 c =
     let wrote = c .before .before in
     let test = wrote .before .before in
-    let known = test .before .before in
+    let scratch = test .before in
+    let known = scratch .before .before in
     let count = count-of known in
     let a = entry count .args in
-    walks-written (a .short) (formed count) (a .out .now) (count .normalize-text .ensures) (known .counted .given .1) (omega (arith, test .if1 .left))
-    (wrote .normalize-text2 .ensures)
+    lacks-none (a .short) (a .out .now) (a .reading .form) (a .lacks) (scratch .if1 .left) (given count)
+    (walks-written (a .short) (formed count) (a .out .now) (count .normalize-text .ensures) (known .counted .given .1) (omega (arith, test .if2 .left))
+    (wrote .normalize-text2 .ensures))
 
 pub form-counted-spec : {M : Type 1} → statement M
 form-counted-spec =
@@ -73,7 +96,9 @@ form-counted-spec =
     enum-known-counted
     enum-told
     returns
+    no-scratch-requires
     returns-2
+    returns-3
     normalize-text-requires-2
     same-length
-    returns-3)
+    returns-4)

@@ -1,6 +1,6 @@
-use Rattle.legal.specs.Legal.{isChar}
-use Rattle.legal.proofs.is_char.Statement.{statement}
-use Rattle.legal.proofs.is_char.Tie as tie
+use Rattle.charref.specs.Chars.{isChar}
+use Rattle.charref.proofs.is_char.Statement.{statement}
+use Rattle.charref.proofs.is_char.Tie as tie
 
 returns : tie.Need-returns
 unfolding isChar
