@@ -308,8 +308,8 @@ uint32_t govlezna_normalize_attribute_value(const uint8_t *text, size_t text_len
  * Refusals, in this order: TOO_LONG; LIMIT_TOO_LARGE; UNKNOWN_BYTE (version over 2); NOT_UTF8; those of
  * govlezna_check_table; NO_DEPTH (at depth 128 too the value is refused by TOO_DEEP), or what else
  * govlezna_normalize_attribute_value refuses it by at depth 128, with the same answer words. No room is asked for.
- * Time: about that of govlezna_normalize_attribute_value at depth 128 with an output of length 0; up to twice that for a
- * long text that has no & and few TABs and line ends.
+ * Time: about that of govlezna_normalize_attribute_value at depth 128 with an output of length 0; up to two and a half
+ * times that for a long text that has TABs and no & , which is looked at twice.
  * Example: version 0, limit 10, the table above: `a b` needs depth 0, `&lt;` and `&e;` need 1. With the pool `e&lt;` the
  * table defines e as `&lt;`, and `&e;` needs 2; with the pool `e&e;` and a text length of 3 it is refused by
  * TOO_MANY_OPENINGS, first 0, and with limit 1,000,000 by NO_DEPTH.

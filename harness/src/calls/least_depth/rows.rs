@@ -112,6 +112,9 @@ fn inputs() -> Vec<Input> {
         let blanks = (0..size).map(|_| random.pick(b"\t\n\r"));
         add("blanks alone", &blanks.collect::<Vec<u8>>(), &empty);
     }
+    for size in [64, 1024, MEBIBYTE] {
+        add("TABs alone", &vec![b'\t'; size], &empty);
+    }
     for (name, count) in [
         ("40 names, 1,000 references", MANY),
         ("400 names, 1,000 references", 10 * MANY),

@@ -59,13 +59,25 @@ pub const ROWS: &[Documented] = &[
         &[("e", "&f;&lt;&%'")],
     ),
     // Raw characters are not held to Char, nor are those that a reference names.
-    gives("<!ENTITY e '\0\u{FFFE}&#1;&#xFFFE;<>'>", 0, &[("e", "\0\u{FFFE}\u{1}\u{FFFE}<>")]),
+    gives(
+        "<!ENTITY e '\0\u{FFFE}&#1;&#xFFFE;<>'>",
+        0,
+        &[("e", "\0\u{FFFE}\u{1}\u{FFFE}<>")],
+    ),
     departs("\0", 0, 0),
     departs("<!ENTITY \u{FFFE} ''>", 0, 9),
     // Line ends first: one LF of each in the pool.
     gives("<!ENTITY\r\ne\r'a\r\nb\rc'>", 0, &[("e", "a\nb\nc")]),
-    gives("<!ENTITY\u{85}e\u{2028}'\r\u{85}\u{85}\u{2028}\r\n'>", 2, &[("e", "\n\n\n\n")]),
-    gives("<!ENTITY e '\r\u{85}\u{2028}'>", 1, &[("e", "\n\u{85}\u{2028}")]),
+    gives(
+        "<!ENTITY\u{85}e\u{2028}'\r\u{85}\u{85}\u{2028}\r\n'>",
+        2,
+        &[("e", "\n\n\n\n")],
+    ),
+    gives(
+        "<!ENTITY e '\r\u{85}\u{2028}'>",
+        1,
+        &[("e", "\n\u{85}\u{2028}")],
+    ),
     departs("<!ENTITY\u{85}e ''>", 0, 8),
     departs("<!ENTITY e\u{2028}''>", 1, 10),
     // Offsets count after them, between `&#` and `;` too.

@@ -58,7 +58,9 @@ unsafe extern "C" fn copy(
     _: Text,
 ) {
     let copies = &mut *copies.cast::<Copies>();
-    copies.bytes.extend_from_slice(CStr::from_ptr(name).to_bytes());
+    copies
+        .bytes
+        .extend_from_slice(CStr::from_ptr(name).to_bytes());
     let value = std::slice::from_raw_parts(value.cast::<u8>(), length as usize);
     copies.bytes.extend_from_slice(value);
     copies.count += 1;

@@ -151,25 +151,33 @@ fn every_text_of(
 }
 
 pub fn every_short_text(_: &mut Random, sink: &mut Sink) {
-    let pieces = ["<!ENTITY", " ", "a", "\"", "'", ">", "&", "#", ";", "%", "\r"];
+    let pieces = [
+        "<!ENTITY", " ", "a", "\"", "'", ">", "&", "#", ";", "%", "\r",
+    ];
     every_text_of(&pieces, 5, &[("", "")], &[0], sink);
     let pieces = ["<!ENTITY ", "a ", "'b'", ">", "\r\n", "\u{85}", "&a;"];
     every_text_of(&pieces, 6, &[("", "")], &[2], sink);
     let pieces = ["<", "!", "E", "N", "T", "I", "Y", " "];
     every_text_of(&pieces, 4, &[("", ""), ("<!ENT", " a ''>")], &[0], sink);
     // What stands around a name and a value.
-    let pieces = [" ", "\t", "\n", "\u{85}", "\u{2028}", "a", "1", "-", "%", "\"b\"", ">"];
+    let pieces = [
+        " ", "\t", "\n", "\u{85}", "\u{2028}", "a", "1", "-", "%", "\"b\"", ">",
+    ];
     let around = [("<!ENTITY", ""), ("<!ENTITY a", ">"), ("<!ENTITY a ''", "")];
     every_text_of(&pieces, 4, &around, &OLDER_AND_NEWER, sink);
 }
 
 pub fn every_short_value(_: &mut Random, sink: &mut Sink) {
-    let pieces = ["&", "#", ";", "\"", "'", "%", "a", "1", "x", "\r", "\n", " ", ">"];
+    let pieces = [
+        "&", "#", ";", "\"", "'", "%", "a", "1", "x", "\r", "\n", " ", ">",
+    ];
     let around = [("<!ENTITY a \"", "\">"), ("<!ENTITY a \"", "")];
     every_text_of(&pieces, 4, &around, &OLDER_AND_NEWER, sink);
     let pieces = ["&", "#", ";", "'", "a", "1", "0", "x", "F"];
     every_text_of(&pieces, 5, &[("<!ENTITY a '&", "'>")], &[0], sink);
-    let pieces = ["&#", "&", ";", "x", "D800", "1114112", "-", "+", "0", "\u{E9}", "\r\n"];
+    let pieces = [
+        "&#", "&", ";", "x", "D800", "1114112", "-", "+", "0", "\u{E9}", "\r\n",
+    ];
     every_text_of(&pieces, 4, &[("<!ENTITY a '", ";'>")], &[1], sink);
 }
 
@@ -195,7 +203,13 @@ pub fn every_line_end(_: &mut Random, sink: &mut Sink) {
 
 /// Every length of list and pool about those needed.
 pub fn every_room(_: &mut Random, sink: &mut Sink) {
-    for text in ["", TEXTS[0], TEXTS[1], "<!ENTITY a ''>", "<!ENTITY a '&#xDF;&#x1D11E;'> %"] {
+    for text in [
+        "",
+        TEXTS[0],
+        TEXTS[1],
+        "<!ENTITY a ''>",
+        "<!ENTITY a '&#xDF;&#x1D11E;'> %",
+    ] {
         for list in 0..=42 {
             for pool in 0..=10 {
                 for choice in OLDER_AND_NEWER {
@@ -233,7 +247,13 @@ pub fn every_length(random: &mut Random, sink: &mut Sink) {
             format!("<!ENTITY a{}>", run("\u{EFFFF}")),
             format!("<!ENTITY a '&{};'>", run("n.")),
             format!("<!ENTITY a '&#{}65;'>", run("0")),
-            format!("{}<!ENTITY{}a{}'v'{}>", run(" "), run("\t"), run("\r\n"), run("\n")),
+            format!(
+                "{}<!ENTITY{}a{}'v'{}>",
+                run(" "),
+                run("\t"),
+                run("\r\n"),
+                run("\n")
+            ),
             "<!ENTITY a 'v'>".repeat(length),
         ];
         for text in &texts {
@@ -252,9 +272,8 @@ pub fn every_length(random: &mut Random, sink: &mut Sink) {
 /// Values, declarations and pools at their limits and one past them, and faults before and after.
 pub fn longest(_: &mut Random, sink: &mut Sink) {
     for length in LONGEST_REPLACEMENT - 1..=LONGEST_REPLACEMENT + 2 {
-        let filled = |piece: &str, bytes: usize| {
-            "v".repeat(length % bytes) + &piece.repeat(length / bytes)
-        };
+        let filled =
+            |piece: &str, bytes: usize| "v".repeat(length % bytes) + &piece.repeat(length / bytes);
         let references = filled("&#xE9;", 2);
         let values = [
             filled("v", 1),
@@ -384,8 +403,12 @@ fn random_piece(random: &mut Random, quote: &str) -> String {
         0 => format!("&#{};", random.within(1, 0xD7FF)),
         1 => format!("&#x{:X};", random.within(0xE000, 0x10FFFF)),
         2 => format!("&{};", random_name(random)),
-        3 => random.pick(&["\r\n", "\r", "\n", "\u{85}", "\u{2028}"]).to_string(),
-        4 => random.pick(&["\u{E9}", "\u{20AC}", "\u{1D11E}", "\u{1}", "\u{FFFE}"]).to_string(),
+        3 => random
+            .pick(&["\r\n", "\r", "\n", "\u{85}", "\u{2028}"])
+            .to_string(),
+        4 => random
+            .pick(&["\u{E9}", "\u{20AC}", "\u{1D11E}", "\u{1}", "\u{FFFE}"])
+            .to_string(),
         5 if quote == "'" => "\"".to_string(),
         _ => random.pick(&["sail", "<", ">", "#", ";", " "]).to_string(),
     }

@@ -99,9 +99,23 @@ pub fn timed(run: impl Ours) -> Vec<Row> {
     for (kind, value) in KINDS {
         for (number, said) in NUMBERS {
             let input = format!("{said} declarations, {kind}").leak();
-            rows.push(beside_expat("read_declarations, 1.0", input, 0, (number, value), run, expat));
+            rows.push(beside_expat(
+                "read_declarations, 1.0",
+                input,
+                0,
+                (number, value),
+                run,
+                expat,
+            ));
             if number == 4000 {
-                rows.push(beside_expat("read_declarations, 1.1", input, 2, (number, value), run, expat));
+                rows.push(beside_expat(
+                    "read_declarations, 1.1",
+                    input,
+                    2,
+                    (number, value),
+                    run,
+                    expat,
+                ));
             }
         }
     }
