@@ -1,4 +1,4 @@
--- Demand 1: each call refuses by the numbers of document 01 alone, and a refusal leaves what it was lent. Assumes nothing.
+-- Demand 1: each call refuses by the numbers of documents 01 and 02 alone, and a refusal leaves what it was lent. Assumes nothing.
 use mathlib.Core.Path.{_≡_, refl}
 use Prim.Native.Nat.{ℕ, _+_}
 use mathlib.Core.Bool.{Bool, true, false}
@@ -156,7 +156,7 @@ unfolding checkTableCall
 check-table-refuses list pool =
     call-refuses tableNumbers [] (tableCheck list pool) (by-table (In tableNumbers) (record { six = refl; seven = refl; eight = refl; nine = refl }) list pool)
 
--- Demand 1: unescaping answers 0, or refuses by 1, 5 to 15 or 19 and leaves the output's bytes untouched.
+-- Demand 1: unescaping answers 0, or refuses by 1, 5 to 15, 19 or 27 and leaves the output's bytes untouched.
 pub unescape-refuses : (text list pool out : List ℕ)
     → Refuses unescapeNumbers (out ∷ []) (unescapeCall text list pool out)
 unfolding unescapeCall
@@ -181,7 +181,7 @@ module _ (numbers : List ℕ) (text : List ℕ) (version depth limit : ℕ) (lis
   pub fails-walked : WalkNumbers (In numbers) → Fails (In numbers) (walked text version depth limit list pool)
   fails-walked h = fails-reading (In numbers) h (ruleOf version) list pool limit depth text
 
--- Demand 1: normalization answers 0, or refuses by 1 to 17 or 19 and leaves the output's bytes untouched.
+-- Demand 1: normalization answers 0, or refuses by 1 to 17, 19 or 27 and leaves the output's bytes untouched.
 pub normalize-attribute-value-refuses : (text : List ℕ) (version depth limit : ℕ) (list pool out : List ℕ)
     → Refuses valueNumbers (out ∷ [])
     (normalizeAttributeValueCall text version depth limit list pool out)
@@ -217,7 +217,7 @@ formed-refuses r (done value openings) scratch out h = go (ltb (length scratch) 
     go false false = success (length form ∷ openings ∷ []) (handed value scratch ∷ laid form out ∷ [])
 formed-refuses r (refused before openings why first second) scratch out h = refusal why (first ∷ second ∷ []) h
 
--- Demand 1: the canonical form answers 0, or refuses by 1 to 19 and leaves the output's bytes untouched, and the scratch's.
+-- Demand 1: the canonical form answers 0, or refuses by 1 to 19 or 27 and leaves the output's bytes untouched, and the scratch's.
 pub canonical-form-refuses : (text : List ℕ) (version depth limit : ℕ) (list pool scratch out : List ℕ)
     → Refuses formNumbers (scratch ∷ out ∷ []) (canonicalFormCall text version depth limit list pool scratch out)
 unfolding canonicalFormCall

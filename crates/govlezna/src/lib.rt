@@ -207,7 +207,7 @@ pub extern "C" fn govlezna_normalize_attribute_value_strict(
     )
 }
 
-// The canonical form of the normalized value, which the scratch takes. Success: the length written, the openings.
+// The canonical form of the normalized value, whose last character the scratch takes. Success: the length written, the openings.
 #[no_mangle]
 pub extern "C" fn govlezna_canonical_form(
     text: &[u8],
@@ -248,7 +248,7 @@ pub extern "C" fn govlezna_canonical_form(
     )
 }
 
-// The canonical form of the value that is normalized so, which the scratch takes. Success: the length written, the openings.
+// The canonical form of the value that is normalized so, whose last character the scratch takes. Success: the length written, the openings.
 #[no_mangle]
 pub extern "C" fn govlezna_canonical_form_strict(
     text: &[u8],
