@@ -20,8 +20,8 @@ enum Parsed {
     NoNumber,
 }
 
-// A character, or the refusal of its number: refusals::UNEXPECTED_SIGN, 13, 14 with the value, 15; 25, a character that the rule of the
-// reading does not allow (document 02, K8).
+// A character, or the refusal of its number: 12, 13, 14 with the value, 15; 25 where the rule that the caller wants does not allow the
+// character (document 02, K8).
 pub enum CharNumber {
     Char(u32),
     UnexpectedSign,

@@ -1,5 +1,6 @@
 -- Halts: the stops that are no single blank. Where the depth is not used up, all between two halts is written byte by byte, TAB and LF
--- as spaces. The terms in which searches and copies are proved; no promise of a call rests on them. Assumes nothing.
+-- as spaces. The terms in which searches and copies are proved. No promise of a call rests on them; theorems of K4 and K9 rest on `stopByte`
+-- and `anyStop`. Assumes nothing.
 use Prim.Native.Nat.{ℕ, _+_, _≤_, _<_}
 use mathlib.Core.Path.{_≡_}
 use mathlib.Core.Bool.{Bool, true, false, _&&_, _||_}

@@ -1,5 +1,5 @@
 -- Where runs end, over any test for the bytes at which a run stops: the terms in which searches and the copies made while searching are
--- proved; no promise of a call rests on them. Assumes nothing.
+-- proved. No promise of a call rests on them; theorems of K9 rest on `isAmp`. Assumes nothing.
 use Prim.Native.Nat.{ℕ, _+_, _-_, _≤_, _<_}
 use mathlib.Core.Path.{_≡_}
 use mathlib.Core.Bool.{Bool, true, _&&_, _||_}
