@@ -1,5 +1,5 @@
--- K4, of the calls, wherever the reference stands: a text of a marked list has a space for each TAB, LF and CR (`k4-gives`); these and `&` are its
--- stop bytes under either version (`k4-gives`, `k4-stopped`); and the standard's own example (`k4-example`). Assumes nothing.
+-- K4, of the calls, wherever the reference stands: a text of a marked list has a space for each TAB, LF and CR (`k4-gives`, `k4-form`, `k4-list`); these
+-- and `&` are its stop bytes under either version (`k4-gives`, `k4-stopped`); and the standard's own example (`k4-example`). Assumes nothing.
 use mathlib.Core.Path.{_≡_, refl, sym, ap, ap₂, _∙_}
 use Prim.Native.Nat.{ℕ, suc}
 use mathlib.Core.Bool.{Bool, true, false, _||_, true≢false}
@@ -8,7 +8,7 @@ use lib.Dec.{eqb}
 use lib.ListN.{length, take}
 use borrow.Author.Tests.{ne-eqb}
 use Rattle.text.specs.Version.{Rule, ruleOf}
-use Rattle.text.specs.Call.{called, lengthCheck, utf8Check}
+use Rattle.text.specs.Call.{called, laid, lengthCheck, utf8Check}
 use Rattle.text.specs.Utf8.{utf8End}
 use Rattle.text.proofs.Bytes.{or-left, or-right}
 use Rattle.entity.specs.Table.{marked, tableCheck}
@@ -26,16 +26,19 @@ use Rattle.attribute.specs.Checks.{settingsCheck}
 use Rattle.attribute.proofs.Stops.{IsStop, heads-copy, heads-stop}
 use Rattle.attribute.proofs.Single.{walk-plain}
 use Rattle.govlezna.specs.Calls.{normalizeAttributeValueCall}
-use Rattle.demands.specs.Demands.{Asked, ruleFor}
-use Rattle.demands.specs.CallDemands.{normalizeOf}
-use Rattle.requests.specs.Marked.{eachSpace, MarkedGives, spaced, copied, StopsIn, valuesBefore, Begins}
+use Rattle.demands.specs.Demands.{Asked, ruleFor, Accepted, formOf}
+use Rattle.demands.specs.CallDemands.{normalizeOf, canonicalOf}
+use Rattle.demands.proofs.CallDemands.{first-bytes, canonical-answered}
+use Rattle.requests.specs.Marked.{eachSpace, MarkedGives, spaced, copied, StopsIn, valuesBefore, Begins, LeadsTo, FormBegins, ListBegins}
 use Rattle.requests.specs.External.{ReferenceIn, Through, itself, through}
 use Rattle.requests.specs.Reached.{headsIn, stopped, Opens, Within, here, inside, RefusedAt}
-use Rattle.requests.specs.Refused.{AnswersSo}
-use Rattle.requests.specs.Unused.{normalizing, callWith}
+use Rattle.requests.specs.Refused.{WithinValue, RefusedThere, AnswersSo}
+use Rattle.requests.specs.Nmtokens.{nmtokensOf}
+use Rattle.requests.specs.Unused.{Reader, normalizing, forming, listing, unescaping, callWith}
 use Rattle.requests.proofs.Readings.{gave}
 use Rattle.requests.proofs.Reached.{walk-run, refused-reached}
 use Rattle.requests.proofs.Refused.{refused-there}
+use Rattle.requests.proofs.Nmtokens.{k5-result}
 use Rattle.requests.proofs.BeforeReference.{value-run}
 use Rattle.requests.proofs.External.{through-within}
 
@@ -185,15 +188,59 @@ k4-gives a marks gives w out {size} {openings} {left} e =
     let y = gave false a out e in
     record { rest = x .rest; is = sym (ap produced (y .reads)) ∙ x .is }
 
+-- what the walk gave begins so
+accepted-begins : (a : Asked) → marked (a .list) ≡ true → (gives : List ℕ)
+    (w : Through (readingBy false (ruleFor a) (a .list) (a .pool) (a .limit)) (MarkedGives gives) inValue (a .depth) (a .text) 0) → (value : List ℕ) (openings : ℕ)
+    → Accepted a value openings → Begins value (valuesBefore (readingBy false (ruleFor a) (a .list) (a .pool) (a .limit)) (MarkedGives gives) w ++ gives)
+unfolding readingBy normalize
+accepted-begins a marks gives w value openings p =
+    let x = walk-begins (ruleFor a) (a .list) (a .pool) (a .limit) marks gives w in
+    record { rest = x .rest; is = sym (ap produced (p .reads)) ∙ x .is }
+
+-- K4, of the canonical form: that of a value which begins so
+pub k4-form : (a : Asked) → marked (a .list) ≡ true → (gives : List ℕ)
+    (w : Through (readingBy false (ruleFor a) (a .list) (a .pool) (a .limit)) (MarkedGives gives) inValue (a .depth) (a .text) 0)
+    → (scratch out : List ℕ) {size openings : ℕ} {held left : List ℕ} → canonicalOf a scratch out ≡ called 0 (size ∷ openings ∷ []) (held ∷ left ∷ [])
+    → FormBegins a (take size left) (valuesBefore (readingBy false (ruleFor a) (a .list) (a .pool) (a .limit)) (MarkedGives gives) w ++ gives)
+k4-form a marks gives w scratch out {size} {openings} {held} {left} e =
+    let x = canonical-answered a scratch out e in
+    let ws = x .words-are in
+    let bs = x .buffers-are in
+    let n : size ≡ length (formOf a (x .value)) = cc in
+    let l : left ≡ laid (formOf a (x .value)) out = cc in
+    record {
+      value = x .value;
+      begins = accepted-begins a marks gives w (x .value) (x .openings) (x .accepted);
+      form-is = first-bytes (formOf a (x .value)) out n l;
+    }
+
+-- K4, of a list of tokens: that of a value which begins so
+pub k4-list : (a : Asked) → marked (a .list) ≡ true → (gives : List ℕ)
+    (w : Through (readingBy false (ruleFor a) (a .list) (a .pool) (a .limit)) (MarkedGives gives) inValue (a .depth) (a .text) 0)
+    → (scratch out : List ℕ) {size openings : ℕ} {held left : List ℕ} → nmtokensOf a scratch out ≡ called 0 (size ∷ openings ∷ []) (held ∷ left ∷ [])
+    → ListBegins (take size left) (valuesBefore (readingBy false (ruleFor a) (a .list) (a .pool) (a .limit)) (MarkedGives gives) w ++ gives)
+k4-list a marks gives w scratch out {size} {openings} {held} {left} e =
+    let x = k5-result a scratch out e in
+    record { value = x .value; begins = accepted-begins a marks gives w (x .value) openings (x .accepted); result-is = x .result }
+
 -- K4: "the stop bytes are those three and `&` under either version": a text with any of them that is opened with the depth used up is 16, at any depth
--- of nesting
-pub k4-stopped : (t : List ℕ) (version depth limit : ℕ) (list pool out : List ℕ) → marked list ≡ true
-    → Through (readingBy false (ruleOf version) list pool limit) StopsIn inValue depth t 0
-    → AnswersSo (normalizing false t version depth limit out) 16 0 0 (callWith (normalizing false t version depth limit out) list pool)
-k4-stopped t version depth limit list pool out marks w =
-    let s = readingBy false (ruleOf version) list pool limit in
-    refused-there (normalizing false t version depth limit out) list pool
-    (within-join s StopsIn (RefusedAt s 16 0 0) (stops-refused (ruleOf version) list pool limit marks) (through-within false (ruleOf version) list pool limit StopsIn w))
+-- of nesting, of every lenient call
+pub k4-stopped : (reader : Reader) (list pool : List ℕ) → marked list ≡ true → LeadsTo StopsIn reader list pool → AnswersSo reader 16 0 0 (callWith reader list pool)
+k4-stopped reader list pool marks w = refused-there reader list pool (go reader w)
+  where
+    value : (t : List ℕ) (version depth limit : ℕ) → Through (readingBy false (ruleOf version) list pool limit) StopsIn inValue depth t 0
+        → WithinValue (λ s. RefusedAt s 16 0 0) false t version depth limit list pool
+    value t version depth limit x =
+        let s = readingBy false (ruleOf version) list pool limit in
+        within-join s StopsIn (RefusedAt s 16 0 0) (stops-refused (ruleOf version) list pool limit marks) (through-within false (ruleOf version) list pool limit StopsIn x)
+
+    go : (r : Reader) → LeadsTo StopsIn r list pool → RefusedThere r list pool 16 0 0
+    go (normalizing false t version depth limit out) x = value t version depth limit x
+    go (normalizing true t version depth limit out) x = absurd x
+    go (forming false t version depth limit scratch out) x = value t version depth limit x
+    go (forming true t version depth limit scratch out) x = absurd x
+    go (listing t version depth limit scratch out) x = value t version depth limit x
+    go (unescaping t out) x = absurd x
 
 -- ---- the example of XML 1.0, 3.3.3: d = CR, a = LF, da = CR LF
 

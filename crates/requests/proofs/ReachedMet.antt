@@ -1,6 +1,6 @@
 -- The premises of what is said of references and raw characters are met by calls with a table that defines something, by computation: K9, in a text that
 -- is opened and in unescaping (`k9-met`, `k9-text-met`); K8, 26 in a text that is opened (`k8-26-met`), 25 (`k8-25-met`), and neither (`k8-same-met`);
--- K4 (`k4-met`, `k4-copied-met`, `k4-stopped-met`). Assumes nothing.
+-- K4 (`k4-met`, `k4-copied-met`, `k4-form-met`, `k4-list-met`, `k4-stopped-met`). Assumes nothing.
 use mathlib.Core.Path.{_≡_, refl}
 use Prim.Native.Nat.{ℕ}
 use native.Mathlib.Omega.{arith}
@@ -20,20 +20,23 @@ use Rattle.unescape.specs.Unescape.{unescape}
 use Rattle.attribute.specs.Checks.{settingsCheck}
 use Rattle.attribute.specs.Walk.{walk, normalize, readingOf}
 use Rattle.attribute.specs.Strict.{readingBy}
-use Rattle.govlezna.specs.Calls.{normalizeAttributeValueCall, normalizeAttributeValueStrictCall}
+use Rattle.attribute.specs.Form.{formed}
+use Rattle.nmtokens.specs.Nmtokens.{collapsed}
+use Rattle.govlezna.specs.Calls.{normalizeAttributeValueCall, normalizeAttributeValueStrictCall, canonicalFormCall, normalizeNmtokensCall}
 use Rattle.demands.specs.Demands.{Asked, ruleFor}
-use Rattle.demands.specs.CallDemands.{normalizeOf}
+use Rattle.demands.specs.CallDemands.{normalizeOf, canonicalOf}
 use Rattle.requests.specs.Strict.{strictNormalizeOf}
 use Rattle.requests.specs.Unused.{Reader, normalizing, unescaping, callWith}
 use Rattle.requests.specs.Reached.{here, inside}
 use Rattle.requests.specs.Refused.{AnswersSo, Barred, OutsideChar, WithinStrict, Answered27, Answered26, Answered25}
 use Rattle.requests.specs.External.{Through, itself, through, RefersThere}
 use Rattle.requests.specs.Allowed.{allowedFrom, walkTexts, Allowed}
-use Rattle.requests.specs.Marked.{MarkedGives, spaced, copied, StopsIn, valuesBefore, Begins}
+use Rattle.requests.specs.Marked.{MarkedGives, spaced, copied, StopsIn, valuesBefore, Begins, FormBegins, ListBegins}
+use Rattle.requests.specs.Nmtokens.{nmtokensOf}
 use Rattle.requests.proofs.WhenRefused.{k9-only, k8-26-there, k8-26-only, k8-25-there, k8-25-only}
 use Rattle.requests.proofs.External.{k9-refers}
 use Rattle.requests.proofs.Allowed.{k8-same}
-use Rattle.requests.proofs.Marked.{k4-gives, k4-stopped}
+use Rattle.requests.proofs.Marked.{k4-gives, k4-form, k4-list, k4-stopped}
 
 -- ---- K9: e = `b&x;`, x external
 
@@ -225,7 +228,23 @@ k4-copied-met : Begins (97 ∷ 120 ∷ []) (97 ∷ 120 ∷ [])
 unfolding marked valuesBefore leads-plain
 k4-copied-met = k4-gives (markedAsked 1 120) refl (120 ∷ []) leads-plain (7 ∷ 7 ∷ []) (marked-answers .1)
 
+form-answers : canonicalOf (markedAsked 2 9) (7 ∷ 7 ∷ 7 ∷ 7 ∷ []) (7 ∷ 7 ∷ []) ≡ called 0 (2 ∷ 1 ∷ []) ((32 ∷ 0 ∷ 0 ∷ 0 ∷ []) ∷ (97 ∷ 32 ∷ []) ∷ [])
+unfolding canonicalFormCall lengthCheck settingsCheck utf8Check utf8End tableCheck formed normalize readingOf
+form-answers = refl
+
+k4-form-met : FormBegins (markedAsked 2 9) (97 ∷ 32 ∷ []) (97 ∷ 32 ∷ [])
+unfolding marked valuesBefore leads-tab
+k4-form-met = k4-form (markedAsked 2 9) refl (32 ∷ []) leads-tab (7 ∷ 7 ∷ 7 ∷ 7 ∷ []) (7 ∷ 7 ∷ []) form-answers
+
+list-answers : nmtokensOf (markedAsked 2 9) (7 ∷ 7 ∷ []) (7 ∷ 7 ∷ []) ≡ called 0 (1 ∷ 1 ∷ []) ((97 ∷ 32 ∷ []) ∷ (97 ∷ 7 ∷ []) ∷ [])
+unfolding normalizeNmtokensCall lengthCheck settingsCheck utf8Check utf8End tableCheck collapsed normalize readingOf
+list-answers = refl
+
+k4-list-met : ListBegins (97 ∷ []) (97 ∷ 32 ∷ [])
+unfolding marked valuesBefore leads-tab
+k4-list-met = k4-list (markedAsked 2 9) refl (32 ∷ []) leads-tab (7 ∷ 7 ∷ []) (7 ∷ 7 ∷ []) list-answers
+
 k4-stopped-met : AnswersSo (normalizing false (97 ∷ 38 ∷ 101 ∷ 59 ∷ []) 0 1 1 (7 ∷ [])) 16 0 0
     (callWith (normalizing false (97 ∷ 38 ∷ 101 ∷ 59 ∷ []) 0 1 1 (7 ∷ [])) (3 ∷ controlList) (101 ∷ 9 ∷ []))
 unfolding marked
-k4-stopped-met = k4-stopped (97 ∷ 38 ∷ 101 ∷ 59 ∷ []) 0 1 1 (3 ∷ controlList) (101 ∷ 9 ∷ []) (7 ∷ []) refl leads-stop
+k4-stopped-met = k4-stopped (normalizing false (97 ∷ 38 ∷ 101 ∷ 59 ∷ []) 0 1 1 (7 ∷ [])) (3 ∷ controlList) (101 ∷ 9 ∷ []) refl leads-stop
