@@ -1,6 +1,6 @@
 /*
- * How much stack the calls use at depth 128, and those on a register of 300 forms. Each input runs in a thread whose stack was filled with one byte; the bytes
- * that changed are what the thread used. A thread that makes no call is measured first, and taken off.
+ * How much stack the calls use at depth 128, those on a register of 300 forms, and the reading of declarations. Each input runs in a thread whose
+ * stack was filled with one byte; the bytes that changed are what the thread used. A thread that makes no call is measured first, and taken off.
  */
 #define _POSIX_C_SOURCE 200809L
 
@@ -112,7 +112,7 @@ static uint32_t least_depth(const struct job *job, uint64_t answer[2])
     return number == GOVLEZNA_NO_DEPTH ? GOVLEZNA_TOO_DEEP : number; /* as the calls that are handed the depth */
 }
 
-/* A register of 300 forms of three digits. */
+/* A register of 300 forms of three digits; the version says which call. */
 static uint32_t register_call(const struct job *job, uint64_t answer[2])
 {
     uint64_t length = 0;
@@ -126,6 +126,18 @@ static uint32_t register_call(const struct job *job, uint64_t answer[2])
         return govlezna_register_count(scratch, 0, scratch, ROOM, length, answer);
     return (job->version == 1 ? govlezna_register_add : govlezna_register_withdraw)((const uint8_t *)"299", 3, scratch, ROOM,
                                                                                     &length, answer);
+}
+
+/* Every kind of character and reference in a value, a name of 255 bytes, and, under 1, a fault at the end, whose offset is counted after line ends. */
+static uint32_t declarations(const struct job *job, uint64_t answer[2])
+{
+    static char declared[1024];
+    char name[256];
+    memset(name, 'n', 255), name[255] = 0;
+    snprintf(declared, sizeof declared,
+             "<!ENTITY %s 'sail'>\r\n<!ENTITY \xC3\xA9 \"\t\r\n\xE2\x82\xAC\xC2\x85&#65;&#x20AC;&#x1F600;&%s;\" >%s", name, name,
+             job->version == 1 ? "\r\n%" : "");
+    return govlezna_read_declarations((const uint8_t *)declared, strlen(declared), job->version, scratch, ROOM, out, ROOM, answer);
 }
 
 static void *run(void *given)
@@ -167,15 +179,15 @@ static size_t measure(struct job job, const char *last, uint32_t expected)
     return job.number == expected ? bytes : 0;
 }
 
-/* The most that the three calls take; 0 where one is refused. */
-static size_t measure_registers(void)
+/* The most that a call takes with the versions 0 to 2; 0 where one of them has another answer than is expected. */
+static size_t measure_versions(uint32_t (*call)(const struct job *, uint64_t *), const uint32_t expected[3])
 {
     struct job none = { .call = no_call };
     size_t most = 0, before = used(&none);
-    for (uint8_t which = 0; which < 3; which++) {
-        struct job job = { .call = register_call, .version = which };
+    for (uint8_t version = 0; version < 3; version++) {
+        struct job job = { .call = call, .version = version };
         size_t bytes = used(&job) - before;
-        if (job.number != 0)
+        if (job.number != expected[version])
             return 0;
         most = bytes > most ? bytes : most;
     }
@@ -194,7 +206,9 @@ int main(void)
     } walks[] = { { "x", 0, 0 },        { "x", 2, 0 },
                   { "\t", 0, GOVLEZNA_TOO_DEEP }, { "&a0;", 2, GOVLEZNA_TOO_DEEP },
                   { "\xC2\xBD", 0, 0 }, { "\xC2\xBD", 2, GOVLEZNA_TOO_DEEP } };
-    size_t most = 0, least = SIZE_MAX, registers = measure_registers();
+    static const uint32_t accepted[3] = { 0 }, faulty[3] = { 0, GOVLEZNA_MALFORMED_DECLARATION, 0 };
+    size_t most = 0, least = SIZE_MAX, registers = measure_versions(register_call, accepted),
+           reading = measure_versions(declarations, faulty);
     for (size_t i = 0; i < CALLS * (sizeof walks / sizeof walks[0]); i++) {
         struct job job = { .call = calls[i % CALLS], .version = walks[i / CALLS].version };
         size_t bytes = measure(job, walks[i / CALLS].last, walks[i / CALLS].expected);
@@ -203,5 +217,6 @@ int main(void)
     }
     printf("stack at depth %d: %zu bytes; promised: at most %zu\n", DEPTH, most, PROMISED);
     printf("stack with 300 forms: %zu bytes; promised: at most %zu\n", registers, PROMISED_OF_REGISTERS);
-    return least == 0 || most > PROMISED || registers == 0 || registers > PROMISED_OF_REGISTERS;
+    printf("stack with declarations: %zu bytes; promised: at most %zu\n", reading, PROMISED);
+    return least == 0 || most > PROMISED || registers == 0 || registers > PROMISED_OF_REGISTERS || reading == 0 || reading > PROMISED;
 }
