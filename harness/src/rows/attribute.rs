@@ -165,7 +165,7 @@ pub fn short_values(
         ),
     ];
     for (input, text) in inputs {
-        rows.push(value_row(call, input, &text, version, sides));
+        rows.push(value_row(call, input, &text, version, Room::Ample, sides));
     }
 }
 
@@ -181,8 +181,23 @@ fn letters_and(pieces: &[(usize, &str)], size: usize) -> Vec<u8> {
 pub fn long_values(rows: &mut Vec<Row>, call: &str, version: u8, sides: (impl Ours, TableRule)) {
     for (input, pieces, distance) in INPUTS {
         let text = letters_with(pieces, distance, MEBIBYTE);
-        rows.push(value_row(call, input, &text, version, sides));
+        rows.push(value_row(call, input, &text, version, Room::Ample, sides));
     }
+}
+
+/// Long values of each kind under 1.0, in an output just as long as the result.
+pub fn exact_values(rows: &mut Vec<Row>, call: &str, sides: (impl Ours, TableRule)) {
+    for (input, pieces, distance) in INPUTS {
+        let text = letters_with(pieces, distance, MEBIBYTE);
+        let input = format!("{input}, exact room");
+        rows.push(value_row(call, &input, &text, 0, Room::Exact, sides));
+    }
+}
+
+/// How long the output is: longer than any result, or just as long as it.
+enum Room {
+    Ample,
+    Exact,
 }
 
 /// A text that names nothing of the table has none.
@@ -191,13 +206,20 @@ fn value_row(
     input: &str,
     text: &[u8],
     version: u8,
+    room: Room,
     (run, rule): (impl Ours, TableRule),
 ) -> Row {
     let names_one = text.windows(3).any(|part| part == b"&a;" || part == b"&n;");
     let definitions = if names_one { &DEFINITIONS[..] } else { &[] };
     let tables = Tables::new(Draft::of(definitions));
-    let (text, room) = (aligned(text), GROWTH * text.len());
-    let read = tables.read;
+    let (text, read) = (aligned(text), tables.read);
+    let room = match room {
+        Room::Ample => GROWTH * text.len(),
+        Room::Exact => {
+            let (value, _) = rule(from_utf8(text).unwrap(), version, read).unwrap();
+            value.len()
+        }
+    };
     Row {
         call: call.to_string(),
         input: input.to_string(),

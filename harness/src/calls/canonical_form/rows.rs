@@ -3,7 +3,7 @@
 use crate::arguments::{HAND, LONGEST_TEXT};
 use crate::counting;
 use crate::draft::Draft;
-use crate::rows::attribute::{self, long_values, short_values};
+use crate::rows::attribute::{self, exact_values, long_values, short_values};
 use crate::rows::attribute::{rust_normalize, rust_normalize_strictly};
 use crate::rows::table::{ours, Ours, TableRule, Tables};
 use crate::rust::escape::{escape_attribute, EscapeError};
@@ -39,6 +39,7 @@ pub fn counted(rows: &mut Vec<counting::Row>, run: impl Ours) {
         short_values(rows, call, version, 64, sides);
         long_values(rows, call, version, sides);
     }
+    exact_values(rows, CALLS[0], sides);
 }
 
 pub fn strictly_timed(run: impl Ours) -> Vec<timing::Row> {
