@@ -1,13 +1,13 @@
 -- K3, of the calls: what is accepted is a list of declarations (`k3-accepted`), and each list of well-formed declarations within the limits is accepted
 -- (`k3-accepts`), just one for a text (`k3-one-list`); what is written passes the check of a table with as many definitions (`k3-valid`), one command
 -- for each declaration in order (`k3-in-order`), and every reading with it is the reading through the declarations, the first binding
--- (`k3-read-through`); a refusal changes nothing (`k3-refused`), and 23 has both lengths (`k3-room`). K13 holds of what two calls wrote
--- (`k3-one-marking`, `k3-unused`). Assumes nothing.
+-- (`k3-read-through`); a refusal is by one of ten numbers (`k3-numbers`) and changes nothing (`k3-refused`), and 23 has both lengths (`k3-room`). K13
+-- holds of what two calls wrote (`k3-one-marking`, `k3-unused`). Assumes nothing.
 use mathlib.Core.Path.{_≡_, refl, sym, ap, ap₂, subst, _∙_}
 use mathlib.Core.Logic.{_≢_}
-use mathlib.Core.Bool.{Bool, true, false, _||_}
+use mathlib.Core.Bool.{Bool, true, false, true≢false, _||_}
 use mathlib.Core.List.{List, [], _∷_}
-use Prim.Native.Nat.{ℕ, _+_, _*_, _≤_}
+use Prim.Native.Nat.{ℕ, _+_, _*_, _-_, _≤_}
 use native.Mathlib.Omega.{arith}
 use lib.Dec.{eqb, ltb}
 use lib.ListN.{length, take, drop}
@@ -44,10 +44,12 @@ use Rattle.table_grammar.proofs.GoodEntities.{read-valid}
 use Rattle.table_grammar.proofs.GrammarRead.{entities-written}
 use Rattle.table_grammar.proofs.GrammarTaken.{entities-taken}
 use Rattle.govlezna.specs.Calls.{checkUtf8Call, checkTableCall, unescapeCall, normalizeAttributeValueCall, canonicalFormCall, normalizeAttributeValueStrictCall, canonicalFormStrictCall, normalizeNmtokensCall, readDeclarationsCall}
+use Rattle.demands.specs.CallDemands.{listed, Refuses, success, refusal}
 use Rattle.requests.specs.Unused.{Reader, normalizing, forming, listing, unescaping, callWith, namesWith, reads as reads-by, BindAlike, OneMarking, definitions}
-use Rattle.requests.specs.Declarations.{Lent, callFor, settled, Success, listFrom, poolFrom, Sizes, Room, Taken, readingWith, readThrough, inOrder, Declares, Leaves}
+use Rattle.requests.specs.Declarations.{Lent, callFor, settled, Success, listFrom, poolFrom, Sizes, Room, Taken, declarationNumbers, readingWith, readThrough, inOrder, Declares, Leaves}
+use Rattle.requests.proofs.Standard.{listed-one}
 use Rattle.requests.proofs.Unused.{k13-unused}
-use Rattle.requests.proofs.DeclarationsRead.{written-in-order, counted-in, counted-out, refused-by}
+use Rattle.requests.proofs.DeclarationsRead.{written-in-order, counted-in, counted-out, charRefNumbers, refused-by}
 
 -- ---- what a call leaves, by its parts
 
@@ -86,16 +88,23 @@ entitiesOf (departs rest) = []
 entitiesOf (exceeds rest) = []
 entitiesOf (refused number first) = []
 
--- the checks of the arguments pass UTF-8, or refuse by another number than 0 and 23
-arguments : (t : List ℕ) (v : ℕ) (P : Answer → Type 0) → (WellFormed t → P passed) → ((number first : ℕ) → number ≢ 0 → number ≢ 23 → P (Refused number first 0))
+-- a number that is listed is not one that is not
+not-listed : (ns : List ℕ) (number other : ℕ) → listed number ns ≡ true → listed other ns ≡ false → number ≢ other
+not-listed ns number other h k e = true≢false (sym h ∙ ap (λ (n : ℕ). listed n ns) e ∙ k)
+
+abbrev checkNumbers : List ℕ
+checkNumbers = 1 ∷ 4 ∷ 5 ∷ []
+
+-- the checks of the arguments pass UTF-8, or refuse by 1, 4 or 5
+arguments : (t : List ℕ) (v : ℕ) (P : Answer → Type 0) → (WellFormed t → P passed) → ((number first : ℕ) → listed number checkNumbers ≡ true → P (Refused number first 0))
     → P (argumentCheck t (versionCheck v))
 unfolding lengthCheck versionCheck utf8Check
 arguments t v P p q = go (ltb longestText (length t)) refl (knownVersion v) refl (eqb (utf8End t) (length t)) refl
   where
     go : (x : Bool) → ltb longestText (length t) ≡ x → (y : Bool) → knownVersion v ≡ y → (z : Bool) → eqb (utf8End t) (length t) ≡ z → P (argumentCheck t (versionCheck v))
-    go true e y f z g = rw e (q 1 (length t) (λ h. absurd (omega arith)) (λ h. absurd (omega arith)))
-    go false e false f z g = rw (e, f) (q 4 0 (λ h. absurd (omega arith)) (λ h. absurd (omega arith)))
-    go false e true f false g = rw (e, f, g) (q 5 (utf8End t) (λ h. absurd (omega arith)) (λ h. absurd (omega arith)))
+    go true e y f z g = rw e (q 1 (length t) refl)
+    go false e false f z g = rw (e, f) (q 4 0 refl)
+    go false e true f false g = rw (e, f, g) (q 5 (utf8End t) refl)
     go false e true f true g = rw (e, f, g) (p (end-whole t (eqb-true (utf8End t) (length t) g)))
 
 -- they pass a text that the check of UTF-8 accepts, with a version byte that is known
@@ -138,7 +147,7 @@ module _ (a : Lent) where
       arguments (a .text) (a .version)
       (λ (c : Answer). guarded c (a .list ∷ a .pool ∷ []) (readDeclarations (ruleOf (a .version)) (a .text) (a .list) (a .pool)) ≡ called 0
       (x .listLength ∷ x .poolLength ∷ []) (x .list ∷ x .pool ∷ []) → Reads a x)
-      (λ w q. go w (entities most (settled a)) refl (sym reads-as ∙ q)) (λ n f h k q. absurd (h (ap numberOf q))) (x .is)
+      (λ w q. go w (entities most (settled a)) refl (sym reads-as ∙ q)) (λ n f h q. absurd (not-listed checkNumbers n 0 h refl (ap numberOf q))) (x .is)
     where
       go : WellFormed (a .text) → (r : Read (List Entity)) → entities most (settled a) ≡ r → after r ≡ called 0 (x .listLength ∷ x .poolLength ∷ []) (x .list ∷ x .pool ∷ []) → Reads a x
       go w (read es end) e q = room (noRoom es (a .list) (a .pool)) refl q
@@ -148,7 +157,7 @@ module _ (a : Lent) where
           room false f q = record { es = es; end = end; utf8 = w; is = e; fits = f; left = rw f at q }
       go w (departs rest) e q = other-number q (λ h. absurd (omega arith))
       go w (exceeds rest) e q = other-number q (λ h. absurd (omega arith))
-      go w (refused number first) e q = absurd (refused-by most (settled a) e .0 (ap numberOf q))
+      go w (refused number first) e q = absurd (not-listed charRefNumbers number 0 (refused-by most (settled a) e) refl (ap numberOf q))
 
 -- ---- limits
 
@@ -231,13 +240,38 @@ k3-one-list a es fs d g = ap entitiesOf (sym (taken-whole a es d) ∙ taken-whol
 
 -- ---- refusals
 
+abbrev lentBy : Lent → List (List ℕ)
+lentBy a = a .list ∷ a .pool ∷ []
+
+abbrev In : ℕ → Type 0
+In n = listed n declarationNumbers ≡ true
+
+-- Demand 1 of this call: success, or one of K3's numbers, and then list and pool are as they were.
+pub k3-numbers : (a : Lent) → Refuses declarationNumbers (a .list ∷ a .pool ∷ []) (callFor a)
+unfolding readDeclarationsCall tabled
+k3-numbers a =
+    arguments (a .text) (a .version)
+    (λ (c : Answer). Refuses declarationNumbers (lentBy a) (guarded c (lentBy a) (readDeclarations (ruleOf (a .version)) (a .text) (a .list) (a .pool))))
+    (λ w. subst (Refuses declarationNumbers (lentBy a)) (sym (reads-as a)) (go (entities most (settled a)) refl))
+    (λ n first h. refusal n (first ∷ 0 ∷ []) (listed-one In n checkNumbers (refl, (refl, (refl, tt))) h))
+  where
+    go : (r : Read (List Entity)) → entities most (settled a) ≡ r → Refuses declarationNumbers (lentBy a) (after a r)
+    go (read es end) e = room (noRoom es (a .list) (a .pool)) refl
+      where
+        room : (b : Bool) → noRoom es (a .list) (a .pool) ≡ b → Refuses declarationNumbers (lentBy a) (after a (read es end))
+        room true f = rw f (refusal 23 (length (listOf es) ∷ length (poolOf es) ∷ []) refl)
+        room false f = rw f (success (length (listOf es) ∷ length (poolOf es) ∷ []) (laid (listOf es) (a .list) ∷ laid (poolOf es) (a .pool) ∷ []))
+    go (departs rest) e = refusal 21 ((length (settled a) - length rest) ∷ 0 ∷ []) refl
+    go (exceeds rest) e = refusal 22 ((length (settled a) - length rest) ∷ 0 ∷ []) refl
+    go (refused n first) e = refusal n (first ∷ 0 ∷ []) (listed-one In n charRefNumbers (refl, (refl, (refl, (refl, tt)))) (refused-by most (settled a) e))
+
 -- K3: a refusal leaves list and pool
 pub k3-refused : (a : Lent) {number : ℕ} {words : List ℕ} {buffers : List (List ℕ)} → callFor a ≡ called number words buffers → number ≢ 0 → buffers ≡ a .list ∷ a .pool ∷ []
 unfolding readDeclarationsCall tabled
 k3-refused a {number} {words} {buffers} e n =
     arguments (a .text) (a .version)
     (λ (c : Answer). guarded c (a .list ∷ a .pool ∷ []) (readDeclarations (ruleOf (a .version)) (a .text) (a .list) (a .pool)) ≡ called number words buffers → buffers ≡ a .list ∷ a .pool ∷ [])
-    (λ w q. go (entities most (settled a)) (sym (reads-as a) ∙ q)) (λ k f h g q. sym (ap buffersOf q)) e
+    (λ w q. go (entities most (settled a)) (sym (reads-as a) ∙ q)) (λ k f h q. sym (ap buffersOf q)) e
   where
     go : (r : Read (List Entity)) → after a r ≡ called number words buffers → buffers ≡ a .list ∷ a .pool ∷ []
     go (read es end) q = room (noRoom es (a .list) (a .pool)) refl q
@@ -265,7 +299,7 @@ unfolding readDeclarationsCall tabled
 k3-room a {first} {second} {buffers} e =
     arguments (a .text) (a .version)
     (λ (c : Answer). guarded c (a .list ∷ a .pool ∷ []) (readDeclarations (ruleOf (a .version)) (a .text) (a .list) (a .pool)) ≡ called 23 (first ∷ second ∷ []) buffers → NoRoom a first second)
-    (λ w q. go (entities most (settled a)) refl (sym (reads-as a) ∙ q)) (λ k f h g q. absurd (g (ap numberOf q))) e
+    (λ w q. go (entities most (settled a)) refl (sym (reads-as a) ∙ q)) (λ k f h q. absurd (not-listed checkNumbers k 23 h refl (ap numberOf q))) e
   where
     go : (r : Read (List Entity)) → entities most (settled a) ≡ r → after a r ≡ called 23 (first ∷ second ∷ []) buffers → NoRoom a first second
     go (read es end) f q = room (noRoom es (a .list) (a .pool)) refl q
@@ -286,7 +320,7 @@ k3-room a {first} {second} {buffers} e =
         room false g q = other-number (rw g at q) (λ h. absurd (omega arith))
     go (departs rest) f q = other-number q (λ h. absurd (omega arith))
     go (exceeds rest) f q = other-number q (λ h. absurd (omega arith))
-    go (refused k n) f q = absurd (refused-by most (settled a) f .1 (ap numberOf q))
+    go (refused k n) f q = absurd (not-listed charRefNumbers k 23 (refused-by most (settled a) f) refl (ap numberOf q))
 
 -- ---- the table
 

@@ -1,11 +1,9 @@
 -- What the theorems of K3 rest on: the table that is written, command by command (`written-in-order`); the numbers that a character reference is
 -- refused by (`refused-by`); a call that succeeds has read its text, and there was room (`reads`). Assumes nothing.
 use mathlib.Core.Path.{_≡_, refl, sym, ap, ap₂, _∙_}
-use mathlib.Core.Logic.{_≢_}
-use mathlib.Core.Bool.{_||_}
+use mathlib.Core.Bool.{true, _||_}
 use mathlib.Core.List.{List, [], _∷_, _++_}
 use Prim.Native.Nat.{ℕ, zero, suc, _+_, _-_, _<_}
-use native.Mathlib.Omega.{arith}
 use lib.Dec.{eqb, ltb}
 use lib.ListN.{length}
 use Rattle.text.specs.Bytes.{pick}
@@ -13,6 +11,7 @@ use Rattle.text.proofs.Bytes.{pick-by}
 use Rattle.charref.specs.CharRef.{charNumber, anyCharacter, numberAnswer}
 use Rattle.charref.specs.declared.CharNumber.{CharNumber}
 use Rattle.charref.specs.declared.CharNumber.the-variants.{Char, UnexpectedSign, InvalidNumber, InvalidCodepoint, IllegalCharacter, Forbidden}
+use Rattle.charref.proofs.Numbers.{charNumber-passes}
 use Rattle.entity.specs.Table.{inside, Declaration, nameOf, textOf, declarationsFrom, declarations, markSize}
 use Rattle.entity.specs.Binding.{Bound, text, bodyBound}
 use Rattle.table_names.specs.NameChars.{nameLength}
@@ -20,6 +19,7 @@ use Rattle.table_grammar.specs.EntityValue.{Read, read, departs, exceeds, refus
 use Rattle.table_grammar.specs.EntityDecl.{keyword, opening, declaredName, definition, Entity, entity, noMore, oneMore, entitiesAt, entities}
 use Rattle.table_grammar.specs.TableWritten.{commandsFrom, listOf, poolOf}
 use Rattle.table_grammar.proofs.FirstBinds.{Fitting, made, operandsOf, read-command, skip-operands, name-is, text-is, regroup, size-is, list-step}
+use Rattle.demands.specs.CallDemands.{listed as among}
 use Rattle.requests.specs.Unused.{Definition, definitionsIn, definitions}
 use Rattle.requests.specs.Declarations.{inOrder}
 
@@ -65,9 +65,12 @@ counted-out (e ∷ es) = ap suc (counted-out es)
 
 -- ---- the numbers that a character reference is refused by
 
--- none of them is 0 or 23
+-- 12 to 15
+abbrev pub charRefNumbers : List ℕ
+charRefNumbers = 12 ∷ 13 ∷ 14 ∷ 15 ∷ []
+
 abbrev OfReference : ℕ → Type 0
-OfReference n = (n ≢ 0) × (n ≢ 23)
+OfReference n = among n charRefNumbers ≡ true
 
 abbrev By : {A : Type 0} → Read A → Type 0
 By (read a rest) = Unit {0}
@@ -81,14 +84,15 @@ by-onward (departs rest) more x f = tt
 by-onward (exceeds rest) more x f = tt
 by-onward (refused number first) more x f = x
 
-by-number : (n : CharNumber) (rest : List ℕ) → By (numbered (numberAnswer n) rest)
+-- 25 is not among them: every character is allowed here
+by-number : (n : CharNumber) (rest : List ℕ) → (n ≡ Forbidden → ⊥) → By (numbered (numberAnswer n) rest)
 unfolding numberAnswer
-by-number (Char c) rest = tt
-by-number UnexpectedSign rest = (λ q. absurd (omega arith), λ q. absurd (omega arith))
-by-number InvalidNumber rest = (λ q. absurd (omega arith), λ q. absurd (omega arith))
-by-number (InvalidCodepoint k) rest = (λ q. absurd (omega arith), λ q. absurd (omega arith))
-by-number IllegalCharacter rest = (λ q. absurd (omega arith), λ q. absurd (omega arith))
-by-number Forbidden rest = (λ q. absurd (omega arith), λ q. absurd (omega arith))
+by-number (Char c) rest f = tt
+by-number UnexpectedSign rest f = refl
+by-number InvalidNumber rest f = refl
+by-number (InvalidCodepoint k) rest f = refl
+by-number IllegalCharacter rest f = refl
+by-number Forbidden rest f = absurd (f refl)
 
 by-literal : (cs t : List ℕ) → By (literal cs t)
 unfolding literal
@@ -113,7 +117,7 @@ by-char-ref : (quote : ℕ) (t digits : List ℕ) → By (charRefFrom quote digi
 unfolding charRefFrom
 by-char-ref quote [] digits = tt
 by-char-ref quote (b ∷ bs) digits =
-    pick-by By (eqb b 59) (λ e. by-number (charNumber anyCharacter digits) bs) λ e.
+    pick-by By (eqb b 59) (λ e. by-number (charNumber anyCharacter digits) bs (charNumber-passes digits)) λ e.
     pick-by By (eqb b quote) {a = departs (b ∷ bs)} (λ f. tt) (λ f. by-char-ref quote bs (digits ++ b ∷ []))
 
 by-entity-ref : (t : List ℕ) → By (entityRef t)
@@ -173,7 +177,7 @@ unfolding entitiesAt
 by-entities zero t = by-no-more t
 by-entities (suc k) t = by-one-more (λ rest. entitiesAt k (afterSpace rest)) (λ rest. by-entities k (afterSpace rest)) t
 
-pub refused-by : (k : ℕ) (t : List ℕ) {number first : ℕ} → entities k t ≡ refused number first → (number ≢ 0) × (number ≢ 23)
+pub refused-by : (k : ℕ) (t : List ℕ) {number first : ℕ} → entities k t ≡ refused number first → among number charRefNumbers ≡ true
 refused-by k t e = rw e at (given t)
   where
     given : (t : List ℕ) → By (entities k t)

@@ -71,6 +71,10 @@ pub record Taken (a : Lent) : Type 0 where
   pub utf8 : checkUtf8Call (a .text) ≡ called 0 (length (a .text) ∷ 0 ∷ []) []
   pub version : knownVersion (a .version) ≡ true
 
+-- K3: the numbers by which it refuses: those of its arguments, 12 to 15, and 21 to 23
+abbrev pub declarationNumbers : List ℕ
+declarationNumbers = 1 ∷ 4 ∷ 5 ∷ 12 ∷ 13 ∷ 14 ∷ 15 ∷ 21 ∷ 22 ∷ 23 ∷ []
+
 -- ---- reading through declarations
 
 -- K4: replacement texts are past line ends; names are bound by the first declaration
