@@ -334,9 +334,12 @@ module _ (r : Reading) (list pool text : List ℕ) (openings : ℕ) where
                   let z : done (found .value) now-made ≡ done (known-now .value) (now + (now-made - now)) = sym given ∙ known-now .from (depth + 1) now (le-refl _) top in
                   cc
 
-              -- it is kept
-              module _ {place opened : ℕ} (place-is : place ≡ r .base + before) (opened-is : opened ≡ now-made - now) {last : List ℕ}
-                  (m : Remembers after slot command (depth + 1) place more opened last) where
+              -- it is kept, with a depth of its own: one more than what it opens
+              module _ {place opened own : ℕ} (place-is : place ≡ r .base + before) (opened-is : opened ≡ now-made - now) {last : List ℕ}
+                  (kept-own : Remembers after slot command own place more opened last) (own-is : own ≡ depth + 1) where
+                m : Remembers after slot command (depth + 1) place more opened last
+                m = subst (λ (x : ℕ). Remembers after slot command x place more opened last) own-is kept-own
+
                 room-last : (v : List ℕ) (b : length v ≡ r .base) (room : Room S list pool v old) (e : ℕ) (le : most ≤ e)
                     → Room S list pool ((v ++ opens-for v b room e le .came .value) ++ found .value) last
                 room-last v b room e le =

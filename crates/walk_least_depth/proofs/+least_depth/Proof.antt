@@ -943,7 +943,7 @@ least-depth-loop-again-3 t c =
     let a = begin .args in
     turn-opened (a .allowed) (a .list .now) (a .pool .now) (a .text .now) (a .openings) (begins t begin)
     (turn .loop .inv) (flat-keeps t flat) (sound t turn) (found .next .given .1) (inner-said t inner) (least .found .given .1) refl refl
-    (c .before .before .before .before .keep-text .ensures) (c .next-halt4 .ensures) (c .before .greater2 .ensures) (turn .before .if2 .left)
+    (c .before .before .before .before .keep-text .ensures) (omega arith) (c .next-halt4 .ensures) (c .before .greater2 .ensures) (turn .before .if2 .left)
 
 pub +least-depth-spec : {M : Type 1} → statement M
 +least-depth-spec = close μ-least-depth λ t. least-depth-lts.spec (claims t) (least-depth-at t) least-depth.Post least-depth-Inv-loop least-depth-μ-loop
