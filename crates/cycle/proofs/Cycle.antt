@@ -157,7 +157,7 @@ module _ (r : Reading) (list pool text : List ℕ) (p : Place) {old seen out wor
         }
 
     -- with a memory nothing is paused at
-    pub never-paused : {i before now : ℕ} → x ≡ Paused i before now → length seen ≡ 84 → ⊥
+    pub never-paused : {i before now : ℕ} → x ≡ Paused i before now → 84 ≤ length seen → ⊥
     never-paused is full =
         let o = subst (Onward (length text) at words) is (f .onward) in
         omega (arith, full, g .kept, o .2)

@@ -34,7 +34,7 @@ pub record Openable (r : Reading) (p : Place) (words : List ℕ) : Type 0 where
   pub deep : r .depth ≢ 0
   pub few : p .openings < r .limit
   pub most : r .limit ≤ 1000000
-  pub full : length words ≡ 84
+  pub full : 84 ≤ length words
 
 -- where the walk of the text begins that the step opens, and what it is lent
 abbrev pub innerStart : Place → Place

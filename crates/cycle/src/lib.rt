@@ -163,7 +163,7 @@ pub fn normalize_attr_steps(
 ) -> Answer
     requires { ⌜ ValidTable (now list) (now pool) ⌝ }
     requires { ⌜ Walkable reading (now text) ⌝ }
-    requires { ⌜ length (now seen) ≡ 84 ⌝ }
+    requires { ⌜ 84 ≤ length (now seen) ⌝ }
     requires { ⌜ Lent (levelOf reading (now list) (now pool) (now text)) (reading .base) (now out) (now seen) begun ⌝ }
     ensures { λ r. ⌜ StepsKeep (levelOf reading (now (list .entry)) (now (pool .entry)) (now (text .entry))) (reading .base) begun (now (out .entry)) (now (seen .entry)) (now (out .exit)) (now (seen .exit)) r ⌝ }
 {

@@ -1,5 +1,5 @@
 -- What becomes of a halt, return by return: a text of the table (`halt-limit`, `halt-again`, `halt-leaf`, `halt-opens`), other names
--- (`halt-external`, `halt-predefined`, `halt-unknown`), characters and refusals (`halt-char`, `halt-refused`), line ends (`halt-blank`). Assumes nothing.
+-- (`halt-external`, `halt-predefined`, `halt-unknown`), all of them after a lookup (`halt-indexed`), characters and refusals (`halt-char`, `halt-refused`), line ends (`halt-blank`). Assumes nothing.
 use mathlib.Core.Path.{_≡_, refl, sym, ap, subst, _∙_}
 use mathlib.Core.Logic.{_≢_}
 use mathlib.Core.Bool.{Bool, true, false, true≢false, _&&_, _||_}
@@ -30,17 +30,18 @@ use Rattle.attribute.specs.Walk.{Settings, answer, opened, walk}
 use Rattle.attribute.specs.Steps.{headsBy, faultBy, readBy, legalBy, Refers, stopAnswer, Blank}
 use Rattle.attribute.proofs.Single.{one-of-four, stop-deeper, at-external, at-unknown, at-predefined}
 use Rattle.attribute.proofs.Guards.{read-refers, guard-blank, halt-clean, read-predefined}
-use Rattle.memory.specs.Slots.{shaped, slotOf, Kept, Noted, Memory}
+use Rattle.memory.specs.Slots.{shaped, slotOf, Kept, Noted, Memory, Indexed}
 use Rattle.memory.specs.Levels.{settingsOf, Level, levelOf, atDepth, Adds, Came, RefusesAt, Opens, Taken}
 use Rattle.memory.specs.declared.Reading.{Reading}
 use Rattle.memory.specs.declared.Place.{Place}
 use Rattle.memory.proofs.Fitted.{adds-byte}
 use Rattle.memory.proofs.Characters.{token-rest}
-use Rattle.memory.proofs.Levels.{left-done, came-on, came-stop, came-token}
+use Rattle.memory.proofs.Levels.{left-done, came-on, came-indexed, came-stop, came-token}
 use Rattle.memory.proofs.Keeping.{memory-more, kept-length, noted-length, memory-noted}
 use Rattle.memory.proofs.Readings.{readAt, by-bind, by-inner, by-limit, by-legal, token-named, next-named, read-opens, read-taken, came-leaf, came-blank}
-use Rattle.flat.specs.Between.{Writes, Leaf, ForChar, ForName, ForPlain, nameOf, Answers, HaltKeeps, Referred}
-use Rattle.flat.specs.declared.Halted.the-variants.{Next, Opening, Stopped}
+use Rattle.flat.specs.Between.{Writes, Leaf, ForChar, ForName, ForPlain, nameOf, Answers, Past, HaltKeeps, Referred}
+use Rattle.flat.specs.declared.Halted.{Halted}
+use Rattle.flat.specs.declared.Halted.the-variants.{Next, Opening, Paused, Stopped}
 
 -- ---- a reference to the text of a command
 
@@ -175,6 +176,25 @@ module _ (r : Reading) (t list pool : List ℕ) (p : Place) {command next : ℕ}
                 leaf-goes (readAt d r) t list pool p (referred-at d le) known old seen room (λ q. omega (arith, k .deep, two, le, q)) leaf written kept
                 v whole begun e c;
           }
+
+-- ---- the memory after a name was looked up
+
+past-indexed : (size at : ℕ) (words seen : List ℕ) → length seen ≡ length words → (x : Halted) → Past size at seen x → Past size at words x
+past-indexed size at words seen e (Next next len made) q = q
+past-indexed size at words seen e (Opening next command slot) q = q
+past-indexed size at words seen e Paused q = sym e ∙ q
+past-indexed size at words seen e (Stopped number first second) q = q
+
+-- what is kept from there on is kept from before the lookup on
+pub halt-indexed : (l : Level) {base : ℕ} {p : Place} {old words seen new kept : List ℕ} (x : Halted) → Indexed (l .list) (l .pool) words seen
+    → HaltKeeps l base p old seen new kept x → HaltKeeps l base p old words new kept x
+halt-indexed l {base} {p} {old} {words} {seen} x i h =
+    record {
+      past = past-indexed (length (l .text)) (p .at) words seen (i .words) x (h .past);
+      buffer = h .buffer;
+      words = h .words ∙ i .words;
+      goes = λ d le v whole begun e c. h .goes d le v whole begun e (came-indexed (atDepth d l) v whole begun c i);
+    }
 
 -- ---- other references
 

@@ -390,7 +390,7 @@ fn named_step(
 // The byte that `&lt;` or `&gt;` stands for, told by its bytes where the table is known not to define it; 0 says nothing.
 fn quick_plain(text: &[u8], at: usize, seen: &[u64], list: &[u8]) -> u8
     requires { ⌜ (at < length (now text)) × (length (now text) ≤ 16777216) × (getD (now text) at 0 ≡ 38) ⌝ }
-    requires { ⌜ (length (now seen) ≢ 0 → length (now seen) ≡ 84) ⌝ }
+    requires { ⌜ (length (now seen) ≢ 0 → 84 ≤ length (now seen)) ⌝ }
     ensures { λ r. ⌜ (r ≢ 0 → (pool : List ℕ) → ValidTable (now (list .entry)) pool → Trusts (now (list .entry)) pool (now (seen .entry)) → ForPlain (now (text .entry)) (now (list .entry)) pool at r) ⌝ }
 {
     if text.len() - at < 4 {

@@ -31,13 +31,14 @@ use Rattle.tokens.proofs.Progress.{run-at, run-over, prepend-none, prepend-prep
 use Rattle.attribute.specs.Walk.{Settings, walk}
 use Rattle.attribute.specs.Steps.{stopAnswer, stepFrom}
 use Rattle.attribute.proofs.Single.{walk-run}
-use Rattle.memory.specs.Slots.{opening, shaped, shapedIn, Slot, Stands, slotAt, Memory, Kept, Noted}
+use Rattle.table_index.specs.Index.{Ready}
+use Rattle.memory.specs.Slots.{opening, shaped, shapedIn, Slot, Stands, slotAt, Memory, Kept, Noted, Indexed}
 use Rattle.memory.specs.Levels.{Level, innerLevel, left, Fitted, Adds, Came, Whole, Refuses, RefusesAt, Opens, Finishes, Opened, Taken, Lent}
 use Rattle.memory.specs.declared.Reading.{Reading}
 use Rattle.memory.specs.declared.Place.{Place}
 use Rattle.memory.proofs.Shaped.{shaped-none, shaped-most, shaped-append, shaped-went, shaped-halted}
 use Rattle.memory.proofs.Slots.{opening-one, opening-within, opening-stop, stands-opened, stands-size, again-stop, part-of-level}
-use Rattle.memory.proofs.Keeping.{memory-zeros, memory-more, memory-kept, memory-noted}
+use Rattle.memory.proofs.Keeping.{memory-zeros, memory-more, memory-kept, memory-noted, memory-indexed}
 use Rattle.memory.proofs.Fitted.{fitted-start, fitted-level, fitted-full, fitted-again}
 
 -- ---- how long values are
@@ -205,8 +206,13 @@ module _ (l : Level) where
       came-noted name amp p found k = came-memory (memory-noted S (l .form) (l .list) (l .pool) (c .memory) name amp p found k)
 
       -- with the first memory of a walk that had none
-      pub came-zeros : (after : List ℕ) → (length after ≢ 0 → length after ≡ 84) → ((k : ℕ) → getD after k 0 ≡ 0) → Came l v whole begun out after i len made
-      came-zeros after size zeros = came-memory (memory-zeros S (l .form) (l .list) (l .pool) (v ++ w (c .value)) after size zeros)
+      pub came-zeros : (after : List ℕ) → (length after ≢ 0 → 84 ≤ length after) → ((k : ℕ) → getD after k 0 ≡ 0) → Ready (l .list) (l .pool) (drop 84 after)
+          → Came l v whole begun out after i len made
+      came-zeros after size zeros index = came-memory (memory-zeros S (l .form) (l .list) (l .pool) (v ++ w (c .value)) after size zeros index)
+
+      -- after a name was looked up
+      pub came-indexed : {after : List ℕ} → Indexed (l .list) (l .pool) words after → Came l v whole begun out after i len made
+      came-indexed x = came-memory (memory-indexed S (l .form) (l .list) (l .pool) (c .memory) x)
 
       pub came-end : length (l .text) ≤ i → Whole l v whole begun out words len made
       came-end h =

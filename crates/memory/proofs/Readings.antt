@@ -42,7 +42,7 @@ use Rattle.attribute.proofs.Stops.{by-how}
 use Rattle.attribute.proofs.Single.{stop-deeper}
 use Rattle.attribute.proofs.Guards.{read-refers, read-barred, guard-lengths}
 use Rattle.attribute.proofs.Values.{walk-most, walk-within, walk-well-formed}
-use Rattle.memory.specs.Slots.{shaped, slotOf, Stands, Trusts, Kept}
+use Rattle.memory.specs.Slots.{shaped, slotOf, Stands, Trusts, Kept, Indexed}
 use Rattle.memory.specs.Levels.{settingsBy, settingsOf, Level, levelOf, innerLevel, left, Adds, Came, RefusesAt, Opens, Lent, Taken, Bounds}
 use Rattle.memory.specs.declared.Reading.{Reading}
 use Rattle.memory.specs.declared.Place.{Place}
@@ -50,7 +50,7 @@ use Rattle.memory.proofs.Shaped.{shaped-space}
 use Rattle.memory.proofs.Characters.{read-utf8, token-rest, named-rest, halt-rest, spaced-utf8}
 use Rattle.memory.proofs.Keeping.{memory-more, memory-kept, memory-trusts}
 use Rattle.memory.proofs.Stretches.{run-blank, smooth-run, leaf-opening, leaf-stands}
-use Rattle.memory.proofs.Levels.{Brief, Sound, left-refused, came-past, came-opens, came-taken, came-kept, came-room}
+use Rattle.memory.proofs.Levels.{Brief, Sound, left-refused, came-past, came-opens, came-taken, came-kept, came-indexed, came-room}
 use Rattle.memory.proofs.Hits.{memory-bounds}
 
 -- ---- the settings of a walk
@@ -173,6 +173,11 @@ module _ (r : Reading) (list pool t : List ℕ) where
 
     pub lent-trusts : Trusts list pool words
     lent-trusts = memory-trusts (n .came .memory)
+
+    -- it is asked the same after a name was looked up
+    pub lent-indexed : {after : List ℕ} → Indexed list pool words after → Lent level base out after p
+    lent-indexed x =
+        record { v = n .v; whole = n .whole; begun = n .begun; size = n .size; came = came-indexed level (n .v) (n .whole) (n .begun) (n .came) x; room = n .room }
 
     pub lent-bounds : (command slot : ℕ) → slot < 16 → Bounds command slot (r .limit) (base + p .len) words
     lent-bounds command slot h =

@@ -161,7 +161,7 @@ pub record Finishes (l : Level) (v whole : List ℕ) (begun : ℕ) (out words : 
   pub answers : r ≡ answerOf (shapedIn (l .form) (left l 0 begun))
   pub made : (value : List ℕ) (openings : ℕ) → left l 0 begun ≡ done value openings → Whole l v whole begun out words (length (shaped (l .form) value)) openings
 
--- of `normalize_attr_steps`, which is lent 84 words, so that nothing is paused at
+-- of `normalize_attr_steps`, which is lent a memory, so that nothing is paused at
 pub record StepsKeep (l : Level) (base : ℕ) (p : Place) (old seen new kept : List ℕ) (r : Answer) : Type 0 where
   pub buffer : length new ≡ length old
   pub words : length kept ≡ length seen
@@ -200,6 +200,6 @@ HadKeeps command slot r p seen old new Unseen = new ≡ old
 
 -- what it asks of the slot: bounds that a memory has
 pub record Bounds (command slot limit reached : ℕ) (seen : List ℕ) : Type 0 where
-  pub size : length seen ≢ 0 → length seen ≡ 84
+  pub size : length seen ≢ 0 → 84 ≤ length seen
   pub inside : getD seen slot 0 ≡ command + 1 → slotAt seen slot .place + slotAt seen slot .count ≤ reached
   pub few : getD seen slot 0 ≡ command + 1 → slotAt seen slot .opened ≤ limit + 1

@@ -10,6 +10,7 @@ use Rattle.text.specs.Bytes.{pick}
 use Rattle.eols.specs.Stops.{ruleFor}
 use Rattle.canonical.specs.Canonical.{canonical}
 use Rattle.entity.specs.Commands.{commandText, Defines, Unhidden}
+use Rattle.table_index.specs.Index.{Ready}
 use Rattle.tokens.specs.Outcome.{Outcome, done, refused}
 use Rattle.attribute.specs.Walk.{Settings, walk}
 
@@ -51,7 +52,8 @@ pub record Stands (s : Settings) (form : ℕ) (t v : List ℕ) (x : Slot) : Type
   pub few : x .opened ≤ s .limit + 1
   pub again : (e m : ℕ) → x .depth ≤ e → m + x .opened ≤ s .limit → opening s e t m ≡ done value (m + x .opened)
 
--- ---- the words: 16 slots side by side, the offset of the command and 1 first; then a word for each of lt, gt, apos, quot
+-- ---- the words: 16 slots side by side, the offset of the command and 1 first; then a word for each of lt, gt, apos, quot; then the words of
+-- an index of the table's names, which may be none
 
 abbrev pub slotAt : List ℕ → ℕ → Slot
 slotAt words k = record { depth = getD words (k + 16) 0; place = getD words (k + 32) 0; count = getD words (k + 48) 0; opened = getD words (k + 64) 0 }
@@ -62,16 +64,18 @@ plainWord b = pick (eqb b 60) 80 (pick (eqb b 62) 81 (pick (eqb b 39) 82 83))
 
 -- what the words say of the table alone; `amp` never comes to the memory, and would share the word of `quot`
 pub record Trusts (list pool words : List ℕ) : Type 0 where
-  pub size : length words ≢ 0 → length words ≡ 84
+  pub size : length words ≢ 0 → 84 ≤ length words
   pub defines : (k c : ℕ) → k < 16 → getD words k 0 ≡ c + 1 → Defines list pool c
   pub plain : (b : ℕ) → b ≢ 38 → getD words (plainWord b) 0 ≢ 0 → Unhidden list pool b
+  pub index : Ready list pool (drop 84 words)
 
 -- a memory of no words keeps nothing
 pub record Memory (s : Settings) (form : ℕ) (list pool v words : List ℕ) : Type 0 where
-  pub size : length words ≢ 0 → length words ≡ 84
+  pub size : length words ≢ 0 → 84 ≤ length words
   pub defines : (k c : ℕ) → k < 16 → getD words k 0 ≡ c + 1 → Defines list pool c
   pub stands : (k c : ℕ) → k < 16 → getD words k 0 ≡ c + 1 → Stands s form (commandText list pool c) v (slotAt words k)
   pub plain : (b : ℕ) → b ≢ 38 → getD words (plainWord b) 0 ≢ 0 → Unhidden list pool b
+  pub index : Ready list pool (drop 84 words)
 
 -- the words after a text was kept in the slot `k`, store by store
 abbrev pub keptIn : List ℕ → ℕ → ℕ → Slot → List ℕ
@@ -86,3 +90,16 @@ pub record Kept (old : List ℕ) (slot command : ℕ) (x : Slot) (new : List ℕ
 pub record Noted (old : List ℕ) (b : ℕ) (new : List ℕ) : Type 0 where
   pub none : length old ≡ 0 → new ≡ old
   pub enters : length old ≢ 0 → new ≡ set old (plainWord b) 1
+
+-- the words after a name was looked up: the index alone may have changed
+pub record Indexed (list pool old new : List ℕ) : Type 0 where
+  pub words : length new ≡ length old
+  pub front : take 84 new ≡ take 84 old
+  pub index : Ready list pool (drop 84 new)
+
+-- the words after the texts of a walk were forgotten, so that another can begin
+pub record Forgot (old new : List ℕ) : Type 0 where
+  pub words : length new ≡ length old
+  pub slots : (k : ℕ) → k < 16 → getD new k 0 ≡ 0
+  pub others : (k : ℕ) → 16 ≤ k → getD new k 0 ≡ getD old k 0
+  pub behind : drop 84 new ≡ drop 84 old

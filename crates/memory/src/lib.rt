@@ -3,8 +3,8 @@
 //
 // The memory is 84 words, or none where nothing is kept yet. A name has one of 16 slots, and five words side by side for each: the
 // offset of the command and 1, a depth that is enough for its text, where its value starts in the whole call's value, the value's
-// length, its openings. After these 80, four words: the table is known not to define lt, gt, apos, quot. What the words say is
-// `Memory` (specs/Slots.antt); no definition of a call knows of it.
+// length, its openings. After these 80, four words: the table is known not to define lt, gt, apos, quot. An index of the table's names
+// (crate table_index) may lie behind them. What the words say is `Memory` (specs/Slots.antt); no definition of a call knows of it.
 ghost use mathlib.Core.Path.{_≡_};
 ghost use mathlib.Core.Logic.{_≢_};
 ghost use mathlib.Core.Bool.{true, false};
@@ -14,7 +14,7 @@ ghost use lib.ListN.{length};
 ghost use Rattle.text.specs.Bytes.{sameBytes};
 ghost use Rattle.entity.specs.Table.{ValidTable};
 ghost use Rattle.entity.specs.Commands.{Refers, Unhidden};
-ghost use Rattle.memory.specs.Slots.{slotOf, plainWord, Noted, Trusts, Kept};
+ghost use Rattle.memory.specs.Slots.{slotOf, plainWord, Noted, Trusts, Kept, Indexed};
 ghost use Rattle.memory.specs.Levels.{Bounds, HadKeeps};
 use entity::Binding;
 use entity::Referent;
@@ -110,7 +110,7 @@ fn plain_word(b: u8) -> usize
 
 // Keeps that the table does not define the name of the byte.
 pub fn keep_plain(b: u8, seen: &mut [u64])
-    requires { ⌜ (length (now seen) ≢ 0 → length (now seen) ≡ 84) ⌝ }
+    requires { ⌜ (length (now seen) ≢ 0 → 84 ≤ length (now seen)) ⌝ }
     ensures { λ _. ⌜ Noted (now (seen .entry)) b (now (seen .exit)) ⌝ }
 {
     if seen.len() == 0 {
@@ -121,7 +121,7 @@ pub fn keep_plain(b: u8, seen: &mut [u64])
 
 // Is the table known not to define the predefined name of the byte? Where it has no commands it defines none.
 pub fn is_plain(b: u8, seen: &[u64], list: &[u8]) -> bool
-    requires { ⌜ (length (now seen) ≢ 0 → length (now seen) ≡ 84) ⌝ }
+    requires { ⌜ (length (now seen) ≢ 0 → 84 ≤ length (now seen)) ⌝ }
     ensures { λ r. ⌜ ((pool : List ℕ) → ValidTable (now (list .entry)) pool → Trusts (now (list .entry)) pool (now (seen .entry)) → b ≢ 38 → r ≡ true → Unhidden (now (list .entry)) pool b) ⌝ }
 {
     if list.len() <= 2 {
@@ -133,14 +133,33 @@ pub fn is_plain(b: u8, seen: &[u64], list: &[u8]) -> bool
     seen[plain_word(b)] != 0
 }
 
-// What a name other than `amp` refers to, by the memory or by the table. The table is lent as parts, which are made where it is asked:
-// few names come that far.
-pub fn refers_to(name: &[u8], slot: usize, seen: &[u64], list: &[u8], pool: &[u8]) -> Referent
+// Is there an index of the table's names behind the memory, whole?
+pub fn is_indexed(seen: &[u64]) -> bool
+    ensures { λ r. ⌜ (r ≡ true → 84 < length (now (seen .entry))) ⌝ }
+{
+    if seen.len() <= 84 {
+        return false;
+    }
+    table_index::is_built(&seen[84..])
+}
+
+// What a name other than `amp` refers to: by the index where it is whole, else by the memory, else by the table. The table is lent as parts,
+// which are made where it is asked: few names come that far.
+pub fn refers_to(name: &[u8], slot: usize, seen: &mut [u64], list: &[u8], pool: &[u8]) -> Referent
     requires { ⌜ ValidTable (now list) (now pool) ⌝ }
     requires { ⌜ (slot < 16) × (sameBytes (now name) (97 ∷ 109 ∷ 112 ∷ []) ≡ false) ⌝ }
     requires { ⌜ Trusts (now list) (now pool) (now seen) ⌝ }
     ensures { λ r. ⌜ Refers (now (list .entry)) (now (pool .entry)) (now (name .entry)) r ⌝ }
+    ensures { λ _. ⌜ Indexed (now (list .entry)) (now (pool .entry)) (now (seen .entry)) (now (seen .exit)) ⌝ }
 {
+    if is_indexed(seen) {
+        return table_index::find(
+            &list[..list.len()],
+            &pool[..pool.len()],
+            &name[..name.len()],
+            &mut seen[84..],
+        );
+    }
     if seen.len() != 0 {
         let known = seen[slot];
         if known != 0 {
@@ -160,10 +179,18 @@ pub fn refers_to(name: &[u8], slot: usize, seen: &[u64], list: &[u8], pool: &[u8
             }
         }
     }
-    entity::find_entity(
+    if seen.len() <= 84 {
+        return entity::find_entity(
+            &list[..list.len()],
+            &pool[..pool.len()],
+            &name[..name.len()],
+        );
+    }
+    table_index::find(
         &list[..list.len()],
         &pool[..pool.len()],
         &name[..name.len()],
+        &mut seen[84..],
     )
 }
 
@@ -178,7 +205,7 @@ pub fn keep(
     seen: &mut [u64],
 )
     requires { ⌜ (command < 49153) × (slot < 16) ⌝ }
-    requires { ⌜ (length (now seen) ≢ 0 → length (now seen) ≡ 84) ⌝ }
+    requires { ⌜ (length (now seen) ≢ 0 → 84 ≤ length (now seen)) ⌝ }
     ensures { λ _. ⌜ Kept (now (seen .entry)) slot command (slotOf depth place count opened) (now (seen .exit)) ⌝ }
 {
     if seen.len() == 0 {

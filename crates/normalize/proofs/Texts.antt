@@ -1,5 +1,5 @@
 -- The walk over the text of a call: its first pass, without a memory (`start-lent`, `text-end`, `text-stopped`), and on from a text to open or
--- a pause (`text-opens`, `text-pauses`, `opened-walks`); how a call ends that walks twice (`walks-refused`, `walks-short`, `walks-held`,
+-- a pause (`text-opens`, `text-pauses`, `opened-walks`), or with a memory and its index from the start (`long-lent`, `long-walks`, `long-lasts`); how a call ends that walks twice (`walks-refused`, `walks-short`, `walks-held`,
 -- `walks-written`), for want of a scratch too (`lacks-refused`, `lacks-counted`) and where its count was of the value alone (`sized-written`); and
 -- which walk a call asks for (`walk-for`, `call-bottom`, `call-spaced`, `call-barred`, `call-read`, `call-utf8`). Assumes nothing.
 use mathlib.Core.Path.{_≡_, refl, sym, ap, subst, _∙_}
@@ -41,7 +41,7 @@ use Rattle.attribute.specs.Walk.{Settings, walk, normalize, innerHead, reading,
 use Rattle.attribute.specs.Strict.{barring, strictly, readingBy}
 use Rattle.attribute.specs.Steps.{headsBy, faultBy, readBy, stopAnswer}
 use Rattle.attribute.proofs.Outer.{withOuter, walk-outer}
-use Rattle.memory.specs.Slots.{shaped, shapedIn}
+use Rattle.memory.specs.Slots.{shaped, shapedIn, Trusts, Memory, Forgot}
 use Rattle.memory.specs.Levels.{settingsBy, settingsOf, Level, levelOf, left, Fitted, Came, Reaches, Finishes, Lent, FlatKeeps, StepsKeep}
 use Rattle.memory.specs.declared.Reading.{Reading}
 use Rattle.memory.specs.declared.Place.{Place}
@@ -50,7 +50,7 @@ use Rattle.memory.specs.declared.Reached.the-variants.{End, Opening, Paused, St
 use Rattle.memory.proofs.Shaped.{shaped-plain, shaped-form, shaped-most}
 use Rattle.memory.proofs.Fitted.{fitted-start}
 use Rattle.flat.specs.Between.{Writes}
-use Rattle.memory.proofs.Keeping.{memory-start, memory-none}
+use Rattle.memory.proofs.Keeping.{memory-start, memory-zeros, memory-none, memory-forgot, memory-trusts}
 use Rattle.halts.proofs.Spaces.{spaced-length}
 use Rattle.memory.proofs.Stretches.{smooth-part, smooth-run, smooth-whole}
 use Rattle.memory.proofs.Readings.{by-utf8}
@@ -58,7 +58,7 @@ use Rattle.memory.proofs.Levels.{refuses-some, placeOf, walk-left, came-start, 
 use Rattle.memory.proofs.Turns.{turn-end, turn-stopped}
 use Rattle.cycle.specs.Cycle.{Walkable}
 use Rattle.normalize.specs.declared.Wanted.{Wanted}
-use Rattle.normalize.specs.Calls.{readingFor, outcomeFor, walkOf, formOf, plainly, writtenIn, Walks, WalksOn}
+use Rattle.normalize.specs.Calls.{readingFor, outcomeFor, walkOf, formOf, plainly, writtenIn, Walks, WalksOn, Lasts}
 
 -- ---- the walk
 
@@ -88,6 +88,35 @@ module _ (r : Reading) (list pool text : List ℕ) (outer : r .base ≡ 0) where
   walks-whole : {out new : List ℕ} {a : Answer} → Walks (shapedIn (r .form) (left level 0 0)) out new a → Walks (formOf r list pool text) out new a
   walks-whole {out} {new} {a} w = subst (λ (o : Outcome). Walks (shapedIn (r .form) o) out new a) (sym walk-is) w
 
+  -- ---- from the start, with a memory that another walk may have used
+
+  lent-came : WellFormed text → (out : List ℕ) {words : List ℕ} → Memory (settingsOf r list pool) (r .form) list pool [] words → Came level [] out 0 out words 0 0 0
+  lent-came utf8 out m = came-start level [] out 0 utf8 m (omega arith)
+
+  module _ (utf8 : WellFormed text) (out : List ℕ) {old words : List ℕ} (t : Trusts list pool old) (f : Forgot old words) where
+    forgot-came : Came level [] out 0 out words 0 0 0
+    forgot-came = lent-came utf8 out (memory-forgot (settingsOf r list pool) (r .form) [] t f)
+
+    pub long-lent : length text ≤ 16777216 → Lent level (r .base) out words (placeOf 0 0 0)
+    long-lent short =
+        record { v = []; whole = out; begun = 0; size = sym outer; came = forgot-came; room = omega (arith, outer, short) }
+
+    module _ {new kept : List ℕ} {a : Answer} (k : StepsKeep level (r .base) (placeOf 0 0 0) out words new kept a) where
+      long-ends : Finishes level [] out 0 new kept a
+      long-ends = k .finishes [] out 0 (sym outer) forgot-came
+
+      pub long-walks : Walks (formOf r list pool text) out new a
+      long-walks = walks-whole (finished long-ends (k .buffer))
+
+      pub long-lasts : Lasts list pool old kept a
+      long-lasts = record { words = k .words ∙ f .words; trusts = λ len made e. go (left level 0 0) refl (sym e ∙ long-ends .answers) }
+        where
+          go : {len made : ℕ} (o : Outcome) → left level 0 0 ≡ o → Done len made ≡ answerOf (shapedIn (r .form) o) → Trusts list pool kept
+          go (done value m) e q = memory-trusts (long-ends .made value m e .memory)
+          go (refused before m number first second) e q =
+              let z : _≡_ {A = ℕ} 0 1 = cc in
+              absurd (omega (arith, z))
+
   -- ---- from a place on, with a new memory
 
   module _ (p : Place) {old : List ℕ} where
@@ -112,7 +141,7 @@ module _ (r : Reading) (list pool text : List ℕ) (outer : r .base ≡ 0) where
   -- ---- the first pass
 
   start-came : WellFormed text → (out : List ℕ) → Came level [] out 0 out [] 0 0 0
-  start-came utf8 out = came-start level [] out 0 utf8 (memory-none (settingsOf r list pool) (r .form) list pool [] [] refl) (omega arith)
+  start-came utf8 out = lent-came utf8 out (memory-none (settingsOf r list pool) (r .form) list pool [] [] refl)
 
   pub start-lent : WellFormed text → length text ≤ 16777216 → (out : List ℕ) → Lent level (r .base) out [] (placeOf 0 0 0)
   start-lent utf8 short out =

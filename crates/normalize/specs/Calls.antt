@@ -8,11 +8,12 @@ use lib.ListN.{length}
 use Rattle.text.specs.Bytes.{pick}
 use Rattle.text.specs.Version.{ruleOf}
 use Rattle.text.specs.declared.Answer.{Answer}
+use Rattle.text.specs.declared.Answer.the-variants.{Done}
 use Rattle.tokens.specs.Outcome.{Outcome, done, refused, answerOf}
 use Rattle.attribute.specs.Steps.{readBy}
 use Rattle.attribute.specs.Walk.{walk, normalize}
 use Rattle.attribute.specs.Strict.{readingBy}
-use Rattle.memory.specs.Slots.{shaped, shapedIn}
+use Rattle.memory.specs.Slots.{shaped, shapedIn, Trusts}
 use Rattle.memory.specs.Levels.{settingsOf, Level, left, Fitted, Came}
 use Rattle.memory.specs.declared.Reading.{Reading}
 use Rattle.memory.specs.declared.Place.{Place}
@@ -63,3 +64,8 @@ pub record Walks (o : Outcome) (old new : List ℕ) (r : Answer) : Type 0 where
 -- the same from a place on that the walk came to
 abbrev pub WalksOn : Level → Place → List ℕ → List ℕ → List ℕ → Answer → Type 0
 WalksOn l p words old new r = (whole : List ℕ) → Came l [] whole 0 old words (p .at) (p .len) (p .openings) → Walks (shapedIn (l .form) (left l 0 0)) whole new r
+
+-- the words of a memory after a walk: where it had success they say of the table what is so, and another walk can begin by them
+pub record Lasts (list pool old new : List ℕ) (r : Answer) : Type 0 where
+  pub words : length new ≡ length old
+  pub trusts : (len made : ℕ) → r ≡ Done len made → Trusts list pool new

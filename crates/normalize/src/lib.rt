@@ -23,9 +23,10 @@ ghost use Rattle.attribute.specs.Walk.{Settings, walk};
 ghost use Rattle.attribute.specs.Steps.{readBy};
 ghost use Rattle.attribute.specs.Form.{formed, handed};
 ghost use Rattle.text.specs.declared.Answer.the-variants.{Refused as Refusal};
+ghost use Rattle.memory.specs.Slots.{Trusts, Forgot};
 ghost use Rattle.memory.specs.Levels.{levelOf, Lent};
 ghost use Rattle.cycle.specs.Cycle.{Walkable};
-ghost use Rattle.normalize.specs.Calls.{readingFor, outcomeFor, walkOf, formOf, plainly, writtenIn, Walks, WalksOn};
+ghost use Rattle.normalize.specs.Calls.{readingFor, outcomeFor, walkOf, formOf, plainly, writtenIn, Walks, WalksOn, Lasts};
 use memory::Place;
 use memory::Reached;
 use memory::Reading;
@@ -145,6 +146,103 @@ fn no_scratch() -> Answer
     }
 }
 
+// ---- long texts with a table: the memory has an index of the table's names behind it
+
+// Nothing is kept of the texts of a walk that is over: their values are in another output.
+fn forget(room: &mut [u64])
+    requires { ⌜ 84 ≤ length (now room) ⌝ }
+    ensures { λ _. ⌜ Forgot (now (room .entry)) (now (room .exit)) ⌝ }
+{
+    let mut k: usize = 0;
+    while k < 16 {
+        room[k] = 0;
+        k += 1;
+    }
+}
+
+// The walk over the text of a call, by a memory that another walk may have used.
+fn walk_lent(
+    text: &[u8],
+    reading: Reading,
+    list: &[u8],
+    pool: &[u8],
+    room: &mut [u64],
+    out: &mut [u8],
+) -> Answer
+    requires { ⌜ ValidTable (now list) (now pool) ⌝ }
+    requires { ⌜ (reading .base ≡ 0) × Walkable reading (now text) ⌝ }
+    requires { ⌜ WellFormed (now text) ⌝ }
+    requires { ⌜ (84 ≤ length (now room)) × Trusts (now list) (now pool) (now room) ⌝ }
+    ensures { λ r. ⌜ Walks (formOf reading (now (list .entry)) (now (pool .entry)) (now (text .entry))) (now (out .entry)) (now (out .exit)) r ⌝ }
+    ensures { λ r. ⌜ Lasts (now (list .entry)) (now (pool .entry)) (now (room .entry)) (now (room .exit)) r ⌝ }
+{
+    forget(room);
+    let start = Place {
+        at: 0,
+        len: 0,
+        openings: 0,
+    };
+    cycle::normalize_attr_steps(text, start, reading, list, pool, room, out)
+}
+
+// What is written, after a count of it. Both walks have one index.
+fn walk_into(
+    text: &[u8],
+    reading: Reading,
+    list: &[u8],
+    pool: &[u8],
+    lacks: bool,
+    short: u32,
+    room: &mut [u64],
+    out: &mut [u8],
+) -> Answer
+    requires { ⌜ ValidTable (now list) (now pool) ⌝ }
+    requires { ⌜ (reading .base ≡ 0) × Walkable reading (now text) ⌝ }
+    requires { ⌜ WellFormed (now text) ⌝ }
+    requires { ⌜ (84 ≤ length (now room)) × Trusts (now list) (now pool) (now room) ⌝ }
+    ensures { λ r. ⌜ Ended short (writtenIn (reading .form) lacks (walkOf reading (now (list .entry)) (now (pool .entry)) (now (text .entry)))) (now (out .entry)) (now (out .exit)) r ⌝ }
+{
+    let mut none = [0u8; 1];
+    let counted = walk_lent(text, reading, list, pool, room, &mut none[..0]);
+    let Answer::Done {
+        first: len,
+        second: _,
+    } = counted
+    else {
+        return counted;
+    };
+    if lacks {
+        return no_scratch();
+    }
+    if (out.len() as u64) < len {
+        return Answer::Refused {
+            number: short,
+            first: len,
+            second: 0,
+        };
+    }
+    walk_lent(text, reading, list, pool, room, out)
+}
+
+// With 84 words of memory, a state and 2,048 words of slots. It has two users, so that it is called: its array is in no frame of a short text.
+fn walk_long(
+    text: &[u8],
+    reading: Reading,
+    list: &[u8],
+    pool: &[u8],
+    lacks: bool,
+    short: u32,
+    out: &mut [u8],
+) -> Answer
+    requires { ⌜ ValidTable (now list) (now pool) ⌝ }
+    requires { ⌜ (reading .base ≡ 0) × Walkable reading (now text) ⌝ }
+    requires { ⌜ WellFormed (now text) ⌝ }
+    ensures { λ r. ⌜ Ended short (writtenIn (reading .form) lacks (walkOf reading (now (list .entry)) (now (pool .entry)) (now (text .entry)))) (now (out .entry)) (now (out .exit)) r ⌝ }
+{
+    let mut room = [0u64; 2133];
+    walk_into(text, reading, list, pool, lacks, short, &mut room, out)
+}
+
 // What is written of the value goes to the start of `out`; a buffer that is too short is refused by the number given. Counts first, and
 // holds what is short meanwhile, so that a refusal leaves the buffer.
 fn normalize_into(
@@ -163,6 +261,9 @@ fn normalize_into(
     requires { ⌜ WellFormed (now text) ⌝ }
     ensures { λ r. ⌜ Ended short (writtenIn (reading .form) lacks (walkOf reading (now (list .entry)) (now (pool .entry)) (now (text .entry)))) (now (out .entry)) (now (out .exit)) r ⌝ }
 {
+    if (1024 <= text.len()) & (192 <= list.len()) {
+        return walk_long(text, reading, list, pool, lacks, short, out);
+    }
     let mut held = [0u8; 128];
     let counted = normalize_text(text, first, reading, list, pool, &mut held);
     let Answer::Done {
@@ -263,6 +364,9 @@ fn form_into(
     requires { ⌜ WellFormed (now text) ⌝ }
     ensures { λ r. ⌜ Ended short (writtenIn (reading .form) lacks (walkOf reading (now (list .entry)) (now (pool .entry)) (now (text .entry)))) (now (out .entry)) (now (out .exit)) r ⌝ }
 {
+    if (1024 <= text.len()) & (192 <= list.len()) {
+        return walk_long(text, reading, list, pool, lacks, short, out);
+    }
     if out.len() / 6 < text.len() {
         return form_counted(text, first, reading, list, pool, lacks, short, out);
     }

@@ -7,11 +7,13 @@ use mathlib.Core.List.{List, [], _∷_, _++_}
 use Prim.Native.Nat.{ℕ, zero, suc, _+_, _-_, _≤_, _<_}
 use native.Mathlib.Omega.{arith}
 use lib.Dec.{eqb}
-use lib.ListN.{length, getD, set, take, drop, length-append, length-drop, length-set}
+use lib.ListN.{length, getD, set, take, drop, length-append, length-drop, length-set, drop-of-length-le}
 use lib.Seq.{length-take-le, take-at, getD-append-add, getD-drop, getD-take, take-set-le, getD-set-same, getD-set-other}
 use borrow.Author.Tests.{eqb-true, eqb-false}
 use Rattle.entity.specs.Commands.{commandText, Defines}
 use Rattle.attribute.specs.Walk.{Settings}
+use Rattle.table_index.specs.Index.{Ready}
+use Rattle.table_index.proofs.IndexStates.{ready-none}
 use Rattle.memory.specs.Slots.{slotOf, Stands, Memory, Kept}
 use Rattle.memory.proofs.Keeping.{kept-length, memory-more, memory-kept, memory-zeros}
 use Rattle.walk_depths.specs.Summary.{Known}
@@ -146,12 +148,17 @@ module _ (s : Settings) (list pool : List ℕ) where
   room-zeros v words n zeros =
       record {
         size = n;
-        memory = memory-zeros s 0 list pool v (take 84 words) (λ z. length-take-le 84 words (omega (arith, n))) (λ k. front-zero k (eqb (84 - k) 0) refl);
+        memory =
+            memory-zeros s 0 list pool v (take 84 words) (λ z. omega (arith, front)) (λ k. front-zero k (eqb (84 - k) 0) refl)
+            (subst (Ready list pool) (sym (drop-of-length-le (take 84 words) {i = 84} (omega (arith, front)))) (ready-none list pool));
         known = λ k c h e. absurd (omega (arith, zeros (k + 84), e));
       }
     where
+      front : length (take 84 words) ≡ 84
+      front = length-take-le 84 words (omega (arith, n))
+
       front-zero : (k : ℕ) (b : Bool) → eqb (84 - k) 0 ≡ b → getD (take 84 words) k 0 ≡ 0
-      front-zero k true e = out (take 84 words) k (omega (arith, length-take-le 84 words (omega (arith, n)), eqb-true (84 - k) 0 e))
+      front-zero k true e = out (take 84 words) k (omega (arith, front, eqb-true (84 - k) 0 e))
         where
           out : (l : List ℕ) (i : ℕ) → length l ≤ i → getD l i 0 ≡ 0
           out [] i g = refl

@@ -455,7 +455,7 @@ normalize-attr-steps-normalize-attr-step-requires t c κs =
       (
         begin .pre .1 .0,
         (
-          record { deep = asked .deep; few = o .few; most = asked .most; full = flat .normalize-flat .ensures .words ∙ turn .loop .inv .kept ∙ begin .pre .1 .1 .1 .0 },
+          record { deep = asked .deep; few = o .few; most = asked .most; full = omega (arith, flat .normalize-flat .ensures .words, turn .loop .inv .kept, begin .pre .1 .1 .1 .0) },
           (o .defines, o .lent _),
         ),
       ),
@@ -504,7 +504,7 @@ normalize-attr-steps-keep-requires t c κs =
     let o = at-opening (a .reading) (a .list .now) (a .pool .now) (a .text .now) (a .begun) (turn .loop .inv) (flat .normalize-flat .ensures)
     (begin .pre .1 .1 .1 .1) (found .next .given .1) (table-sound t turn) in (
       (omega (arith, o .defines .fits, valid-short (a .list .now) (a .pool .now) (begin .pre .1 .0)), o .known),
-      λ z. step .normalize-attr-step .ensures .words ∙ flat .normalize-flat .ensures .words ∙ turn .loop .inv .kept ∙ begin .pre .1 .1 .1 .0,
+      λ z. omega (arith, step .normalize-attr-step .ensures .words, flat .normalize-flat .ensures .words, turn .loop .inv .kept, begin .pre .1 .1 .1 .0),
     )
 
 normalize-attr-steps-add-len : (t : ℕ) → normalize-attr-steps-lts.Need-add-len (normalize-attr-steps-claims t)

@@ -1,5 +1,5 @@
 -- `normalize_opened` hands the walker 84 words that are 0, which keep nothing yet (`opened-lent`, `opened-walks`).
-use mathlib.Core.Path.{refl}
+use native.Mathlib.Omega.{arith}
 use Rattle.normalize.proofs.Texts.{opened-lent, opened-walks}
 use borrow.Author.Needs.{needs}
 use Rattle.normalize.proofs.normalize_opened.Statement.{statement}
@@ -13,7 +13,7 @@ normalize-attr-steps-requires c κs =
     let begin = c .before .before .before .before .before .before in
     let a = begin .args in
     let asked = begin .pre in
-    (asked .0, (asked .1 .0 .1, (refl, opened-lent (a .reading) (a .list .now) (a .pool .now) (a .text .now) (asked .1 .0 .0) (a .begun) (asked .1 .1))))
+    (asked .0, (asked .1 .0 .1, (omega arith, opened-lent (a .reading) (a .list .now) (a .pool .now) (a .text .now) (asked .1 .0 .0) (a .begun) (asked .1 .1))))
 
 same-length : tie.Need-same-length
 same-length c = search needs

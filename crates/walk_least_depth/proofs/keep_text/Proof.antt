@@ -40,7 +40,7 @@ slice-aggregate-keep c =
 keep-requires : tie.Need-keep-requires
 keep-requires c κs =
     let begin = c .before .before in
-    ((begin .pre .0, begin .pre .1), λ z. length-take-le 84 (begin .args .room .now) (omega (arith, begin .pre)))
+    ((begin .pre .0, begin .pre .1), λ z. omega (arith, length-take-le 84 (begin .args .room .now) (omega (arith, begin .pre))))
 
 know-requires : tie.Need-know-requires
 know-requires c κs =
