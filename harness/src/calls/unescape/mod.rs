@@ -93,7 +93,7 @@ pub const CALL: Call = Call {
             rows::mixed_lookup(|lent| unsafe { run(lent) }),
         ]
     },
-    counted: |_| {},
+    counted: |all| rows::counted(all, |lent| unsafe { run(lent) }),
 };
 
 const DOCUMENTED: &[Documented] = &[
