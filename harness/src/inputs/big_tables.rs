@@ -6,7 +6,7 @@ use crate::arguments::{Arguments, Room, Sink, DEEPEST, MOST_OPENINGS};
 use crate::draft::Draft;
 use crate::random::Random;
 use crate::table::{DEFINITION, EXTERNAL_DECLARATION, LONGEST_LIST, LONGEST_NAME, LONGEST_POOL};
-use std::collections::HashMap;
+use std::collections::HashSet;
 
 /// How the names of a table are made of their numbers.
 #[derive(Clone, Copy)]
@@ -70,33 +70,31 @@ impl Big {
         let names = names(random, shape, count);
         let repeats = random.below(3) == 0;
         let one_external_of = random.pick(&[usize::MAX, usize::MAX, 64, 8]);
-        let mut draft = Draft::default();
-        let mut is_text = HashMap::new();
-        let mut bound = vec![];
+        let (mut draft, mut seen) = (Draft::default(), HashSet::new());
+        let (mut bound, mut external) = (vec![], vec![]);
         for index in 0..count {
-            let name = match random.below(64) {
-                0 => random.pick(&FIVE).as_bytes(),
-                _ if repeats => &names[random.below(index + 1)],
-                _ => &names[index],
+            let (name, is_external): (&[u8], bool) = match random.below(64) {
+                0 => (random.pick(&FIVE).as_bytes(), false),
+                _ if repeats => (
+                    &names[random.below(index + 1)],
+                    random.below(one_external_of) == 0,
+                ),
+                _ => (&names[index], random.below(one_external_of) == 0),
             };
             if !has_room(&draft) {
                 break;
             }
-            let is_external =
-                random.below(one_external_of) == 0 && !FIVE.map(str::as_bytes).contains(&name);
             match is_external {
                 true => draft.declare_external(name),
                 false => define(random, &mut draft, name, &bound),
             }
-            let is_first = !is_text.contains_key(name);
-            is_text.entry(name.to_vec()).or_insert(!is_external);
-            if is_first && !is_external {
-                bound.push(name.to_vec());
+            // The first binds.
+            match seen.insert(name) {
+                true if is_external => external.push(name.to_vec()),
+                true => bound.push(name.to_vec()),
+                false => {}
             }
         }
-        let external = is_text.into_iter().filter(|(_, is_text)| !is_text);
-        let mut external: Vec<Vec<u8>> = external.map(|(name, _)| name).collect();
-        external.sort();
         Big {
             draft: draft.ended().marked_if(random.below(3) == 0),
             bound,
