@@ -7,8 +7,10 @@ use std::hint::black_box;
 
 const ROUNDS: usize = 100;
 
-pub fn run(calls: &[&Call]) {
+/// Of the rows whose lines have this part.
+pub fn run(calls: &[&Call], part: &str) {
     let mut rows: Vec<Row> = calls.iter().flat_map(|call| (call.timed)()).collect();
+    rows.retain(|row| row.has(part));
     let differences = calls.iter().flat_map(|call| (call.differences)());
     let mut differences: Vec<Difference> = differences.collect();
     let mut copy = copy_alone();

@@ -50,6 +50,16 @@ impl<'a> Comparison<'a> {
         family(random, &mut |arguments| self.compare(&arguments));
     }
 
+    /// The same up to the first difference: what the family makes after it is passed over.
+    pub fn try_until_told(&mut self, family: Family, random: &mut Random) -> bool {
+        family(random, &mut |arguments| {
+            if self.differences == 0 {
+                self.compare(&arguments);
+            }
+        });
+        self.differences > 0
+    }
+
     pub fn compare(&mut self, arguments: &Arguments) {
         self.compare_at(arguments, self.compared);
     }

@@ -47,7 +47,7 @@ harness self-test [--calls A,B]                               check that wrong l
 harness stored [--calls A,B] [FILE]                           write a sample of the Rust's answers
 harness answers [--calls A,B] FILE..                          print what has to be answered to the bytes of a file, under 1.0
 harness used                                                  write values and the names that they look up
-harness benchmark [--calls A,B]                               measure every call against the Rust
+harness benchmark [--calls A,B] [--rows PART]                 measure every call against the Rust
 harness instructions [--calls A,B] [--rows PART] [--before FILE]   count both sides' instructions (valgrind)
 harness corpus FOLDER                                         print those of a fuzzer's inputs that are kept
 harness fuzz OPTIONS                                          run libFuzzer (where it is built in: ../scripts/fuzz)";
@@ -86,7 +86,11 @@ fn run(words: &[&str]) -> Option<bool> {
         ("used", []) => Some(passed(used::write(&mut io::stdout()))),
         ("corpus", [folder]) => Some(passed(corpus::choose(folder, &mut io::stdout()))),
         ("benchmark", []) => {
-            benchmark::run(&calls);
+            benchmark::run(&calls, "");
+            Some(true)
+        }
+        ("benchmark", ["--rows", part]) => {
+            benchmark::run(&calls, part);
             Some(true)
         }
         ("instructions", options) => instructions(&calls, options),

@@ -4,6 +4,7 @@ use crate::arguments::{Arguments, Family};
 use crate::call::{Call, Faults};
 use crate::comparison::{Comparison, Reading};
 use crate::faults;
+use crate::inputs::big_tables::looked_up_often;
 use crate::lent::{Lent, Run};
 use crate::random::{Random, DEFAULT_SEED};
 use crate::unused;
@@ -29,6 +30,13 @@ pub fn run(calls: &[&Call]) -> bool {
             // SAFETY: the comparison lends memory of the lengths stated; the faults stay inside its guards.
             let library = |lent: &Lent| unsafe { fault(lent, call.run) };
             judge(name, is_caught(call, &library, None, call.families));
+        }
+        for &(name, fault) in faults::index::of(call) {
+            // SAFETY: as above.
+            let library = |lent: &Lent| unsafe { fault(lent, call.run) };
+            // The other families do not tell these, and would take their time.
+            let families: &[&[Family]] = &[&[looked_up_often]];
+            judge(name, is_caught(call, &library, None, families));
         }
         for (name, caught) in unused::misreadings(call) {
             judge(&format!("names looked up: {name}"), caught);
@@ -100,8 +108,6 @@ fn is_caught(
     let mut comparison = Comparison::new(call, library, reading);
     let mut random = Random::new(DEFAULT_SEED);
     let families = families.iter().copied().flatten();
-    std::iter::once(&call.seams).chain(families).any(|family| {
-        comparison.try_all(*family, &mut random);
-        comparison.differences > 0
-    })
+    let mut families = std::iter::once(&call.seams).chain(families);
+    families.any(|family| comparison.try_until_told(*family, &mut random))
 }

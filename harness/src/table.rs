@@ -2,6 +2,7 @@
 //! comparison's own, made from the documents' text alone.
 
 use crate::rust::escape::resolve_xml_entity;
+use std::collections::HashMap;
 
 pub const LONGEST_LIST: usize = 49_154;
 pub const LONGEST_POOL: usize = 1_048_576;
@@ -151,8 +152,47 @@ pub enum Meaning<'a> {
 }
 
 pub fn look_up<'a>(definitions: &[Definition<'a>], name: &str) -> Meaning<'a> {
-    match definitions.iter().find(|defined| defined.name == name) {
+    meaning(
+        definitions.iter().find(|defined| defined.name == name),
+        name,
+    )
+}
+
+fn meaning<'a>(first: Option<&Definition<'a>>, name: &str) -> Meaning<'a> {
+    match first {
         Some(defined) => defined.text.map_or(Meaning::External, Meaning::Defined),
         None => resolve_xml_entity(name).map_or(Meaning::Nothing, Meaning::Predefined),
+    }
+}
+
+/// Definitions for many lookups. Where they are many, the first of each name is found by a map.
+pub struct Names<'d, 'a> {
+    definitions: &'d [Definition<'a>],
+    first: Option<HashMap<&'a str, &'d Definition<'a>>>,
+}
+
+impl<'d, 'a> Names<'d, 'a> {
+    pub fn new(definitions: &'d [Definition<'a>]) -> Self {
+        const FEW: usize = 64;
+        let first = (definitions.len() > FEW).then(|| {
+            let mut first = HashMap::with_capacity(definitions.len());
+            for defined in definitions {
+                first.entry(defined.name).or_insert(defined);
+            }
+            first
+        });
+        Names { definitions, first }
+    }
+
+    /// The definition that binds.
+    pub fn first(&self, name: &str) -> Option<&'d Definition<'a>> {
+        match &self.first {
+            Some(first) => first.get(name).copied(),
+            None => self.definitions.iter().find(|defined| defined.name == name),
+        }
+    }
+
+    pub fn look_up(&self, name: &str) -> Meaning<'a> {
+        meaning(self.first(name), name)
     }
 }

@@ -32,6 +32,11 @@ impl Row {
         others.into_iter().flatten().for_each(Side::measure);
     }
 
+    /// Is this a part of the cells that name it?
+    pub fn has(&self, part: &str) -> bool {
+        format!("| {} | {} | {} |", self.call, self.input, self.bytes).contains(part)
+    }
+
     pub fn print(&self) {
         let (ours, rust) = (self.ours.best, self.rust.best);
         let ratio = |side: &Option<Side>| match side {

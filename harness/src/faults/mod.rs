@@ -2,6 +2,7 @@
 
 pub mod answer;
 pub mod external;
+pub mod index;
 pub mod marked;
 pub mod memory;
 pub mod new_table;

@@ -7,7 +7,7 @@ use super::sizes::BLOCK_ENDS;
 use super::tables::few;
 use super::text::{woven, Mix};
 use super::woven::Subject;
-use super::{entities, external, marked, memory, sizes, tables};
+use super::{big_tables, entities, external, marked, memory, sizes, tables};
 use crate::arguments::{Arguments, Family, Room, Sink};
 use crate::arguments::{DEEPEST, LONGEST_TEXT, MOST_OPENINGS, MOST_SPARE, ROOMS};
 use crate::draft::Draft;
@@ -30,6 +30,7 @@ pub const FAMILIES: &[Family] = &[
     tables::limits,
     entities::text_before_table,
     entities::lookups,
+    big_tables::looked_up_often,
     entities::similar_names,
     entities::first_binds,
     entities::repeated,

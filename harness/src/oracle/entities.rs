@@ -10,7 +10,7 @@ use crate::answer::{refusal, Answer};
 use crate::arguments::{Arguments, LONGEST_OUTPUT};
 use crate::rust::escape::{unescape_with, EscapeError, ParseCharRefError};
 use crate::rust::XmlVersion;
-use crate::table::{look_up, Meaning};
+use crate::table::{Meaning, Names};
 
 pub fn walk_refusal(error: EscapeError) -> Answer {
     match error {
@@ -45,8 +45,9 @@ pub fn normalized(arguments: &Arguments) -> Result<Made, Answer> {
     if !arguments.table.is_the_rusts(&definitions) {
         return reading::normalized(arguments, Rule::Lenient);
     }
+    let names = Names::new(&definitions);
     let (mut openings, mut used_up) = (0, false);
-    let resolve = |name: &str| match look_up(&definitions, name) {
+    let resolve = |name: &str| match names.look_up(name) {
         // Without a text the Rust stops here, and says where the name stands.
         Meaning::Defined(_) if openings == arguments.limit => {
             used_up = true;
@@ -96,8 +97,9 @@ pub fn unescaped(arguments: &Arguments) -> Result<Made, Answer> {
     if !arguments.table.is_the_rusts(&definitions) {
         return reading::unescaped(arguments);
     }
+    let names = Names::new(&definitions);
     let (mut copied, mut left_out) = (0, 0);
-    let mut resolve = |name: &str| match look_up(&definitions, name) {
+    let mut resolve = |name: &str| match names.look_up(name) {
         Meaning::Defined(text) if copied + text.len() > LONGEST_OUTPUT => {
             left_out += text.len();
             Some("")

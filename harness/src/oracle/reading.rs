@@ -7,7 +7,7 @@ use super::result::Made;
 use super::text::checked;
 use crate::answer::{refusal, Answer};
 use crate::arguments::{Arguments, DEEPEST, LONGEST_OUTPUT};
-use crate::table::Definition;
+use crate::table::{Definition, Names};
 use std::collections::HashSet;
 
 const PREDEFINED: [(&str, &str); 5] = [
@@ -67,7 +67,7 @@ struct Settings<'a> {
     /// That of the value's own text.
     depth: u64,
     limit: u64,
-    definitions: &'a [Definition<'a>],
+    names: Names<'a, 'a>,
 }
 
 struct Walk<'a> {
@@ -150,7 +150,7 @@ fn walked(
         named,
         depth: arguments.depth,
         limit: arguments.limit,
-        definitions: &definitions,
+        names: Names::new(&definitions),
     };
     let mut walk = Walk {
         settings,
@@ -213,7 +213,7 @@ impl Walk<'_> {
             self.value.push(b'&');
         } else {
             (self.asked)(name);
-            match bound(self.settings.definitions, name) {
+            match bound(self.settings.names.first(name), name) {
                 Bound::Nothing => return Err(unknown(at, name)),
                 Bound::External => return Err(refusal(27, at as u64)),
                 Bound::Defined(_) if self.openings == self.settings.limit => {
@@ -293,6 +293,7 @@ pub fn unescaped(arguments: &Arguments) -> Result<Made, Answer> {
 fn replaced(arguments: &Arguments, asked: &mut dyn FnMut(&str)) -> Result<Made, Answer> {
     let text = checked(arguments.text)?;
     let definitions = defined_by(arguments.table)?;
+    let names = Names::new(&definitions);
     let (mut result, mut left_out, mut rest) = (String::new(), 0, text);
     while let Some(before) = rest.find('&') {
         let at = text.len() - rest.len() + before;
@@ -311,7 +312,7 @@ fn replaced(arguments: &Arguments, asked: &mut dyn FnMut(&str)) -> Result<Made, 
             continue;
         }
         asked(name);
-        match bound(&definitions, name) {
+        match bound(names.first(name), name) {
             Bound::Nothing => return Err(unknown(at, name)),
             Bound::External => return Err(refusal(27, at as u64)),
             Bound::Defined(inner) if result.len() + inner.len() > LONGEST_OUTPUT => {
@@ -357,11 +358,9 @@ enum Bound<'a> {
 }
 
 /// The first definition of the name binds, else it is one of the five or unknown.
-fn bound<'a>(definitions: &[Definition<'a>], name: &str) -> Bound<'a> {
-    for definition in definitions {
-        if definition.name == name {
-            return definition.text.map_or(Bound::External, Bound::Defined);
-        }
+fn bound<'a>(first: Option<&Definition<'a>>, name: &str) -> Bound<'a> {
+    if let Some(definition) = first {
+        return definition.text.map_or(Bound::External, Bound::Defined);
     }
     for (predefined, character) in PREDEFINED {
         if predefined == name {

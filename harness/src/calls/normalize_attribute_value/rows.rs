@@ -1,12 +1,16 @@
 //! The Rust's walk beside ours; its instructions also for names in a long table, and for texts that cost most for their length.
 
+use crate::arguments::DEEPEST;
 use crate::counting;
 use crate::draft::Draft;
 use crate::rows::attribute::{self, long_values, rust, rust_normalize, short_values};
 use crate::rows::attribute::{difference, rust_normalize_strictly};
+use crate::rows::many_names::{self, Map};
 use crate::rows::table::{ours, Ours, TableRule, Tables, NAMES};
+use crate::rust::escape::{resolve_xml_entity, EscapeError};
+use crate::rust::XmlVersion;
 use crate::table::LONGEST_REPLACEMENT;
-use crate::timing::{self, aligned};
+use crate::timing::{self, aligned, Made};
 use std::hint::black_box;
 
 const CALLS: [&str; 2] = [
@@ -20,7 +24,9 @@ const STRICT_CALLS: [&str; 2] = [
 ];
 
 pub fn timed(run: impl Ours) -> Vec<timing::Row> {
-    attribute::timed(CALLS, (run, rust_normalize))
+    let mut rows = attribute::timed(CALLS, (run, rust_normalize));
+    rows.extend(many_names::timed(CALLS[0], run, rust_normalize_by_map));
+    rows
 }
 
 pub fn counted(rows: &mut Vec<counting::Row>, run: impl Ours) {
@@ -35,6 +41,20 @@ pub fn counted(rows: &mut Vec<counting::Row>, run: impl Ours) {
             worst(rows, call, sides);
         }
     }
+    many_names::counted(rows, CALLS[0], run, rust_normalize_by_map);
+}
+
+/// Counts the openings too.
+fn rust_normalize_by_map(text: &'static str, map: &'static Map) -> Result<Made, EscapeError> {
+    let mut openings = 0;
+    let resolve = |name: &str| {
+        let defined = map.get(name).copied();
+        openings += u64::from(defined.is_some());
+        defined.or_else(|| resolve_xml_entity(name))
+    };
+    let (version, depth) = (XmlVersion::Explicit1_0, DEEPEST as usize);
+    let value = version.normalize_attribute_value(text, depth, resolve)?;
+    Ok((value, openings))
 }
 
 pub fn strictly_timed(run: impl Ours) -> Vec<timing::Row> {

@@ -9,7 +9,9 @@ use crate::call::Parameter::{Output, Table, Text};
 use crate::calls::c14n::inputs::text_forms_unescaped;
 use crate::documented::{marked, row, with, Documented, Outcome, Outcome::Answered, Outcome::Made};
 use crate::faults::{external as external_faults, marked as marked_faults, table::LOOKUP};
-use crate::inputs::{entities, external, marked as marked_inputs, sizes, tables, woven};
+use crate::inputs::{
+    big_tables, entities, external, marked as marked_inputs, sizes, tables, woven,
+};
 use crate::lent::Lent;
 use inputs::Unescape;
 
@@ -55,6 +57,7 @@ pub const CALL: Call = Call {
         tables::limits,
         entities::text_before_table,
         entities::lookups,
+        big_tables::looked_up_often,
         entities::similar_names,
         entities::first_binds,
         external::every_order,
@@ -90,7 +93,7 @@ pub const CALL: Call = Call {
             rows::mixed_lookup(|lent| unsafe { run(lent) }),
         ]
     },
-    counted: |_| {},
+    counted: |all| rows::counted(all, |lent| unsafe { run(lent) }),
 };
 
 const DOCUMENTED: &[Documented] = &[

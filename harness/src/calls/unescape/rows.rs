@@ -1,8 +1,10 @@
 //! The Rust's walk beside ours, and what a lookup takes.
 
+use crate::counting;
 use crate::draft::Draft;
 use crate::inputs::entities::{long_entities, long_names, long_reference};
 use crate::inputs::sizes::MEBIBYTE;
+use crate::rows::many_names::{self, resolved, Map};
 use crate::rows::table::{table_row, Ours, References, Tables, NAMES};
 use crate::rust::escape::{self, EscapeError};
 use crate::table::{look_up, Definition, Meaning};
@@ -33,7 +35,16 @@ pub fn timed(run: impl Ours) -> Vec<Row> {
             ));
         }
     }
+    rows.extend(many_names::timed("unescape", run, rust_unescape_by_map));
     rows
+}
+
+pub fn counted(rows: &mut Vec<counting::Row>, run: impl Ours) {
+    many_names::counted(rows, "unescape", run, rust_unescape_by_map);
+}
+
+fn rust_unescape_by_map(text: &'static str, map: &'static Map) -> Result<Made, EscapeError> {
+    Ok((escape::unescape_with(text, |name| resolved(map, name))?, 0))
 }
 
 fn rust_unescape(
