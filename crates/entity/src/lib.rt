@@ -165,7 +165,7 @@ fn same_words(pool: &[u8], start: usize, name: &[u8]) -> usize
 }
 
 // What a name refers to that the table does not define.
-fn plain_referent(name: &[u8]) -> Referent
+pub fn plain_referent(name: &[u8]) -> Referent
     ensures { λ r. ⌜ ((list pool : List ℕ) → predefinedOf (now (name .entry)) ≡ binding list pool (now (name .entry)) → Refers list pool (now (name .entry)) r) ⌝ }
 {
     match resolve_xml_entity(name) {
@@ -212,7 +212,7 @@ pub fn is_named(list: &[u8], pool: &[u8], at: usize, name: &[u8]) -> bool
 }
 
 // What the command at `at`, at which a lookup stops, gives its name.
-fn referent_at(list: &[u8], at: usize) -> Referent
+pub fn referent_at(list: &[u8], at: usize) -> Referent
     requires { ⌜ (at < length (now list)) × (getD (now list) at 0 ≡ 1 → at + 12 ≤ length (now list)) ⌝ }
     ensures { λ r. ⌜ ReferentAt (now (list .entry)) at r ⌝ }
 {
@@ -340,7 +340,7 @@ pub fn find_entity(list: &[u8], pool: &[u8], name: &[u8]) -> Referent
 }
 
 // What a name is bound to, by what it refers to.
-fn binding_of(referent: Referent) -> Binding
+pub fn binding_of(referent: Referent) -> Binding
     ensures { λ r. ⌜ ((list pool name : List ℕ) → Refers list pool name referent → (boundTo pool r ≡ binding list pool name) × Lies pool r) ⌝ }
 {
     match referent {
