@@ -1,0 +1,10 @@
+pub mod CommandsPassed
+pub mod Filing
+pub mod Finding
+pub mod PackedSlots
+pub mod IndexStates
+pub mod NameHashing
+pub mod NameBlocks
+pub mod BuildingPlaces
+pub mod Looked
+pub mod Inserting
