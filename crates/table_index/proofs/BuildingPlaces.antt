@@ -2,18 +2,18 @@
 -- files all commands stands, goes on and ends (`building-more`, `building-over`, `building-vain`). Assumes nothing.
 use mathlib.Core.Path.{_≡_, refl, ap, sym, subst, _∙_}
 use mathlib.Core.Logic.{_≢_}
-use mathlib.Core.Bool.{Bool, true, false, true≢false}
+use mathlib.Core.Bool.{Bool, true, false}
 use mathlib.Core.List.{List, [], _∷_}
-use Prim.Native.Nat.{ℕ, zero, suc, _+_, _-_, _≤_, _<_}
+use Prim.Native.Nat.{ℕ, suc, _+_, _≤_, _<_}
 use native.Mathlib.Omega.{arith}
-use lib.Dec.{eqb, ltb}
+use lib.Dec.{ltb}
 use lib.ListN.{length, getD, set, drop, length-set, drop-of-length-le}
 use lib.Seq.{drop-cons}
 use borrow.Author.Tests.{ltb-true, ltb-false, ne-eqb}
 use Rattle.text.proofs.Bytes.{or-left}
-use Rattle.entity.specs.Table.{littleEndian, declares, markSize, bodyPast, runsPast, commandsCheck, ValidTable}
+use Rattle.entity.specs.Table.{littleEndian, declares, bodyPast, runsPast, commandsCheck, ValidTable}
 use Rattle.entity.specs.Steps.{commandSize, commandCheck, IsDone}
-use Rattle.entity.proofs.Commands.{both-done, past-mark, command-done, next-check, size-some}
+use Rattle.entity.proofs.Commands.{both-done, past-mark, command-done, next-check}
 use Rattle.entity.proofs.Lookup.{table-done, Declared, end-declares}
 use Rattle.entity.proofs.Tables.{valid-short}
 use Rattle.entity.proofs.Reading.{bodyAt, declaration-at}

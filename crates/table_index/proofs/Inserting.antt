@@ -1,15 +1,15 @@
 -- One command more, in the words: no slot of its name is empty (`inserted-vain`), or the first empty one is filled (`inserted-more`).
 -- Assumes nothing.
-use mathlib.Core.Path.{_≡_, refl, ap, ap₂, sym, subst, _∙_}
+use mathlib.Core.Path.{_≡_, refl, ap, ap₂, subst, _∙_}
 use mathlib.Core.Logic.{_≢_}
-use mathlib.Core.List.{List, _∷_}
-use Prim.Native.Nat.{ℕ, _+_, _-_, _≤_, _<_}
+use mathlib.Core.List.{List}
+use Prim.Native.Nat.{ℕ, _+_, _-_, _<_}
 use native.Mathlib.Omega.{arith}
 use lib.ListN.{length, getD, take, drop}
 use Rattle.entity.specs.Table.{littleEndian, part}
 use Rattle.entity.specs.Commands.{commandName}
 use Rattle.table_index.specs.NameHash.{hashOf}
-use Rattle.table_index.specs.Index.{Passed, Indexes, FilledAt, homeAt, homeOf, slotOf, FirstEmpty, Inserted}
+use Rattle.table_index.specs.Index.{FilledAt, homeAt, homeOf, slotOf, Vacant, FirstEmpty, Inserted}
 use Rattle.table_index.proofs.Filing.{index-vain, index-more}
 
 -- the home of the command's name, as the code lends it
@@ -19,6 +19,10 @@ unfolding part
 home-name list pool at words {start} {end} s e h f =
     let n : end - start ≡ getD list (at + 5) 0 = omega (arith, e) in
     f ∙ ap (λ (x : ℕ). homeAt x words) (h ∙ ap₂ (λ (a b : ℕ). hashOf (take a (drop b pool))) n s)
+
+-- the first empty slot is empty; which it is is asked by itself, so that a wrong one is refused as a number
+pub first-vacant : {words : List ℕ} {from k s : ℕ} → FirstEmpty words from k → k ≢ 16 → s ≡ from + k → Vacant words s
+first-vacant {words} f other e = record { is = ap (slotOf words) e ∙ f .empty (omega (arith, f .within, other)) }
 
 module _ (list pool : List ℕ) (at : ℕ) (words : List ℕ) {from k : ℕ} (is : from ≡ homeOf (length words) (commandName list pool at)) (f : FirstEmpty words from k) where
   abbrev home : List ℕ → ℕ

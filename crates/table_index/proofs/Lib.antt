@@ -8,3 +8,4 @@ pub mod NameBlocks
 pub mod BuildingPlaces
 pub mod Looked
 pub mod Inserting
+pub mod Examples

@@ -1,10 +1,10 @@
 -- One probe of a lookup, at a slot with `s` in it: empty, a command with the name, or another command; and a name that is too long for any
 -- command (`long-none`). Assumes nothing.
-use mathlib.Core.Path.{_≡_, refl, ap, sym, subst, _∙_}
+use mathlib.Core.Path.{_≡_, ap, sym, subst, _∙_}
 use mathlib.Core.Logic.{_≢_}
 use mathlib.Core.Bool.{Bool, true, false}
 use mathlib.Core.List.{List}
-use Prim.Native.Nat.{ℕ, _+_, _-_, _≤_, _<_}
+use Prim.Native.Nat.{ℕ, _+_, _-_, _<_}
 use native.Mathlib.Omega.{arith}
 use lib.ListN.{length, getD}
 use Rattle.text.specs.Bytes.{sameBytes}
@@ -38,13 +38,14 @@ module _ {list pool name words : List ℕ} {from k s : ℕ} (l : Looking list po
         command-declared list pool (l .valid) (w .end) (w .commands) (w .passed) (s - 1)
         (subst (λ (n : ℕ). member (n - 1) (w .commands) ≡ true) here (w .indexes .only (homeOf (length words) name + k) (λ e. some (sym here ∙ e))))
 
-    pub looked-hit : sameBytes (commandName list pool (s - 1)) name ≡ true → (r : Referent) → ReferentAt list (s - 1) r → Refers list pool name r
-    looked-hit e r t =
+    pub looked-hit : {x : Bool} → x ≡ sameBytes (commandName list pool (s - 1)) name → x ≡ true → (r : Referent) → ReferentAt list (s - 1) r
+        → Refers list pool name r
+    looked-hit q e r t =
         let w = l .whole in
-        index-hit list pool (homeOf (length words)) (slotOf words) name (l .valid) (w .end) (w .commands) (w .passed) (w .indexes) k less (l .probing) (s - 1) (here ∙ after) e r t
+        index-hit list pool (homeOf (length words)) (slotOf words) name (l .valid) (w .end) (w .commands) (w .passed) (w .indexes) k less (l .probing) (s - 1) (here ∙ after) (sym q ∙ e) r t
 
-    pub looked-more : {j : ℕ} → sameBytes (commandName list pool (s - 1)) name ≡ false → j ≡ k + 1 → Looking list pool name words from j
-    looked-more {j} e q =
+    pub looked-more : {j : ℕ} {x : Bool} → x ≡ sameBytes (commandName list pool (s - 1)) name → x ≡ false → j ≡ k + 1 → Looking list pool name words from j
+    looked-more {j} named e q =
         record {
           valid = l .valid;
           whole = l .whole;
@@ -53,7 +54,7 @@ module _ {list pool name words : List ℕ} {from k s : ℕ} (l : Looking list po
           large = l .large;
           within = omega (arith, q, less);
           probing = probing-more list pool (homeOf (length words)) (slotOf words) name k (l .probing) (λ z. some (sym here ∙ z))
-              (ap (λ (n : ℕ). sameBytes (commandName list pool (n - 1)) name) here ∙ e) q;
+              (ap (λ (n : ℕ). sameBytes (commandName list pool (n - 1)) name) here ∙ sym named ∙ e) q;
         }
 
 -- a command's name has at most 255 bytes

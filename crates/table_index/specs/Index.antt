@@ -65,6 +65,10 @@ homeAt hash words = hash * (4 * words - 16) / 0x100000000
 abbrev pub homeOf : ℕ → List ℕ → ℕ
 homeOf size name = homeAt (hashOf name) (size - 1)
 
+-- nothing stands in the slot
+pub record Vacant (words : List ℕ) (s : ℕ) : Type 0 where
+  pub is : slotOf words s ≡ 0
+
 -- the states above any number of bytes that lookups passed: an index of all commands; no index, as too many slots were wanted in vain
 abbrev pub builtState : ℕ
 builtState = 0x100000000

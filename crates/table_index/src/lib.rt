@@ -13,7 +13,7 @@ ghost use Rattle.text.specs.Bytes.{sameBytes};
 ghost use Rattle.entity.specs.Table.{littleEndian, part, ValidTable};
 ghost use Rattle.entity.specs.Commands.{commandName, Refers};
 ghost use Rattle.table_index.specs.NameHash.{mixed, joinedFrom, turnedWords, hashOf};
-ghost use Rattle.table_index.specs.Index.{slotOf, homeAt, builtState, stateOf, Sized, FilledAt, FirstEmpty, Inserted, Ready, Built};
+ghost use Rattle.table_index.specs.Index.{slotOf, homeAt, builtState, stateOf, Vacant, Sized, FilledAt, FirstEmpty, Inserted, Ready, Built};
 use entity::Referent;
 use text::load;
 
@@ -107,7 +107,7 @@ fn slot_at(index: &[u64], s: usize) -> usize
 // Fills an empty slot.
 fn fill(s: usize, at: usize, index: &mut [u64])
     requires { ⌜ (s < 4 * (length (now index) - 1)) × (length (now index) ≤ 0x10000) ⌝ }
-    requires { ⌜ (at < 0xffff) × (slotOf (now index) s ≡ 0) ⌝ }
+    requires { ⌜ (at < 0xffff) × Vacant (now index) s ⌝ }
     ensures { λ _. ⌜ FilledAt (slotOf (now (index .entry))) (slotOf (now (index .exit))) s at ⌝ }
     ensures { λ _. ⌜ length (now (index .exit)) ≡ length (now (index .entry)) ⌝ }
 {

@@ -1,100 +1,99 @@
-use mathlib.Core.Path.{_≡_, refl, ap, sym, _∙_}
+-- `first_look_up`: the plain lookup answers. The state that it counts stays below the two others (`ready-counted`), or the index is built of empty slots.
+use mathlib.Core.Path.{refl, _∙_}
+use mathlib.Core.List.{List}
 use native.Mathlib.Omega.{arith}
 use native.Mathlib.Nat.{le-refl}
-use Prim.Native.Nat.{ℕ, _+_, _*_, _<_, _≤_}
-use lib.ListN.{length, getD, set, length-set}
+use Prim.Native.Nat.{ℕ, _+_, _≤_, _<_}
+use lib.ListN.{length, getD, length-set}
 use Rattle.entity.proofs.Tables.{valid-short}
-use Rattle.table_index.specs.Index.{builtState}
+use Rattle.table_index.specs.Index.{slotOf, builtState, Sized}
+use mathlib.Core.Path.{_≡_}
 use Rattle.table_index.proofs.PackedSlots.{slot-state}
 use Rattle.table_index.proofs.IndexStates.{ready-sized, ready-empty, set-sized, set-state, ready-counted}
 use Rattle.table_index.proofs.first_look_up.Statement.{statement}
 use Rattle.table_index.proofs.first_look_up.Tie as tie
-use Rattle.table_index.proofs.first_look_up.Reads as reads
-use Rattle.table_index.proofs.first_look_up.Lts as lts
-use Rattle.entity.proofs.find_entity.Reads as find-entity-reads
-use Rattle.table_index.proofs.build.Reads as build-reads
-use Rattle.table_index.proofs.passed_by.Reads as passed-by-reads
 
--- src/lib.rt:302:9
+-- places: what was passed, and the entry
+abbrev Counted : Type 0
+Counted = tie.After-passed-by
+
+abbrev entry : Counted → tie.Start
+entry c = c .before .before .before .before .before .before .before .before .before
+
+abbrev words : Counted → List ℕ
+words c = entry c .args .index .now
+
+-- the state that is written
+abbrev state : Counted → ℕ
+state c = getD (words c) 0 0 + c .passed-by .result
+
+short : (s : tie.Start) → length (s .args .list .now) ≤ 49154
+short s = valid-short (s .args .list .now) (s .args .pool .now) (s .pre .0)
+
+sized : (c : Counted) → Sized (words c)
+sized c = let s = entry c in ready-sized (s .args .list .now) (s .args .pool .now) (s .pre .1 .1) (s .pre .1 .0)
+
+empty : (c : Counted) (i : ℕ) → slotOf (words c) i ≡ 0
+empty c = let s = entry c in ready-empty (s .args .list .now) (s .args .pool .now) (s .pre .1 .1) (s .pre .1 .2) (c .before .before .if1 .left)
+
 find-entity-requires : tie.Need-find-entity-requires
 find-entity-requires c κs = c .before .before .before .before .pre .0
 
--- src/lib.rt:303:8
 slice-read-if1 : tie.Need-slice-read-if1
 slice-read-if1 c = omega (arith, c .before .before .before .before .before .before .pre .1 .0)
 
--- src/lib.rt:304:9
 returns : tie.Need-returns
 returns c = (c .before .before .find-entity .ensures, record { size = refl; ready = c .before .before .before .before .before .before .before .pre .1 .1 })
 
--- src/lib.rt:306:16
 slice-read-index : tie.Need-slice-read-index
 slice-read-index c = omega (arith, c .before .before .before .before .before .before .before .before .pre .1 .0)
 
--- src/lib.rt:306:27
 passed-by-requires : tie.Need-passed-by-requires
 passed-by-requires c κs = tt
 
--- src/lib.rt:306:16
 add-index : tie.Need-add-index
 add-index c =
-    let a = c .before .before .before .before .before .before .before .before .before .args in
-    let passed = c .passed-by .ensures (a .list .now) (a .pool .now) (a .name .now) (c .before .before .before .before .find-entity .ensures) (le-refl (length (a .list .now))) in
-    omega (arith, passed, valid-short (a .list .now) (a .pool .now) (c .before .before .before .before .before .before .before .before .before .pre .0), c .before .before .before .before .before .before .before .before .before .pre .1 .1 .low)
+    let s = entry c in
+    let list = s .args .list .now in
+    let passed = c .passed-by .ensures list (s .args .pool .now) (s .args .name .now) (c .before .before .before .before .find-entity .ensures) (le-refl (length list)) in
+    omega (arith, passed, short s, s .pre .1 .1 .low)
 
--- src/lib.rt:306:5
 slice-write-index : tie.Need-slice-write-index
-slice-write-index c = omega (arith, c .before .before .before .before .before .before .before .before .before .pre .1 .0)
+slice-write-index c = omega (arith, entry c .pre .1 .0)
 
--- src/lib.rt:307:8
 mul-if2 : tie.Need-mul-if2
-mul-if2 c = let a = c .before .before .before .before .before .before .before .before .before .args in omega (arith, valid-short (a .list .now) (a .pool .now) (c .before .before .before .before .before .before .before .before .before .pre .0))
+mul-if2 c = omega (arith, short (entry c))
 
--- src/lib.rt:307:40
 slice-read-if2 : tie.Need-slice-read-if2
-slice-read-if2 c =
-    let a = c .before .before .before .before .before .before .before .before .before .before .args in
-    omega (arith, c .before .before .before .before .before .before .before .before .before .before .pre .1 .0, length-set (a .index .now) 0 (getD (a .index .now) 0 0 + c .before .passed-by .result))
+slice-read-if2 c = omega (arith, entry (c .before) .pre .1 .0, length-set (words (c .before)) 0 (state (c .before)))
 
--- src/lib.rt:308:9
 build-requires : tie.Need-build-requires
 build-requires c κs =
-    let a = c .before .before .before .before .before .before .before .before .before .before .before .before .args in
-    let words = a .index .now in
-    let v = getD words 0 0 + c .before .before .before .passed-by .result in
-    let none = ready-empty (a .list .now) (a .pool .now) (c .before .before .before .before .before .before .before .before .before .before .before .before .pre .1 .1) (c .before .before .before .before .before .before .before .before .before .before .before .before .pre .1 .2) (c .before .before .before .before .before .if1 .left) in
-    (c .before .before .before .before .before .before .before .before .before .before .before .before .pre .0, (set-sized (a .list .now) (a .pool .now) words v (ready-sized (a .list .now) (a .pool .now) (c .before .before .before .before .before .before .before .before .before .before .before .before .pre .1 .1) (c .before .before .before .before .before .before .before .before .before .before .before .before .pre .1 .0)), λ s. slot-state words v s ∙ none s))
+    let p = c .before .before .before in
+    let s = entry p in
+    let all = set-sized (s .args .list .now) (s .args .pool .now) (words p) (state p) (sized p) in
+    (s .pre .0, (all, λ i. slot-state (words p) (state p) i ∙ empty p i))
 
--- src/lib.rt:296:1
 same-length : tie.Need-same-length
-same-length c =
-    let a = c .before .before .before .before .before .before .before .before .before .before .before .before .before .before .before .args in
-    c .before .before .build .ensures .size ∙ length-set (a .index .now) 0 (getD (a .index .now) 0 0 + c .before .before .before .before .before .before .passed-by .result)
+same-length c = let p = c .before .before .before .before .before .before in c .before .before .build .ensures .size ∙ length-set (words p) 0 (state p)
 
--- src/lib.rt:296:1
 returns-2 : tie.Need-returns-2
 returns-2 c =
-    let a = c .before .before .before .before .before .before .before .before .before .before .before .before .before .before .before .args in (
-      c .before .before .before .before .before .before .before .before .before .before .find-entity .ensures,
-      record { size = c .before .before .build .ensures .size ∙ length-set (a .index .now) 0 (getD (a .index .now) 0 0 + c .before .before .before .before .before .before .passed-by .result); ready = c .before .before .build .ensures .ready },
-    )
+    let p = c .before .before .before .before .before .before in
+    let built = c .before .before .build .ensures in
+    (p .before .before .before .before .find-entity .ensures, record { size = built .size ∙ length-set (words p) 0 (state p); ready = built .ready })
 
--- src/lib.rt:296:1
 same-length-2 : tie.Need-same-length-2
-same-length-2 c =
-    let a = c .before .before .before .before .before .before .before .before .before .before .before .args in
-    length-set (a .index .now) 0 (getD (a .index .now) 0 0 + c .before .before .passed-by .result)
+same-length-2 c = let p = c .before .before in length-set (words p) 0 (state p)
 
--- src/lib.rt:296:1
 returns-3 : tie.Need-returns-3
 returns-3 c =
-    let a = c .before .before .before .before .before .before .before .before .before .before .before .args in
-    let words = a .index .now in
-    let v = getD words 0 0 + c .before .before .passed-by .result in
-    let sized = ready-sized (a .list .now) (a .pool .now) (c .before .before .before .before .before .before .before .before .before .before .before .pre .1 .1) (c .before .before .before .before .before .before .before .before .before .before .before .pre .1 .0) in
-    let none = ready-empty (a .list .now) (a .pool .now) (c .before .before .before .before .before .before .before .before .before .before .before .pre .1 .1) (c .before .before .before .before .before .before .before .before .before .before .before .pre .1 .2) (c .before .before .before .before .if1 .left) in
-    let low : v < builtState = omega (arith, set-state (a .list .now) (a .pool .now) words v sized, c .if2 .left, valid-short (a .list .now) (a .pool .now) (c .before .before .before .before .before .before .before .before .before .before .before .pre .0)) in
-    (c .before .before .before .before .before .before .find-entity .ensures, record { size = length-set words 0 v; ready = ready-counted (a .list .now) (a .pool .now) words v sized low none })
+    let p = c .before .before in
+    let list = entry p .args .list .now in
+    let pool = entry p .args .pool .now in
+    let low : state p < builtState = omega (arith, set-state list pool (words p) (state p) (sized p), c .if2 .left, short (entry p)) in
+    let ready = ready-counted list pool (words p) (state p) (sized p) low (empty p) in
+    (p .before .before .before .before .find-entity .ensures, record { size = length-set (words p) 0 (state p); ready = ready })
 
 pub first-look-up-spec : {M : Type 1} → statement M
 first-look-up-spec =

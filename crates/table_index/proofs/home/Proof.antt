@@ -1,3 +1,4 @@
+-- `home`: the product is below 2^50, and sixteen slots follow the answer (`home-fits`).
 use mathlib.Core.Path.{refl}
 use native.Mathlib.Omega.{arith}
 use Prim.Native.Nat.{_*_, _-_}
@@ -5,24 +6,16 @@ use Rattle.table_index.proofs.NameHashing.{part-fits, home-fits}
 use borrow.Author.Needs.{needs}
 use Rattle.table_index.proofs.home.Statement.{statement}
 use Rattle.table_index.proofs.home.Tie as tie
-use Rattle.table_index.proofs.home.Reads as reads
-use Rattle.table_index.proofs.home.Lts as lts
 
--- src/lib.rt:97:11
 mul-result : tie.Need-mul-result
 mul-result c = search needs
 
--- src/lib.rt:97:11
 sub-result : tie.Need-sub-result
 sub-result c = search needs
 
--- src/lib.rt:97:6
 mul-result-2 : tie.Need-mul-result-2
-mul-result-2 c =
-    let given = c .args in
-    omega (arith, part-fits (given .h) (4 * given .words - 16) (c .pre .0) (omega (arith, c .pre .2)))
+mul-result-2 c = omega (arith, part-fits (c .args .h) (4 * c .args .words - 16) (c .pre .0) (omega (arith, c .pre .2)))
 
--- src/lib.rt:93:1
 returns : tie.Need-returns
 returns c = (refl, home-fits (c .args .h) (c .args .words) (c .pre .0) (c .pre .1))
 

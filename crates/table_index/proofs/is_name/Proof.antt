@@ -1,117 +1,117 @@
-use mathlib.Core.Path.{_≡_, refl, ap, ap₂, sym, _∙_}
+-- `is_name`: another length; fewer than eight bytes; the last eight differ; 8 to 16 bytes, by a word at each end (`word-ends`); longer ones.
+use mathlib.Core.Path.{_≡_, ap, ap₂, sym, _∙_}
 use native.Mathlib.Omega.{arith}
-use Prim.Native.Nat.{_+_, _-_}
-use lib.ListN.{length}
+use mathlib.Core.Bool.{Bool}
+use Prim.Native.Nat.{ℕ, _+_, _-_, _≤_, _<_}
+use lib.ListN.{length, getD}
 use lib.Dec.{eqb}
+use Rattle.text.specs.Bytes.{sameBytes}
 use Rattle.text.specs.Blocks.{wordAt}
-use Rattle.entity.specs.Table.{littleEndian}
+use Rattle.entity.specs.Table.{littleEndian, part}
+use Rattle.entity.specs.Commands.{commandName}
 use Rattle.entity.proofs.Lookup.{differ-length, same-part}
-use Rattle.table_index.proofs.NameBlocks.{differ-block, alike-word, word-ends}
+use Rattle.table_index.proofs.NameBlocks.{Alike, differ-block, alike-word, word-ends}
 use borrow.Author.Needs.{needs}
 use Rattle.table_index.proofs.is_name.Statement.{statement}
 use Rattle.table_index.proofs.is_name.Tie as tie
-use Rattle.table_index.proofs.is_name.Reads as reads
-use Rattle.table_index.proofs.is_name.Lts as lts
-use Rattle.entity.proofs.u32_at.Reads as u32-at-reads
-use Rattle.entity.proofs.wide.Reads as wide-reads
-use Rattle.table_index.proofs.same_few.Reads as same-few-reads
-use Rattle.table_index.proofs.same_long.Reads as same-long-reads
-use Rattle.text.proofs.load.word.Reads as word-reads
 
--- src/lib.rt:227:26
+-- places: where the name's start was read, and the entry
+abbrev Named : Type 0
+Named = tie.After-u32-at
+
+abbrev entry : Named → tie.Start
+entry c = c .before .before .before .before .before .before .before
+
+-- the name's bytes are in the pool
+inside : (c : Named) → c .u32-at .result + length (entry c .args .name .now) ≤ length (entry c .args .pool .now)
+inside c = omega (arith, entry c .pre, c .u32-at .ensures, c .before .if1 .left, c .before .before .wide .ensures)
+
+-- what is said of these bytes is said of the command's name
+said : (c : Named) {x : Bool} → let a = entry c .args in sameBytes (part (a .pool .now) (c .u32-at .result) (length (a .name .now))) (a .name .now) ≡ x
+    → x ≡ sameBytes (commandName (a .list .now) (a .pool .now) (a .at)) (a .name .now)
+said c e =
+    let a = entry c .args in
+    sym (same-part (a .pool .now) (a .name .now) (c .u32-at .ensures .0) (sym (c .before .if1 .left) ∙ c .before .before .wide .ensures .0) e)
+
 add-wide : tie.Need-add-wide
 add-wide c = search needs
 
--- src/lib.rt:227:21
 shared-slice-read-wide : tie.Need-shared-slice-read-wide
 shared-slice-read-wide c = search needs
 
--- src/lib.rt:227:8
 wide-requires : tie.Need-wide-requires
 wide-requires c κs = search needs
 
--- src/lib.rt:228:9
 returns : tie.Need-returns
 returns c =
     let size = c .before .wide in
-    let a = c .before .before .before .before .before .before .args in
-    sym (rw (size .ensures .0) at (differ-length (a .pool .now) (littleEndian (a .list .now) (a .at + 1) 4) (a .name .now) (size .result)
-    (omega (arith, c .before .before .before .before .before .before .pre, size .ensures)) (c .if1 .taken)))
+    let s = c .before .before .before .before .before .before in
+    let a = s .args in
+    let start = littleEndian (a .list .now) (a .at + 1) 4 in
+    sym (rw (size .ensures .0) at (differ-length (a .pool .now) start (a .name .now) (size .result) (omega (arith, s .pre, size .ensures)) (c .if1 .taken)))
 
--- src/lib.rt:230:38
 add-u32-at : tie.Need-add-u32-at
 add-u32-at c = search needs
 
--- src/lib.rt:230:9
 u32-at-requires : tie.Need-u32-at-requires
 u32-at-requires c κs = search needs
 
--- src/lib.rt:232:9
 same-few-requires : tie.Need-same-few-requires
 same-few-requires c κs = search needs
 
--- src/lib.rt:232:9
 returns-2 : tie.Need-returns-2
-returns-2 c =
-    let a = c .before .before .before .before .before .before .before .before .before .args in
-    c .same-few .ensures ∙ sym (same-part (a .pool .now) (a .name .now) (c .before .before .u32-at .ensures .0) (sym (c .before .before .before .if1 .left) ∙ c .before .before .before .before .wide .ensures .0) refl)
+returns-2 c = said (c .before .before) (sym (c .same-few .ensures))
 
--- src/lib.rt:234:25
 add-word : tie.Need-add-word
 add-word c = search needs
 
--- src/lib.rt:234:25
 sub-word : tie.Need-sub-word
 sub-word c = search needs
 
--- src/lib.rt:234:8
 word-requires : tie.Need-word-requires
 word-requires c κs = search needs
 
--- src/lib.rt:234:43
 word-requires-2 : tie.Need-word-requires-2
 word-requires-2 c κs = search needs
 
--- src/lib.rt:235:9
 returns-3 : tie.Need-returns-3
 returns-3 c =
-    let a = c .before .before .before .before .before .before .before .before .before .before .before .args in
-    let start = c .before .before .before .before .u32-at .result in
-    let n = length (a .name .now) in
-    let p : start + n - 8 ≡ start + (n - 8) = omega (arith, c .before .before .before .if2 .left) in
-    let differ = differ-block (a .pool .now) start (a .name .now) (n - 8) 8 n (omega (arith, c .before .before .before .if2 .left)) (λ alike. c .if3 .taken
-    (c .before .before .word .ensures ∙ ap (wordAt (a .pool .now)) p ∙ alike-word (a .pool .now) (a .name .now) (start + (n - 8)) (n - 8) alike ∙ sym (c .before .word2 .ensures))) in
-    sym (same-part (a .pool .now) (a .name .now) (c .before .before .before .before .u32-at .ensures .0) (sym (c .before .before .before .before .before .if1 .left) ∙ c .before .before .before .before .before .before .wide .ensures .0) differ)
+    let u = c .before .before .before .before in
+    let pool = entry u .args .pool .now in
+    let name = entry u .args .name .now in
+    let start = u .u32-at .result in
+    let last = length name - 8 in
+    let p : start + length name - 8 ≡ start + last = omega (arith, c .before .before .before .if2 .left) in
+    let words : Alike pool (start + last) name last 8 → c .before .before .word .result ≡ c .before .word2 .result =
+    λ alike. c .before .before .word .ensures ∙ ap (wordAt pool) p ∙ alike-word pool name (start + last) last alike ∙ sym (c .before .word2 .ensures) in
+    said u (differ-block pool start name last 8 (length name) (omega (arith, c .before .before .before .if2 .left)) (λ alike. c .if3 .taken (words alike)))
 
--- src/lib.rt:238:16
 word-requires-3 : tie.Need-word-requires-3
 word-requires-3 c κs = search needs
 
--- src/lib.rt:238:43
 word-requires-4 : tie.Need-word-requires-4
 word-requires-4 c κs = search needs
 
--- src/lib.rt:238:9
 returns-4 : tie.Need-returns-4
 returns-4 c =
-    let a = c .before .before .before .before .before .before .before .before .before .before .before .before .before .before .args in
-    let start = c .before .before .before .before .before .before .before .u32-at .result in
-    let n = length (a .name .now) in
-    let p : start + n - 8 ≡ start + (n - 8) = omega (arith, c .before .before .before .before .before .before .if2 .left) in
-    let last = ap (wordAt (a .pool .now)) (sym p) ∙ sym (c .before .before .before .before .before .word .ensures) ∙ c .before .before .before .if3 .left ∙ c .before .before .before .before .word2 .ensures in
-    let ends = word-ends (a .pool .now) start (a .name .now) (λ k. omega (arith, c .before .before .before .before .before .before .before .before .before .before .before .before .shared-slice-known2 .given k)) (λ k. omega (arith, c .before .before .before .before .before .before .before .before .before .before .before .shared-slice-known3 .given k))
-    (omega (arith, c .before .before .before .before .before .before .before .before .before .before .before .before .before .before .pre, c .before .before .before .before .before .before .before .u32-at .ensures, c .before .before .before .before .before .before .before .before .if1 .left, c .before .before .before .before .before .before .before .before .before .wide .ensures)) (c .before .before .before .before .before .before .if2 .left) (c .before .before .if4 .taken) last in
-    ap₂ eqb (c .before .word3 .ensures) (c .word4 .ensures) ∙ ends ∙ sym (same-part (a .pool .now) (a .name .now) (c .before .before .before .before .before .before .before .u32-at .ensures .0) (sym (c .before .before .before .before .before .before .before .before .if1 .left) ∙ c .before .before .before .before .before .before .before .before .before .wide .ensures .0) refl)
+    let u = c .before .before .before .before .before .before .before in
+    let pool = entry u .args .pool .now in
+    let name = entry u .args .name .now in
+    let start = u .u32-at .result in
+    let least = c .before .before .before .before .before .before .if2 .left in
+    let p : start + length name - 8 ≡ start + (length name - 8) = omega (arith, least) in
+    let words = sym (c .before .before .before .before .before .word .ensures) ∙ c .before .before .before .if3 .left ∙ c .before .before .before .before .word2 .ensures in
+    let last = ap (wordAt pool) (sym p) ∙ words in
+    let pools : (k : ℕ) → getD pool k 0 < 0x100 = λ k. omega (arith, u .before .before .before .before .before .shared-slice-known2 .given k) in
+    let names : (k : ℕ) → getD name k 0 < 0x100 = λ k. omega (arith, u .before .before .before .before .shared-slice-known3 .given k) in
+    let ends = word-ends pool start name pools names (inside u) least (omega (arith, c .before .before .if4 .taken)) last in
+    said u (sym (ap₂ eqb (c .before .word3 .ensures) (c .word4 .ensures) ∙ ends))
 
--- src/lib.rt:240:5
 same-long-requires : tie.Need-same-long-requires
 same-long-requires c κs = search needs
 
--- src/lib.rt:221:1
 returns-5 : tie.Need-returns-5
-returns-5 c =
-    let a = c .before .before .before .before .before .before .before .before .before .before .before .before .before .args in
-    c .same-long .ensures ∙ sym (same-part (a .pool .now) (a .name .now) (c .before .before .before .before .before .before .u32-at .ensures .0) (sym (c .before .before .before .before .before .before .before .if1 .left) ∙ c .before .before .before .before .before .before .before .before .wide .ensures .0) refl)
+returns-5 c = said (c .before .before .before .before .before .before) (sym (c .same-long .ensures))
 
 pub is-name-spec : {M : Type 1} → statement M
 is-name-spec =

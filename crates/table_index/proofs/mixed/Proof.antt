@@ -1,29 +1,23 @@
+-- `mixed` is its definition; no sum or product overflows, as the halves of a word are below 2^32.
 use mathlib.Core.Path.{refl}
 use Rattle.table_index.specs.NameHash.{mixed}
 use Rattle.table_index.proofs.NameHashing.{mixed-word}
 use borrow.Author.Needs.{needs}
 use Rattle.table_index.proofs.mixed.Statement.{statement}
 use Rattle.table_index.proofs.mixed.Tie as tie
-use Rattle.table_index.proofs.mixed.Reads as reads
-use Rattle.table_index.proofs.mixed.Lts as lts
 
--- src/lib.rt:44:14
 add-x : tie.Need-add-x
 add-x c = search needs
 
--- src/lib.rt:44:39
 mul-x : tie.Need-mul-x
 mul-x c = search needs
 
--- src/lib.rt:44:14
 add-x-2 : tie.Need-add-x-2
 add-x-2 c = search needs
 
--- src/lib.rt:45:5
 mul-result : tie.Need-mul-result
 mul-result c = search needs
 
--- src/lib.rt:40:1
 returns : tie.Need-returns
 unfolding mixed
 returns c = (refl, mixed-word (c .args .h) (c .args .word))

@@ -1,5 +1,6 @@
-use mathlib.Core.Path.{_≡_, refl, sym}
-use Prim.Native.Nat.{ℕ, _+_, _-_}
+-- `same_long` keeps `Agree`, a block further at each turn; the last block, which ends with the name, was compared first.
+use mathlib.Core.Path.{refl, sym}
+use Prim.Native.Nat.{_+_, _-_, _≤_}
 use native.Mathlib.Omega.{arith}
 use native.Mathlib.Nat.{le-refl}
 use lib.ListN.{length}
@@ -8,9 +9,6 @@ use Rattle.entity.proofs.Lookup.{agree-none, same-all}
 use Rattle.table_index.proofs.NameBlocks.{agree-block, differ-block}
 use Rattle.table_index.proofs.same_long.Statement.{statement}
 use Rattle.table_index.proofs.same_long.Tie as tie
-use Rattle.table_index.proofs.same_long.Reads as reads
-use Rattle.table_index.proofs.same_long.Lts as lts
-use Rattle.table_index.proofs.differ_16.Reads as differ-16-reads
 
 abbrev Inv-loop : tie.InvT-loop
 Inv-loop pool start name last i₀ i = Agree pool start name i
@@ -18,68 +16,78 @@ Inv-loop pool start name last i₀ i = Agree pool start name i
 abbrev μ-loop : tie.MeasureT-loop
 μ-loop pool start name last i₀ i = length name - i
 
--- src/lib.rt:192:16
+-- places: the last block, compared, and the entry; the turn of the loop
+abbrev entry : tie.After-differ-16 Inv-loop μ-loop → tie.Start Inv-loop μ-loop
+entry c = c .before .before .before
+
+abbrev compared : tie.At-loop Inv-loop μ-loop → tie.After-differ-16 Inv-loop μ-loop
+compared c = c .before .before
+
 sub-last : tie.Need-sub-last Inv-loop μ-loop
 sub-last c = omega (arith, c .before .before .pre)
 
--- src/lib.rt:193:24
 add-differ-16 : tie.Need-add-differ-16 Inv-loop μ-loop
 add-differ-16 c = omega (arith, c .before .before .pre)
 
--- src/lib.rt:193:8
 differ-16-requires : tie.Need-differ-16-requires Inv-loop μ-loop
 differ-16-requires c κs = (omega (arith, c .before .before .pre), omega (arith, c .before .before .pre))
 
--- src/lib.rt:194:9
 returns : tie.Need-returns Inv-loop μ-loop
 returns c =
-    let given = c .before .before .before .before .args in
-    let n = length (given .name .now) in
-    sym (differ-block (given .pool .now) (given .start) (given .name .now) (n - 16) 16 n (omega (arith, c .before .before .before .before .pre)) (c .before .differ-16 .ensures .1 (c .if1 .taken)))
+    let given = entry (c .before) .args in
+    let name = given .name .now in
+    let n = length name in
+    sym (differ-block (given .pool .now) (given .start) name (n - 16) 16 n (omega (arith, entry (c .before) .pre)) (c .before .differ-16 .ensures .1 (c .if1 .taken)))
 
--- src/lib.rt:197:5
 loop-holds : tie.Need-loop-holds Inv-loop μ-loop
-loop-holds c = agree-none (c .before .before .before .before .args .pool .now) (c .before .before .before .before .args .start) (c .before .before .before .before .args .name .now)
+loop-holds c =
+    let given = entry (c .before) .args in
+    agree-none (given .pool .now) (given .start) (given .name .now)
 
--- src/lib.rt:198:28
 add-differ-16-2 : tie.Need-add-differ-16-2 Inv-loop μ-loop
-add-differ-16-2 c = omega (arith, c .before .before .before .before .before .before .pre, c .loop-test .taken)
+add-differ-16-2 c = omega (arith, entry (compared (c .before)) .pre, c .loop-test .taken)
 
--- src/lib.rt:198:12
 differ-16-requires-2 : tie.Need-differ-16-requires-2 Inv-loop μ-loop
-differ-16-requires-2 c κs = (omega (arith, c .before .before .before .before .before .before .pre, c .loop-test .taken), omega (arith, c .before .before .before .before .before .before .pre, c .loop-test .taken))
+differ-16-requires-2 c κs =
+    let asked = entry (compared (c .before)) .pre in
+    (omega (arith, asked, c .loop-test .taken), omega (arith, asked, c .loop-test .taken))
 
--- src/lib.rt:199:13
 returns-2 : tie.Need-returns-2 Inv-loop μ-loop
 returns-2 c =
-    let given = c .before .before .before .before .before .before .before .before .args in
-    let n = length (given .name .now) in
-    sym (differ-block (given .pool .now) (given .start) (given .name .now) (c .before .before .before .loop .i) 16 n (omega (arith, c .before .before .before .before .before .before .before .before .pre, c .before .before .loop-test .taken)) (c .before .differ-162 .ensures .1 (c .if2 .taken)))
+    let l = c .before .before .before in
+    let start = entry (compared l) in
+    let name = start .args .name .now in
+    let fits : l .loop .i + 16 ≤ length name = omega (arith, start .pre, c .before .before .loop-test .taken) in
+    sym (differ-block (start .args .pool .now) (start .args .start) name (l .loop .i) 16 (length name) fits (c .before .differ-162 .ensures .1 (c .if2 .taken)))
 
--- src/lib.rt:201:9
 add-i : tie.Need-add-i Inv-loop μ-loop
-add-i c = omega (arith, c .before .before .before .before .before .before .before .before .pre, c .before .before .loop-test .taken)
+add-i c = omega (arith, entry (compared (c .before .before .before)) .pre, c .before .before .loop-test .taken)
 
--- src/lib.rt:197:5
 loop-less : tie.Need-loop-less Inv-loop μ-loop
-loop-less c = omega (arith, c .before .before .before .before .before .before .before .before .pre, c .before .before .loop-test .taken)
+loop-less c = omega (arith, entry (compared (c .before .before .before)) .pre, c .before .before .loop-test .taken)
 
--- src/lib.rt:197:5
 loop-again : tie.Need-loop-again Inv-loop μ-loop
 loop-again c =
-    let given = c .before .before .before .before .before .before .before .before .args in
-    let i = c .before .before .before .loop .i in
-    agree-block (given .pool .now) (given .start) (given .name .now) i 16 i (c .before .before .before .loop .inv) (le-refl i) (le-refl (i + 16)) (omega (arith, c .before .before .before .before .before .before .before .before .pre, c .before .before .loop-test .taken))
+    let l = c .before .before .before in
+    let start = entry (compared l) in
+    let i = l .loop .i in
+    let fits : i + 16 ≤ length (start .args .name .now) = omega (arith, start .pre, c .before .before .loop-test .taken) in
+    agree-block (start .args .pool .now) (start .args .start) (start .args .name .now) i 16 i (l .loop .inv) (le-refl i) (le-refl (i + 16)) fits
     (c .before .differ-162 .ensures .0 (c .if2 .left))
 
--- src/lib.rt:188:1
 returns-3 : tie.Need-returns-3 Inv-loop μ-loop
 returns-3 c =
-    let given = c .before .before .before .before .before .before .args in
-    let n = length (given .name .now) in
-    let whole = agree-block (given .pool .now) (given .start) (given .name .now) (n - 16) 16 (c .before .loop .i) {j = n} (c .before .loop .inv) (c .loop-test .left) (omega (arith, c .before .before .before .before .before .before .pre))
-    (le-refl n) (c .before .before .before .differ-16 .ensures .0 (c .before .before .if1 .left)) in
-    sym (same-all (given .pool .now) (given .start) (given .name .now) n (c .before .before .before .before .before .before .pre .0) refl whole (le-refl n))
+    let l = c .before in
+    let block = compared l in
+    let start = entry block in
+    let pool = start .args .pool .now in
+    let at = start .args .start in
+    let name = start .args .name .now in
+    let n = length name in
+    let whole =
+    agree-block pool at name (n - 16) 16 (l .loop .i) {j = n} (l .loop .inv) (c .loop-test .left) (omega (arith, start .pre)) (le-refl n)
+    (block .differ-16 .ensures .0 (l .before .if1 .left)) in
+    sym (same-all pool at name n (start .pre .0) refl whole (le-refl n))
 
 pub same-long-spec : {M : Type 1} → statement M
 same-long-spec =
