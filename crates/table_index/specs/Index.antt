@@ -1,5 +1,5 @@
 -- An index of a table's names: slots with commands, in the list's order from a name's home on. Which slot is home is any function of the name:
--- nothing is asked of it. Assumes nothing.
+-- nothing is asked of it. Terms in which code is proved; no promise of a call rests on them. Assumes nothing.
 use Prim.Native.Nat.{ℕ, zero, suc, _+_, _-_, _*_, _/_, _%_, _≤_, _<_}
 use mathlib.Core.Path.{_≡_}
 use mathlib.Core.Logic.{_≢_}

@@ -7,7 +7,7 @@ use native.Mathlib.Omega.{arith}
 use Prim.Native.Nat.{_+_, _-_, _/_, _≤_}
 use lib.ListN.{length, getD, length-set}
 use Rattle.entity.proofs.Commands.{size-some}
-use Rattle.table_index.specs.Index.{homeOf, slotOf, builtState, givenUp, Building}
+use Rattle.table_index.specs.Index.{homeOf, slotOf, Building}
 use Rattle.table_index.proofs.Filing.{index-none}
 use Rattle.table_index.proofs.BuildingPlaces.{building-inside, building-short, building-declared, building-more, building-over, building-vain, inserted-size}
 use Rattle.table_index.proofs.build.Statement.{statement}
@@ -61,7 +61,7 @@ slice-write-index : tie.Need-slice-write-index Inv-loop μ-loop
 slice-write-index c = let i = c .before .before .before .before in omega (arith, turn i .loop .inv .0 .sized .least, i .insert .ensures .size)
 
 same-length : tie.Need-same-length Inv-loop μ-loop
-same-length c = let i = c .before .before .before .before in inserted-size givenUp (i .insert .ensures) (turn i .loop .inv .1)
+same-length c = let i = c .before .before .before .before in inserted-size _ (i .insert .ensures) (turn i .loop .inv .1)
 
 returns : tie.Need-returns Inv-loop μ-loop
 returns c =
@@ -97,7 +97,7 @@ slice-write-index-2 : tie.Need-slice-write-index-2 Inv-loop μ-loop
 slice-write-index-2 c = omega (arith, c .before .before .loop .inv .0 .sized .least)
 
 same-length-2 : tie.Need-same-length-2 Inv-loop μ-loop
-same-length-2 c = length-set (c .before .before .loop .index) 0 builtState ∙ c .before .before .loop .inv .1
+same-length-2 c = length-set (c .before .before .loop .index) 0 _ ∙ c .before .before .loop .inv .1
 
 returns-2 : tie.Need-returns-2 Inv-loop μ-loop
 returns-2 c = building-over _ _ (c .before .before .loop .inv .0) (c .before .before .loop .inv .1) (c .if1 .left) (omega arith)

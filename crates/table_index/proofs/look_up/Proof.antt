@@ -1,8 +1,10 @@
 -- `look_up` keeps `Looking`: a command with the name is `index-hit`, an empty slot `index-miss`, and full slots are answered by the plain lookup.
+-- Whether a slot is empty is asked of `omega`, so that another number is refused as one.
 use mathlib.Core.Path.{refl, ap, _∙_}
 use native.Mathlib.Omega.{arith}
 use Prim.Native.Nat.{ℕ, _-_, _<_}
 use lib.ListN.{length, getD}
+use mathlib.Core.Logic.{_≢_}
 use Rattle.entity.proofs.Commands.{size-some, size-one}
 use Rattle.entity.proofs.Lookup.{Declared}
 use Rattle.table_index.specs.Index.{homeAt, homeOf, slotOf, Sized, Looking}
@@ -37,9 +39,13 @@ entry c = turn c .before .before .before .before .before .before .before .before
 sized : (c : Hashed) → Sized (asked c .args .index .now)
 sized c = built-sized _ _ (asked c .pre .1 .0) (asked c .pre .1 .1)
 
+-- the slot has something in it
+some : (c : Taken) → c .before .slot-at .result ≢ 0
+some c none = absurd (omega (arith, none, c .if2 .left))
+
 -- the slot's command
 declared : (c : Taken) → Declared (entry c .args .list .now) (entry c .args .pool .now) (c .before .slot-at .result - 1)
-declared c = looked-declared (turn c .loop .inv) (c .before .before .loop-test .taken) (c .before .slot-at .ensures .0) (c .if2 .left)
+declared c = looked-declared (turn c .loop .inv) (c .before .before .loop-test .taken) (c .before .slot-at .ensures .0) (some c)
 
 plain-referent-requires : tie.Need-plain-referent-requires Inv-loop μ-loop
 plain-referent-requires c κs = tt
@@ -89,7 +95,7 @@ plain-referent-requires-2 c κs = tt
 returns-2 : tie.Need-returns-2 Inv-loop μ-loop
 returns-2 c =
     let a = c .before .before .before .before .before .before .before .before .before .before .before .before .args in
-    let none = looked-none (c .before .before .before .before .loop .inv) (c .before .before .before .loop-test .taken) (c .before .before .slot-at .ensures .0) (c .before .if2 .taken) in
+    let none = looked-none (c .before .before .before .before .loop .inv) (c .before .before .before .loop-test .taken) (c .before .before .slot-at .ensures .0) (omega (arith, c .before .if2 .taken)) in
     c .plain-referent2 .ensures (a .list .now) (a .pool .now) none
 
 sub-is-name : tie.Need-sub-is-name Inv-loop μ-loop
@@ -112,7 +118,7 @@ referent-at-requires c κs =
 returns-3 : tie.Need-returns-3 Inv-loop μ-loop
 returns-3 c =
     let t = c .before .before .before in
-    let taken = looked-hit (turn t .loop .inv) (t .before .before .loop-test .taken) (t .before .slot-at .ensures .0) (t .if2 .left) in
+    let taken = looked-hit (turn t .loop .inv) (t .before .before .loop-test .taken) (t .before .slot-at .ensures .0) (some t) in
     taken (c .before .before .is-name .ensures) (c .before .if3 .taken) (c .referent-at .result) (c .referent-at .ensures)
 
 add-k : tie.Need-add-k Inv-loop μ-loop
@@ -124,7 +130,7 @@ loop-less c = omega (arith, c .before .before .before .before .loop-test .taken)
 loop-again : tie.Need-loop-again Inv-loop μ-loop
 loop-again c =
     let t = c .before .before in
-    looked-more (turn t .loop .inv) (t .before .before .loop-test .taken) (t .before .slot-at .ensures .0) (t .if2 .left) (c .before .is-name .ensures) (c .if3 .left) refl
+    looked-more (turn t .loop .inv) (t .before .before .loop-test .taken) (t .before .slot-at .ensures .0) (some t) (c .before .is-name .ensures) (c .if3 .left) refl
 
 find-entity-requires : tie.Need-find-entity-requires Inv-loop μ-loop
 find-entity-requires c κs = c .before .loop .inv .valid
