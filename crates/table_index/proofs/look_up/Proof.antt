@@ -94,8 +94,9 @@ plain-referent-requires-2 c κs = tt
 
 returns-2 : tie.Need-returns-2 Inv-loop μ-loop
 returns-2 c =
-    let a = c .before .before .before .before .before .before .before .before .before .before .before .before .args in
-    let none = looked-none (c .before .before .before .before .loop .inv) (c .before .before .before .loop-test .taken) (c .before .before .slot-at .ensures .0) (omega (arith, c .before .if2 .taken)) in
+    let probed = c .before .before in
+    let a = probed .before .before .before .before .before .before .before .before .before .before .args in
+    let none = looked-none (probed .before .before .loop .inv) (probed .before .loop-test .taken) (probed .slot-at .ensures .0) (omega (arith, c .before .if2 .taken)) in
     c .plain-referent2 .ensures (a .list .now) (a .pool .now) none
 
 sub-is-name : tie.Need-sub-is-name Inv-loop μ-loop
