@@ -116,10 +116,19 @@ pub fn inner_end(text: &[u8], from: usize) -> usize
     end
 }
 
-// The `;` that ends the name, whatever stands before it; the text's length where there is none.
+// The `;` that ends the name, whatever stands before it; the text's length where there is none. Most names are short: their loop is small enough
+// to be compiled into a walk.
 pub fn outer_end(text: &[u8], from: usize) -> usize
     requires { ⌜ from ≤ length (now text) ⌝ }
     ensures { λ r. ⌜ NameEnd false (now (text .entry)) from r ⌝ }
 {
-    next_byte(text, from, b';')
+    let near = output::least(text.len() - from, 16);
+    let mut k: usize = 0;
+    while k < near {
+        if text[from + k] == b';' {
+            return from + k;
+        }
+        k += 1;
+    }
+    next_byte(text, from + near, b';')
 }
