@@ -1,9 +1,11 @@
 -- The terms in which unescaping is proved: what one step gives and how far it goes. Assumes nothing.
 use Prim.Native.Nat.{ℕ, _≤_, _<_}
 use mathlib.Core.Path.{_≡_}
+use mathlib.Core.Logic.{_≢_}
 use mathlib.Core.List.{List}
 use lib.ListN.{length}
 use Rattle.entity.specs.Binding.{Bound}
+use Rattle.table_index.specs.Index.{Ready}
 use Rattle.tokens.specs.Tokens.{tokenOf}
 use Rattle.tokens.specs.Outcome.{Outcome, done, refused}
 use Rattle.tokens.specs.Walking.{headAt, nextAt, outcomeOf, Stepped}
@@ -35,3 +37,8 @@ pub record Referred (bind : List ℕ → Bound) (text : List ℕ) (i : ℕ) (old
 -- how a text is unescaped: nothing is opened, and a value is a character or a text of the table
 abbrev pub unescaping : (List ℕ → Bound) → Walk
 unescaping bind = record { at = textHead; answer = replaced bind; limit = 0; most = λ width opened. 65535 }
+
+-- the words of an index, lent to a walk: there are some
+pub record Lent (list pool words : List ℕ) : Type 0 where
+  pub some : length words ≢ 0
+  pub ready : Ready list pool words

@@ -19,6 +19,8 @@ use text::refusals;
 use tokens::Known;
 use tokens::Step;
 
+mod indexed;
+
 // What a bound name of `size` bytes stands for, its `&` at i: a text of the table is copied as a part of the pool.
 fn bound_step(
     bound: Binding,
@@ -227,6 +229,22 @@ fn unescape_long(text: &[u8], list: &[u8], pool: &[u8], out: &mut [u8]) -> Answe
     unescape_runs(text, list, pool, out)
 }
 
+// By an index where its making may pay: the longer the list, the fewer references it takes.
+fn unescape_by_length(text: &[u8], list: &[u8], pool: &[u8], out: &mut [u8]) -> Answer
+    requires { ⌜ length (now text) ≤ longestText ⌝ }
+    requires { ⌜ ValidTable (now list) (now pool) ⌝ }
+    ensures { λ r. ⌜ callOf r (now (out .exit) ∷ []) ≡ finished (unescape (binding (now (list .entry)) (now (pool .entry))) (now (text .entry))) (now (out .entry)) ⌝ }
+{
+    if 1024 <= text.len() {
+        if 32 <= list.len() {
+            return indexed::unescape_listed(text, list, pool, out);
+        }
+    } else if 3074 < list.len() {
+        return indexed::unescape_listed(text, list, pool, out);
+    }
+    unescape_long(text, list, pool, out)
+}
+
 // A text without references is copied at once. A short one's value is held while it is counted: a refusal leaves the output, 19 too.
 pub fn unescape_with(text: &[u8], list: &[u8], pool: &[u8], out: &mut [u8]) -> Answer
     requires { ⌜ length (now text) ≤ longestText ⌝ }
@@ -237,7 +255,7 @@ pub fn unescape_with(text: &[u8], list: &[u8], pool: &[u8], out: &mut [u8]) -> A
         return tokens::copied_whole(text, refusals::NO_ROOM, out);
     }
     if 128 < text.len() {
-        return unescape_long(text, list, pool, out);
+        return unescape_by_length(text, list, pool, out);
     }
     let mut held = [0u8; 128];
     let counted = unescape_runs(text, list, pool, &mut held);

@@ -1,4 +1,4 @@
--- `unescape_with`: a text without `&` is its own value (`own-value`), a long one goes to `unescape_long`. A short one is counted with its
+-- `unescape_with`: a text without `&` is its own value (`own-value`), a long one goes to `unescape_by_length`. A short one is counted with its
 -- value held, as far as that has room: it is refused, has no room in the output, is copied from there, or is walked again.
 use lib.Seq.{length-take-le}
 use mathlib.Core.Path.{sym, ap, _∙_}
@@ -53,8 +53,8 @@ returns c =
     ∙ ap (λ (o : Outcome). finished o (given .out .now))
     (sym (own-value (bound start) (given .text .now) (after-is-whole .is-whole .ensures (after-if1 .if1 .taken))))
 
-unescape-long-requires : tie.Need-unescape-long-requires
-unescape-long-requires c κs = search needs
+unescape-by-length-requires : tie.Need-unescape-by-length-requires
+unescape-by-length-requires c κs = search needs
 
 same-length-2 : tie.Need-same-length-2
 same-length-2 c = search needs
@@ -161,7 +161,7 @@ unescape-with-spec =
     copied-whole-requires
     same-length
     returns
-    unescape-long-requires
+    unescape-by-length-requires
     same-length-2
     returns-2
     slice-aggregate-unescape-runs
