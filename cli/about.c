@@ -43,5 +43,5 @@ void put_about(void)
          "  an entity table of 49,154 bytes of list and 1,048,576 of pool; a name of 255 bytes and a text of 65,535\n"
          "  entities nested 128 deep; 1,000,000 of them opened\n"
          "  a count of 4,294,967,295 in a register\n"
-         "  72 KiB of stack for a call, and no memory beyond");
+         "  96 KiB of stack for a call, and no memory beyond");
 }

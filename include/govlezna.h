@@ -20,7 +20,8 @@
  * - `answer`, `cursor`, `offset` and `used` are aligned as C aligns their types, to 8 bytes. Bytes may lie anywhere.
  * - What a call may write overlaps nothing else that it is lent.
  * Nothing is kept after a call, and no call allocates: calls on different buffers may run at the same time.
- * A call takes at most 72 KiB of stack: about 550 bytes for each level of depth (measured at depth 128: 72,072 bytes).
+ * A call takes at most 96 KiB of stack: about 550 bytes for each level of depth, and 17 KB for an index of the table's names
+ * where a text of 1,024 bytes or more is read (measured at depth 128: 88,784 bytes; 72,248 with shorter texts).
  *
  * Time: a call checks all of its text and all of its table each time, whatever part it then needs; beyond that it takes
  * what is said below.
@@ -248,7 +249,9 @@ uint32_t govlezna_read_declarations(const uint8_t *text, size_t text_length, uin
  * answer[1]: its start and end), EXTERNAL_ENTITY (answer[0]: the offset of &) and UNEXPECTED_SIGN, INVALID_NUMBER,
  * ILLEGAL_CHARACTER, INVALID_CODEPOINT (as in govlezna_parse_number); NO_ROOM (answer[0]: the length needed). None
  * writes to `out`.
- * Time: the text is walked at most twice, to count and to write; a name is looked for from the table's first command on.
+ * Time: the text is walked at most twice, to count and to write; a name is looked for from the table's first command on,
+ * until such searches have passed four times the list: in texts of 1,024 bytes and more, or of 128 where the list has over 3,074, an
+ * index of the names is then made, for both walks, and finds each at once.
  * Example: with the table above `&lt;&e; &#65;` gives `<sail A`; `a&b;` is refused by UNRECOGNIZED_ENTITY, first 2,
  * second 3.
  */
@@ -284,7 +287,8 @@ uint32_t govlezna_unescape(const uint8_t *text, size_t text_length, const uint8_
  * Time: the text is walked at most twice, to count and to write. A text of the table is walked at its first opening, and
  * mostly not again: what up to sixteen of them gave is kept during the call. Openings times the longest text of the
  * table bound what the walk takes beyond its own text, so `limit` is the caller's hold on time. A name that is not kept
- * is looked for from the table's first command on.
+ * is looked for from the table's first command on; in texts of 1,024 bytes and more with a list of 192 or more an index is made
+ * of the names, as in govlezna_unescape.
  * Example: version 0, depth 2, limit 10, the table above: `&e;` TAB `&#9;` gives `sail`, a space and a TAB, openings 1.
  * With limit 0 it is refused by TOO_MANY_OPENINGS, first 0; at depth 0 by TOO_DEEP. With the list { 2, 0,0,0,0, 1, 0 }
  * in the place of the table's, which names e as external, it is refused by EXTERNAL_ENTITY, first 0. With the pool `e`

@@ -1,5 +1,6 @@
 /*
- * How much stack the calls use at depth 128, those on a register of 300 forms, and the reading of declarations. Each input runs in a thread whose
+ * How much stack the calls use at depth 128, with a short text and with one that has an index of the table's names made for it, those on a register of
+ * 300 forms, unescaping, and the reading of declarations. Each input runs in a thread whose
  * stack was filled with one byte; the bytes that changed are what the thread used. A thread that makes no call is measured first, and taken off.
  */
 #define _POSIX_C_SOURCE 200809L
@@ -11,9 +12,12 @@
 #include <stdlib.h>
 #include <string.h>
 
-#define PROMISED ((size_t)73728) /* as include/govlezna.h says */
+#define PROMISED ((size_t)98304) /* as include/govlezna.h says */
+#define PROMISED_OF_SHORT_TEXTS ((size_t)73728)
 #define PROMISED_OF_REGISTERS ((size_t)32768)
 #define DEPTH 128
+#define SHORT ((size_t)4)
+#define LONG ((size_t)1024)
 #define ROOM ((size_t)1 << 20)
 #define PAINT 0xA5
 
@@ -26,11 +30,13 @@ struct chain {
 struct job {
     uint32_t (*call)(const struct job *job, uint64_t answer[2]);
     uint8_t version;
+    size_t length; /* of the text: its last bytes */
     struct chain chain;
     uint32_t number; /* what the call answered */
 };
 
-static const uint8_t text[] = { '&', 'a', '0', ';' };
+/* Ends with `&a0;`. */
+static uint8_t text[LONG];
 static uint8_t hand[4], scratch[ROOM], out[ROOM];
 
 static void put_number(uint8_t *to, size_t width, size_t value)
@@ -71,41 +77,47 @@ static uint32_t no_call(const struct job *job, uint64_t answer[2])
 
 static uint32_t normalize(const struct job *job, uint64_t answer[2])
 {
-    return govlezna_normalize_attribute_value(text, sizeof text, job->version, DEPTH, 1000000, job->chain.list,
+    return govlezna_normalize_attribute_value(text + LONG - job->length, job->length, job->version, DEPTH, 1000000, job->chain.list,
                                               sizeof job->chain.list, job->chain.pool, job->chain.pool_length, out, ROOM,
                                               answer);
 }
 
 static uint32_t canonical(const struct job *job, uint64_t answer[2])
 {
-    return govlezna_canonical_form(text, sizeof text, job->version, DEPTH, 1000000, job->chain.list, sizeof job->chain.list,
+    return govlezna_canonical_form(text + LONG - job->length, job->length, job->version, DEPTH, 1000000, job->chain.list, sizeof job->chain.list,
                                    job->chain.pool, job->chain.pool_length, hand, sizeof hand, out, ROOM, answer);
 }
 
 static uint32_t normalize_strictly(const struct job *job, uint64_t answer[2])
 {
-    return govlezna_normalize_attribute_value_strict(text, sizeof text, job->version, DEPTH, 1000000, job->chain.list,
+    return govlezna_normalize_attribute_value_strict(text + LONG - job->length, job->length, job->version, DEPTH, 1000000, job->chain.list,
                                                      sizeof job->chain.list, job->chain.pool, job->chain.pool_length, out,
                                                      ROOM, answer);
 }
 
 static uint32_t canonical_strictly(const struct job *job, uint64_t answer[2])
 {
-    return govlezna_canonical_form_strict(text, sizeof text, job->version, DEPTH, 1000000, job->chain.list,
+    return govlezna_canonical_form_strict(text + LONG - job->length, job->length, job->version, DEPTH, 1000000, job->chain.list,
                                           sizeof job->chain.list, job->chain.pool, job->chain.pool_length, hand,
                                           sizeof hand, out, ROOM, answer);
 }
 
 static uint32_t nmtokens(const struct job *job, uint64_t answer[2])
 {
-    return govlezna_normalize_nmtokens(text, sizeof text, job->version, DEPTH, 1000000, job->chain.list,
+    return govlezna_normalize_nmtokens(text + LONG - job->length, job->length, job->version, DEPTH, 1000000, job->chain.list,
                                        sizeof job->chain.list, job->chain.pool, job->chain.pool_length, scratch, ROOM, out, ROOM,
                                        answer);
 }
 
+static uint32_t unescape(const struct job *job, uint64_t answer[2])
+{
+    return govlezna_unescape(text, LONG, job->chain.list, sizeof job->chain.list, job->chain.pool, job->chain.pool_length, out, ROOM,
+                             answer);
+}
+
 static uint32_t least_depth(const struct job *job, uint64_t answer[2])
 {
-    uint32_t number = govlezna_least_depth(text, sizeof text, job->version, 1000000, job->chain.list, sizeof job->chain.list,
+    uint32_t number = govlezna_least_depth(text + LONG - job->length, job->length, job->version, 1000000, job->chain.list, sizeof job->chain.list,
                                            job->chain.pool, job->chain.pool_length, answer);
     if (number == 0 && answer[0] != DEPTH)
         return UINT32_MAX;
@@ -207,16 +219,22 @@ int main(void)
                   { "\t", 0, GOVLEZNA_TOO_DEEP }, { "&a0;", 2, GOVLEZNA_TOO_DEEP },
                   { "\xC2\xBD", 0, 0 }, { "\xC2\xBD", 2, GOVLEZNA_TOO_DEEP } };
     static const uint32_t accepted[3] = { 0 }, faulty[3] = { 0, GOVLEZNA_MALFORMED_DECLARATION, 0 };
-    size_t most = 0, least = SIZE_MAX, registers = measure_versions(register_call, accepted),
-           reading = measure_versions(declarations, faulty);
-    for (size_t i = 0; i < CALLS * (sizeof walks / sizeof walks[0]); i++) {
-        struct job job = { .call = calls[i % CALLS], .version = walks[i / CALLS].version };
-        size_t bytes = measure(job, walks[i / CALLS].last, walks[i / CALLS].expected);
-        most = bytes > most ? bytes : most;
+    size_t most[2] = { 0 }, least = SIZE_MAX, registers = measure_versions(register_call, accepted),
+           reading = measure_versions(declarations, faulty), names;
+    memset(text, 'x', LONG), memcpy(text + LONG - SHORT, "&a0;", SHORT);
+    names = measure((struct job){ .call = unescape }, "x", 0);
+    for (size_t i = 0; i < 2 * CALLS * (sizeof walks / sizeof walks[0]); i++) {
+        size_t walk = i / 2 / CALLS;
+        struct job job = { .call = calls[i / 2 % CALLS], .version = walks[walk].version, .length = i % 2 == 0 ? SHORT : LONG };
+        size_t bytes = measure(job, walks[walk].last, walks[walk].expected);
+        most[i % 2] = bytes > most[i % 2] ? bytes : most[i % 2];
         least = bytes < least ? bytes : least;
     }
-    printf("stack at depth %d: %zu bytes; promised: at most %zu\n", DEPTH, most, PROMISED);
+    printf("stack at depth %d: %zu bytes, with an index of the names %zu; promised: at most %zu and %zu\n", DEPTH, most[0], most[1],
+           PROMISED_OF_SHORT_TEXTS, PROMISED);
+    printf("stack of unescaping: %zu bytes; promised: at most %zu\n", names, PROMISED);
     printf("stack with 300 forms: %zu bytes; promised: at most %zu\n", registers, PROMISED_OF_REGISTERS);
     printf("stack with declarations: %zu bytes; promised: at most %zu\n", reading, PROMISED);
-    return least == 0 || most > PROMISED || registers == 0 || registers > PROMISED_OF_REGISTERS || reading == 0 || reading > PROMISED;
+    return least == 0 || most[0] > PROMISED_OF_SHORT_TEXTS || most[1] > PROMISED || names == 0 || names > PROMISED || registers == 0 ||
+           registers > PROMISED_OF_REGISTERS || reading == 0 || reading > PROMISED;
 }
