@@ -1,5 +1,5 @@
--- The examples of XML 1.0, 3.3.3 (the column for CDATA) by the standard's definition, with document 01's departure; and XML 1.1, 2.11.
--- Assumes nothing.
+-- The examples of XML 1.0, 3.3.3 (the column for CDATA) by the standard's definition, with document 01's departure; XML 1.1, 2.11; and where a
+-- form has its first raw RestrictedChar (K8). Assumes nothing.
 use mathlib.Core.Path.{_≡_, refl}
 use Prim.Native.Nat.{ℕ}
 use mathlib.Core.Option.{Option, none, some}
@@ -8,6 +8,7 @@ use Rattle.text.specs.Bytes.{pick, sameBytes}
 use Rattle.text.specs.Version.{xml10, xml11}
 use Rattle.charref.specs.CharRef.{anyCharacter}
 use Rattle.demands.specs.Standard.{lineEndsOf, standard}
+use Rattle.demands.specs.StrictDemands.{restrictedFrom}
 
 -- <!ENTITY d "&#xD;">, <!ENTITY a "&#xA;">, <!ENTITY da "&#xD;&#xA;">: the replacement texts are CR, LF, and CR LF
 w3c : List ℕ → Option (List ℕ)
@@ -40,3 +41,8 @@ examples :
     × (lineEndsOf xml11 (13 ∷ 0x85 ∷ 65 ∷ 13 ∷ 0x2028 ∷ []) ≡ 10 ∷ 65 ∷ 10 ∷ 10 ∷ [])  -- CR U+0085 is one LF, CR U+2028 are two
 unfolding w3c normalized second third standard lineEndsOf
 examples = (refl, refl, refl, refl, refl)
+
+-- `a` U+0001 `b`: the second byte; `a<` has none
+restricted-examples : (restrictedFrom 0 (97 ∷ 1 ∷ 98 ∷ []) ≡ some 1) × (restrictedFrom 0 (97 ∷ 60 ∷ []) ≡ none)
+unfolding restrictedFrom
+restricted-examples = (refl, refl)
