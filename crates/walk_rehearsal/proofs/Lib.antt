@@ -1,0 +1,5 @@
+pub mod Spans
+pub mod WalkNumbers
+pub mod Verdicts
+pub mod Reports
+pub mod Turning
