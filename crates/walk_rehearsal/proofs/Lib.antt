@@ -3,3 +3,4 @@ pub mod WalkNumbers
 pub mod Verdicts
 pub mod Reports
 pub mod Turning
+pub mod Examples

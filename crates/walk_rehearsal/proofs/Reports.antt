@@ -1,5 +1,5 @@
 -- The report: each word is the sum of what the verdicts add to it (`report-word`), the counts together make the number of spans
--- (`report-counts`), no sum is too great (`counted-within`, `within-start`, `within-small`), and the fold turn by turn (`over-next`, `over-end`, `turn-so`).
+-- (`report-counts`), no sum is too great (`counted-within`, `within-start`, `within-small`), and a turn is such a change (`turn-so`).
 -- Assumes nothing.
 use mathlib.Core.Path.{_≡_, refl, sym, ap, subst, _∙_}
 use mathlib.Core.Bool.{Bool, true, false}
@@ -7,20 +7,40 @@ use mathlib.Core.List.{List, [], _∷_}
 use Prim.Native.Nat.{ℕ, zero, suc, _+_, _-_, _≤_, _<_}
 use native.Mathlib.Omega.{arith}
 use lib.Dec.{eqb, ltb}
-use lib.ListN.{length, length-set, getD, take, drop, drop-of-length-le, replicate, length-replicate}
+use lib.ListN.{length, length-set, getD, take, drop, replicate, length-replicate}
 use lib.Seq.{getD-set-same, getD-set-other}
 use borrow.Author.Tests.{eqb-true, eqb-false, ltb-true, ltb-false}
 use Rattle.text.specs.Bytes.{pick}
+use Rattle.text.specs.Utf8.{wellFormed}
+use Rattle.text.proofs.Bytes.{pick-both}
 use Rattle.entity.specs.Table.{part}
-use Rattle.attribute.specs.Walk.{Settings}
+use Rattle.tokens.specs.Outcome.{Outcome, done, refused}
+use Rattle.attribute.specs.Walk.{Settings, normalize}
 use Rattle.walk_rehearsal.specs.declared.Span.{Span}
 use Rattle.walk_rehearsal.specs.declared.Job.{Job}
 use Rattle.walk_rehearsal.specs.declared.Verdict.{Verdict}
 use Rattle.walk_rehearsal.specs.declared.Verdict.the-variants.{Accepted, Fallen}
-use Rattle.walk_rehearsal.specs.Rehearsal.{bytesOf, verdictOf, raised, counted, countedOver, report}
+use Rattle.walk_rehearsal.specs.Rehearsal.{bytesOf, verdict, verdictOf, raised, counted, countedOver, report}
 use Rattle.walk_rehearsal.specs.Counts.{share, summed, firstWords}
 use Rattle.walk_rehearsal.specs.Turns.{settingsOf, Modest, Within, Reads, Turn}
-use Rattle.walk_rehearsal.proofs.Spans.{noSpan, drop-next}
+use Rattle.walk_rehearsal.proofs.WalkNumbers.{Numbered, normalize-numbered}
+
+-- a verdict by one of the numbers that the report counts
+abbrev pub Listed : Verdict → Type 0
+Listed (Accepted size) = Unit {0}
+Listed (Fallen number) = (1 ≤ number) × (number ≤ 27)
+
+modest-listed : (v : Verdict) → Modest v → Listed v
+modest-listed (Accepted size) m = tt
+modest-listed (Fallen number) m = m
+
+verdict-listed : (s : Settings) (depth : ℕ) (t : List ℕ) → Listed (verdictOf s depth t)
+unfolding verdictOf verdict
+verdict-listed s depth t = pick-both Listed (wellFormed t) {b = Fallen 5} (go (normalize s depth t) (normalize-numbered s depth t)) (omega arith, omega arith)
+  where
+    go : (o : Outcome) → Numbered o → Listed (verdict o)
+    go (done value openings) h = tt
+    go (refused before openings why first second) h = (omega (arith, h .from), h .upto)
 
 -- ---- one word more
 
@@ -41,7 +61,7 @@ unfolding counted
 counted-length (Accepted size) words = raised-length (raised words 0 1) 28 size ∙ raised-length words 0 1
 counted-length (Fallen number) words = raised-length words number 1
 
-counted-at : (v : Verdict) (words : List ℕ) (j : ℕ) → length words ≡ 29 → Modest v → getD (counted v words) j 0 ≡ getD words j 0 + share j v
+counted-at : (v : Verdict) (words : List ℕ) (j : ℕ) → length words ≡ 29 → Listed v → getD (counted v words) j 0 ≡ getD words j 0 + share j v
 unfolding counted
 counted-at (Accepted size) words j e m =
     raised-at (raised words 0 1) 28 size j (omega (arith, e, raised-length words 0 1))
@@ -67,7 +87,7 @@ pub counted-within : (v : Verdict) (words : List ℕ) (n : ℕ) → Modest v →
 counted-within v words n m w =
     record {
       size = counted-length v words ∙ w .size;
-      small = λ j. omega (arith, counted-at v words j (w .size) m, share-small j v m, w .small j);
+      small = λ j. omega (arith, counted-at v words j (w .size) (modest-listed v m), share-small j v m, w .small j);
     }
 
 zero-words : (n j : ℕ) → _≡_ {A = ℕ} (getD (replicate n 0) j 0) 0
@@ -118,7 +138,7 @@ raised-in (suc n) words k m h l = go (ltb k n) refl (λ less. raised-in n words 
         let at : getD (raised words k m) n 0 ≡ getD words n 0 + m = rw is (getD-set-same words k (getD words k 0 + m) 0 l) in
         omega (arith, at, raised-out n words k m (omega (arith, is)))
 
-counted-first : (v : Verdict) (words : List ℕ) → length words ≡ 29 → Modest v → firstWords 28 (counted v words) ≡ suc (firstWords 28 words)
+counted-first : (v : Verdict) (words : List ℕ) → length words ≡ 29 → Listed v → firstWords 28 (counted v words) ≡ suc (firstWords 28 words)
 unfolding counted
 counted-first (Accepted size) words e m =
     raised-out 28 (raised words 0 1) 28 size (omega arith)
@@ -133,50 +153,40 @@ none-first (suc n) = omega (arith, none-first n, zero-words 29 n)
 
 -- ---- all spans
 
--- every verdict of a job is modest
-abbrev pub AllModest : Settings → ℕ → List ℕ → Type 0
-AllModest s depth text = (x : Span) → Modest (verdictOf s depth (bytesOf text x))
-
 module _ (s : Settings) (depth : ℕ) (text : List ℕ) where
-  pub over-next : (xs : List Span) (i : ℕ) (words : List ℕ) → i < length xs
-      → countedOver s depth text (drop i xs) words ≡ countedOver s depth text (drop (i + 1) xs) (counted (verdictOf s depth (bytesOf text (getD xs i noSpan))) words)
+  over-word : (xs : List Span) (words : List ℕ) → length words ≡ 29 → (j : ℕ)
+      → getD (countedOver s depth text xs words) j 0 ≡ getD words j 0 + summed (λ x. share j (verdictOf s depth (bytesOf text x))) xs
   unfolding countedOver
-  over-next xs i words l = ap (λ (ys : List Span). countedOver s depth text ys words) (drop-next xs i l)
+  over-word [] words e j = omega arith
+  over-word (x ∷ xs) words e j =
+      let v = verdictOf s depth (bytesOf text x) in
+      omega (arith, over-word xs (counted v words) (counted-length v words ∙ e) j, counted-at v words j e (verdict-listed s depth (bytesOf text x)))
 
-  pub over-end : (xs : List Span) (i : ℕ) (words : List ℕ) → length xs ≤ i → countedOver s depth text (drop i xs) words ≡ words
+  over-first : (xs : List Span) (words : List ℕ) → length words ≡ 29
+      → firstWords 28 (countedOver s depth text xs words) ≡ firstWords 28 words + length xs
   unfolding countedOver
-  over-end xs i words l = ap (λ (ys : List Span). countedOver s depth text ys words) (drop-of-length-le xs {i = i} l)
+  over-first [] words e = omega arith
+  over-first (x ∷ xs) words e =
+      let v = verdictOf s depth (bytesOf text x) in
+      over-first xs (counted v words) (counted-length v words ∙ e) ∙ ap (λ (n : ℕ). n + length xs) (counted-first v words e (verdict-listed s depth (bytesOf text x))) ∙ omega arith
 
-  module _ (modest : AllModest s depth text) where
-    over-word : (xs : List Span) (words : List ℕ) → length words ≡ 29 → (j : ℕ)
-        → getD (countedOver s depth text xs words) j 0 ≡ getD words j 0 + summed (λ x. share j (verdictOf s depth (bytesOf text x))) xs
-    unfolding countedOver
-    over-word [] words e j = omega arith
-    over-word (x ∷ xs) words e j =
-        let v = verdictOf s depth (bytesOf text x) in
-        omega (arith, over-word xs (counted v words) (counted-length v words ∙ e) j, counted-at v words j e (modest x))
+  -- each word of the report
+  pub report-word : (xs : List Span) (j : ℕ) → getD (report s depth text xs) j 0 ≡ summed (λ x. share j (verdictOf s depth (bytesOf text x))) xs
+  unfolding report
+  report-word xs j =
+      over-word xs (replicate 29 0) (length-replicate {A = ℕ} 29 0) j ∙ ap (λ (n : ℕ). n + summed (λ x. share j (verdictOf s depth (bytesOf text x))) xs) (zero-words 29 j)
+      ∙ omega arith
 
-    over-first : (xs : List Span) (words : List ℕ) → length words ≡ 29
-        → firstWords 28 (countedOver s depth text xs words) ≡ firstWords 28 words + length xs
-    unfolding countedOver
-    over-first [] words e = omega arith
-    over-first (x ∷ xs) words e =
-        let v = verdictOf s depth (bytesOf text x) in
-        over-first xs (counted v words) (counted-length v words ∙ e) ∙ ap (λ (n : ℕ). n + length xs) (counted-first v words e (modest x)) ∙ omega arith
+  -- K11: "together they make the number of spans"
+  pub report-counts : (xs : List Span) → firstWords 28 (report s depth text xs) ≡ length xs
+  unfolding report
+  report-counts xs = over-first xs (replicate 29 0) (length-replicate {A = ℕ} 29 0) ∙ ap (λ (n : ℕ). n + length xs) (none-first 28) ∙ omega arith
 
-    -- each word of the report
-    pub report-word : (xs : List Span) (j : ℕ) → getD (report s depth text xs) j 0 ≡ summed (λ x. share j (verdictOf s depth (bytesOf text x))) xs
-    unfolding report
-    report-word xs j =
-        over-word xs (replicate 29 0) (length-replicate {A = ℕ} 29 0) j ∙ ap (λ (n : ℕ). n + summed (λ x. share j (verdictOf s depth (bytesOf text x))) xs) (zero-words 29 j)
-        ∙ omega arith
-
-    -- K11: "together they make the number of spans"
-    pub report-counts : (xs : List Span) → firstWords 28 (report s depth text xs) ≡ length xs
-    unfolding report
-    report-counts xs = over-first xs (replicate 29 0) (length-replicate {A = ℕ} 29 0) ∙ ap (λ (n : ℕ). n + length xs) (none-first 28) ∙ omega arith
-
-  pub over-length : (xs : List Span) (words : List ℕ) → length (countedOver s depth text xs words) ≡ length words
+  over-length : (xs : List Span) (words : List ℕ) → length (countedOver s depth text xs words) ≡ length words
   unfolding countedOver
   over-length [] words = refl
   over-length (x ∷ xs) words = over-length xs (counted (verdictOf s depth (bytesOf text x)) words) ∙ counted-length (verdictOf s depth (bytesOf text x)) words
+
+  pub report-length : (xs : List Span) → length (report s depth text xs) ≡ 29
+  unfolding report
+  report-length xs = over-length xs (replicate 29 0) ∙ length-replicate {A = ℕ} 29 0

@@ -153,16 +153,7 @@ fn read_value(value: &[u8], job: Job, list: &[u8], pool: &[u8]) -> Verdict
         limit: job.limit,
     };
     let room = &mut none[..0];
-    verdict_by(normalize::normalized(
-        value,
-        wanted,
-        0,
-        false,
-        list,
-        pool,
-        refusals::NO_ROOM,
-        room,
-    ))
+    verdict_by(normalize::normalized(value, wanted, 0, false, list, pool, refusals::NO_ROOM, room))
 }
 
 // ---- the report

@@ -1,3 +1,4 @@
+-- `begin` clears the report where the checks pass, and else leaves it: both cases of `jobFor` and `clearedBy`.
 use mathlib.Core.Path.{sym, ap, _∙_}
 use Rattle.text.specs.declared.Answer.{Answer}
 use Rattle.walk_rehearsal.specs.Turns.{jobFor, clearedBy}

@@ -1,3 +1,4 @@
+-- `check_job` stops where the arguments or the table are refused (`stops`), and else asks the spans (`goes-on`).
 use mathlib.Core.Path.{sym, _∙_}
 use mathlib.Core.Bool.{true≢false}
 use Rattle.text.proofs.Call.{stops, goes-on}

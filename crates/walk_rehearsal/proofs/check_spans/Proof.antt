@@ -1,3 +1,4 @@
+-- `check_spans`: the tests of `spansBy` in their order.
 use borrow.Author.Tests.{lt-ltb, le-ltb}
 use borrow.Author.Needs.{needs}
 use Rattle.walk_rehearsal.proofs.check_spans.Statement.{statement}

@@ -1,3 +1,4 @@
+-- `count` raises the words that `counted` raises; no sum reaches 2^64 (`Countable`).
 use mathlib.Core.Path.{sym, ap, subst}
 use mathlib.Core.List.{List}
 use Prim.Native.Nat.{ℕ, _+_}

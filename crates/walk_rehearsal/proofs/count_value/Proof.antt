@@ -1,3 +1,4 @@
+-- `count_value` reads the part that the span names, and counts the verdict on it (`turn-so`).
 use Rattle.walk_rehearsal.proofs.Reports.{within-small, turn-so}
 use borrow.Author.Needs.{needs}
 use Rattle.walk_rehearsal.proofs.count_value.Statement.{statement}

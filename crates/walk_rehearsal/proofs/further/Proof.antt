@@ -1,3 +1,4 @@
+-- `further`: the tests of `furtherBy` in their order.
 use mathlib.Core.Path.{sym, _∙_}
 use borrow.Author.Tests.{eq-eqb, ne-eqb}
 use borrow.Author.Needs.{needs}

@@ -1,3 +1,4 @@
+-- `leaves_text` compares without the sum of start and length (`leaves-so`).
 use mathlib.Core.Path.{sym}
 use native.Mathlib.Omega.{arith}
 use borrow.Author.Tests.{lt-ltb}
@@ -15,7 +16,10 @@ returns c = sym (lt-ltb (c .before .before .args .size) (c .before .before .args
 
 -- src/lib.rt:50:1
 returns-2 : tie.Need-returns-2
-returns-2 c = leaves-so (c .before .before .before .before .args .size) (c .before .before .before .before .args .span .start) (c .before .before .before .before .args .span .length) (omega (arith, c .before .before .if1 .left))
+returns-2 c =
+    let tested = c .before .before in
+    let a = tested .before .before .args in
+    leaves-so (a .size) (a .span .start) (a .span .length) (omega (arith, tested .if1 .left))
 
 pub leaves-text-spec : {M : Type 1} → statement M
 leaves-text-spec = tie.close (tie.spec returns returns-2)

@@ -204,7 +204,13 @@ module _ {M : Type 1} (𝓤 : URA M) (H : Heap 𝓤) (A : Atoms 𝓤) (W : Given
     turns : (k : Upto) → Sq W (At k) (runs C Λ En body.turn-1 (anyQ (Turned k)))
     unfolding afterTurn
     turns k =
-        assigns ! (of-opd ! (load ! (from ! (fld ! refl (stop !))) (look-in ! 18 (sub ! 1 refl (whole !))))) (from ! (stop !)) (init ! 8 refl (tt, record { fits = index-fits p (length ys) (omega arith) })) $
+        assigns ! (of-opd ! (load ! (from ! (fld ! refl (stop !))) (look-in ! 18 (sub ! 1 refl (whole !))))) (from ! (stop !)) (init ! 8 refl (
+          tt,
+          record {
+            fits = index-fits p (length ys)
+                (omega arith);
+          },
+        )) $
         assigns ! (bin ! (load ! (from ! (stop !)) (look ! 12 refl)) (load ! (from ! (stop !)) (look ! 8 refl)) tt) (from ! (stop !)) (init ! 6 refl (tt, tt)) $
         tests ! (load ! (from ! (stop !)) (look ! 6 refl))
         (λ less.
@@ -224,16 +230,21 @@ module _ {M : Type 1} (𝓤 : URA M) (H : Heap 𝓤) (A : Atoms 𝓤) (W : Given
         elem-back ! R q‴ ys (k .i) noSpan (mach (span k) ∷ []) b o l $ shuts-slice ! tt R q‴ ys b o $ move ! (1 ∷ []) $ drop ! $
         -- [the token; spans; _9 at 2; …]
         nothing ! $ use1 W (raw (Further 𝓤 H A at-mem run .pre (to (span k) (k .i) (k .t))))
-        (goes (span k) (k .i) (k .t) g (index-fits p (k .i) (k .reach)) (index-fits p (k .t) (omega (arith, k .most, k .reach))) (let n = index-fits p (length ys) (omega arith) in omega (arith, l, n))) $
+        (goes (span k) (k .i) (k .t) g (index-fits p (k .i) (k .reach)) (index-fits p (k .t) (omega (arith, k .most, k .reach))) (let n = index-fits p (length ys)
+        (omega arith) in omega (arith, l, n))) $
         calls-at ! (fmOf 𝓤 H (W .laws) 𝓣) (Further 𝓤 H A at-mem run) known (to (span k) (k .i) (k .t))
-        (and-then ! (load ! (from ! (stop !)) (look ! 17 refl)) (and-then ! (load ! (from ! (stop !)) (look ! 11 refl)) (and-then ! (load ! (from ! (stop !)) (look ! 13 refl)) (and-then ! (load ! (from ! (stop !)) (look ! 15 refl)) (no-more !))))) (λ u.
-        use1 W (later (some (λ (r : ℕ). (‵ ftrue ⊛ ‵ (usize .own r (u ∷ []))) ⊛ raw (ensured 𝓤 H A further.ended (further.clauses 𝓤 H A at-mem run) tt (given (span k) (k .i) (k .t)) tt r)))) (id⊢ 𝓤 _) $ await ! tt $ pick ! (λ r.
-        split ! $ move ! (1 ∷ []) $ use1 W (raw (fact 𝓤 (r ≡ furtherBy size (span k) (k .i) (k .t)))) (said (span k) (k .i) (k .t) r) $ heard ! (r ≡ furtherBy size (span k) (k .i) (k .t)) (λ e. split ! $ move ! (1 ∷ []) $
+        (and-then ! (load ! (from ! (stop !)) (look ! 17 refl)) (and-then ! (load ! (from ! (stop !)) (look ! 11 refl)) (and-then ! (load ! (from ! (stop !)) (look ! 13 refl))
+        (and-then ! (load ! (from ! (stop !)) (look ! 15 refl)) (no-more !))))) (λ u.
+        use1 W (later (some (λ (r : ℕ). (‵ ftrue ⊛ ‵ (usize .own r (u ∷ [])))
+        ⊛ raw (ensured 𝓤 H A further.ended (further.clauses 𝓤 H A at-mem run) tt (given (span k) (k .i) (k .t)) tt r)))) (id⊢ 𝓤 _) $ await ! tt $ pick ! (λ r.
+        split ! $ move ! (1 ∷ []) $ use1 W (raw (fact 𝓤 (r ≡ furtherBy size (span k) (k .i) (k .t)))) (said (span k) (k .i) (k .t) r) $
+        heard ! (r ≡ furtherBy size (span k) (k .i) (k .t)) (λ e. split ! $ move ! (1 ∷ []) $
         -- [the result; true; the token; spans; _9 at 4; …]
         peeks ! usize (Is usize) (shows 𝓤 H A usize) r (u ∷ []) (λ is.
         land ! (from ! (stop !)) (store ! 16 refl (uint-lawful 𝓤 H A W w64 .typed r _ is .0)) $
         rewrite ! 16 (λ (z : Val). ‵ (fat fullShare word l₃ 0 z)) (ap only (is .0)) refl $ drop ! $ drop ! $
-        assigns-last ! (bin ! (load ! (from ! (stop !)) (look ! 12 refl)) (lit ! tt) (record { fits = index-fits p (k .i + 1) (omega (arith, l)) })) (from ! (stop !)) (store ! 12 refl (tt, record { fits = index-fits p (k .i + 1) (omega (arith, l)) })) $
+        assigns-last ! (bin ! (load ! (from ! (stop !)) (look ! 12 refl)) (lit ! tt) (record { fits = index-fits p (k .i + 1) (omega (arith, l)) })) (from ! (stop !))
+        (store ! 12 refl (tt, record { fits = index-fits p (k .i + 1) (omega (arith, l)) })) $
         forget ! 2 refl $ forget ! 4 refl $ forget ! 6 refl $ forget ! 8 refl $ forget ! 10 refl $
         again ! Nearer At k (next k l r e) (add-one-dec (length ys) (k .i) l))))))))
         (λ over. exec ! C Λ En body.t-4 (atRet En Post) $

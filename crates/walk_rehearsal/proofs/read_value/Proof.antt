@@ -1,3 +1,5 @@
+-- `read_value`: a simple text is its own value (`verdict-simple`), one that is not UTF-8 falls by 5 (`verdict-utf8`), and of any other normalization
+-- without room gives the verdict (`verdict-read`).
 use mathlib.Core.Path.{_≡_, sym, ap, _∙_}
 use mathlib.Core.List.{List, []}
 use Prim.Native.Nat.{ℕ, _<_}
@@ -29,12 +31,13 @@ is-simple-requires c κs = search needs
 -- src/lib.rt:104:9
 returns : tie.Need-returns
 returns c =
-    let a = c .before .before .before .before .before .args in
-    let s = c .before .is-simple .ensures (c .if1 .taken) in
+    let entry = c .before .before .before .before .before in
+    let a = entry .args in
+    let simple = c .before .is-simple .ensures (c .if1 .taken) in
     let set = settingsOf (a .job) (a .list .now) (a .pool .now) in
-    reads-so (a .job) (a .list .now) (a .pool .now) (a .value .now) (λ k. omega (arith, c .before .before .before .shared-slice-known2 .given k)) (c .before .before .before .before .before .pre .1 .0) (c .before .before .before .before .before .pre .1 .1)
-    (verdict-simple set (a .job .depth) (a .value .now) (simple-well-formed (a .value .now) s)
-    (sym (lenient (a .job) (a .list .now) (a .pool .now) (a .value .now)) ∙ simple-value (wantedFor (a .job)) (a .list .now) (a .pool .now) (a .value .now) s))
+    reads-so (a .job) (a .list .now) (a .pool .now) (a .value .now) (λ k. omega (arith, c .before .before .before .shared-slice-known2 .given k)) (entry .pre .1 .0) (entry .pre .1 .1)
+    (verdict-simple set (a .job .depth) (a .value .now) (simple-well-formed (a .value .now) simple)
+    (sym (lenient (a .job) (a .list .now) (a .pool .now) (a .value .now)) ∙ simple-value (wantedFor (a .job)) (a .list .now) (a .pool .now) (a .value .now) simple))
 
 -- src/lib.rt:108:8
 utf8-end-requires : tie.Need-utf8-end-requires
@@ -43,8 +46,10 @@ utf8-end-requires c κs = search needs
 -- src/lib.rt:109:9
 returns-2 : tie.Need-returns-2
 returns-2 c =
-    let a = c .before .before .before .before .before .before .before .args in
-    reads-so (a .job) (a .list .now) (a .pool .now) (a .value .now) (λ k. omega (arith, c .before .before .before .before .before .shared-slice-known2 .given k)) (c .before .before .before .before .before .before .before .pre .1 .0) (c .before .before .before .before .before .before .before .pre .1 .1)
+    let known = c .before .before .before .before .before in
+    let entry = known .before .before in
+    let a = entry .args in
+    reads-so (a .job) (a .list .now) (a .pool .now) (a .value .now) (λ k. omega (arith, known .shared-slice-known2 .given k)) (entry .pre .1 .0) (entry .pre .1 .1)
     (verdict-utf8 (settingsOf (a .job) (a .list .now) (a .pool .now)) (a .job .depth) (a .value .now) (λ e. c .if2 .taken (c .before .utf8-end .ensures ∙ e)))
 
 -- src/lib.rt:120:16
@@ -58,7 +63,9 @@ slice-aggregate-room c = search needs
 -- src/lib.rt:121:16
 normalized-requires : tie.Need-normalized-requires
 normalized-requires c κs =
-    (c .before .before .before .before .before .before .before .before .pre .0, (c .before .before .before .before .before .before .before .before .pre .1 .0, (c .before .before .before .before .before .before .before .before .pre .1 .1, end-whole (c .before .before .before .before .before .before .before .before .args .value .now) (sym (c .before .before .utf8-end .ensures) ∙ c .before .if2 .left))))
+    let asked = c .before in
+    let entry = asked .before .before .before .before .before .before .before in
+    (entry .pre .0, (entry .pre .1 .0, (entry .pre .1 .1, end-whole (entry .args .value .now) (sym (asked .before .utf8-end .ensures) ∙ asked .if2 .left))))
 
 -- src/lib.rt:121:5
 verdict-by-requires : tie.Need-verdict-by-requires
@@ -67,11 +74,14 @@ verdict-by-requires c κs = search needs
 -- src/lib.rt:97:1
 returns-3 : tie.Need-returns-3
 returns-3 c =
-    let a = c .before .before .before .before .before .before .before .before .before .before .before .args in
+    let asked = c .before .before .before .before in
+    let known = asked .before .before .before .before .before in
+    let entry = known .before .before in
+    let a = entry .args in
     let o = outcomeFor (wantedFor (a .job)) (a .list .now) (a .pool .now) (a .value .now) in
     let so = shown-plain o ∙ lenient (a .job) (a .list .now) (a .pool .now) (a .value .now) in
-    let whole = end-whole (a .value .now) (sym (c .before .before .before .before .before .utf8-end .ensures) ∙ c .before .before .before .before .if2 .left) in
-    reads-so (a .job) (a .list .now) (a .pool .now) (a .value .now) (λ k. omega (arith, c .before .before .before .before .before .before .before .before .before .shared-slice-known2 .given k)) (c .before .before .before .before .before .before .before .before .before .before .before .pre .1 .0) (c .before .before .before .before .before .before .before .before .before .before .before .pre .1 .1)
+    let whole = end-whole (a .value .now) (sym (asked .before .utf8-end .ensures) ∙ asked .if2 .left) in
+    reads-so (a .job) (a .list .now) (a .pool .now) (a .value .now) (λ k. omega (arith, known .shared-slice-known2 .given k)) (entry .pre .1 .0) (entry .pre .1 .1)
     (c .verdict-by .ensures
     ∙ ap verdictBy (c .before .before .normalized .ensures .0 ∙ ap (λ (x : Outcome). answerIn 19 x []) so)
     ∙ verdict-read (settingsOf (a .job) (a .list .now) (a .pool .now)) (a .job .depth) (a .value .now) whole)

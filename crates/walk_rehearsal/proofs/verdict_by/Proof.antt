@@ -1,3 +1,4 @@
+-- `verdict_by`, case by case: 19 is acceptance.
 use mathlib.Core.Path.{sym, ap}
 use borrow.Author.Tests.{eq-eqb, ne-eqb}
 use Rattle.walk_rehearsal.specs.Turns.{verdictBy}
