@@ -281,12 +281,15 @@ module _ {M : Type 1} (𝓤 : URA M) (H : Heap 𝓤) (A : Atoms 𝓤) (W : Given
       move ! (3 ∷ []) $ use1 W (‵ OwnT ⊛ ‵ OwnT) (shr-slice-copy 𝓤 H A W (named 0) κ u8 .twice s (v ∷ [])) $ split ! $
       move ! (6 ∷ []) $ use1 W (‵ OwnL ⊛ ‵ OwnL) (shr-slice-copy 𝓤 H A W (named 2) κ₂ u8 .twice s₂ (v₂ ∷ [])) $ split ! $
       move ! (9 ∷ []) $ use1 W (‵ OwnP ⊛ ‵ OwnP) (shr-slice-copy 𝓤 H A W (named 3) κ₃ u8 .twice s₃ (v₃ ∷ [])) $ split ! $
-      nothing ! $ owned ! usize (Is usize) (uint-makes 𝓤 H A W w64) t _ (refl, gt) $ fjoin ! $ owned ! usize (Is usize) (uint-makes 𝓤 H A W w64) (length ys) _ (refl, gn) $ fjoin ! $ move ! (1 ∷ 0 ∷ []) $ fjoin ! $ move ! (2 ∷ 0 ∷ []) $ fjoin ! $
-      owned ! u64 (Is u64) (uint-makes 𝓤 H A W w64) limit _ (refl, gl) $ fjoin ! $ owned ! u64 (Is u64) (uint-makes 𝓤 H A W w64) depth _ (refl, gd) $ fjoin ! $ owned ! u8 (Is u8) (uint-makes 𝓤 H A W w8) version _ (refl, gv) $ fjoin ! $
+      nothing ! $ owned ! usize (Is usize) (uint-makes 𝓤 H A W w64) t _ (refl, gt) $ fjoin ! $ owned ! usize (Is usize) (uint-makes 𝓤 H A W w64) (length ys) _ (refl, gn) $ fjoin ! $
+      move ! (1 ∷ 0 ∷ []) $ fjoin ! $ move ! (2 ∷ 0 ∷ []) $ fjoin ! $
+      owned ! u64 (Is u64) (uint-makes 𝓤 H A W w64) limit _ (refl, gl) $ fjoin ! $ owned ! u64 (Is u64) (uint-makes 𝓤 H A W w64) depth _ (refl, gd) $ fjoin ! $
+      owned ! u8 (Is u8) (uint-makes 𝓤 H A W w8) version _ (refl, gv) $ fjoin ! $
       move ! (3 ∷ 0 ∷ []) $ fjoin ! $ move ! (5 ∷ 0 ∷ []) $ fjoin ! $
       nothing ! $ move ! (8 ∷ 0 ∷ []) $ join ! $ move ! (7 ∷ 0 ∷ []) $ join ! $ move ! (6 ∷ 0 ∷ []) $ join ! $ move ! (5 ∷ 0 ∷ []) $ join ! $
       use2 W (raw (Begin 𝓤 H A at-mem run .pre (to-begin ν δ t)))
-      (qed W (Tokens ν ∷ ‵ (owns (MutRef (named 0) (ν ∷ []) R₃ ∷ ShrSlice (named 1) κ u8 ∷ u8 ∷ u64 ∷ u64 ∷ ShrSlice (named 2) κ₂ u8 ∷ ShrSlice (named 3) κ₃ u8 ∷ usize ∷ usize ∷ []) (given-begin δ t) (vals-begin t)) ∷ [])
+      (qed W (Tokens ν ∷ ‵ (owns (MutRef (named 0) (ν ∷ []) R₃ ∷ ShrSlice (named 1) κ u8 ∷ u8 ∷ u64 ∷ u64 ∷ ShrSlice (named 2) κ₂ u8 ∷ ShrSlice (named 3) κ₃ u8 ∷ usize ∷ usize ∷ [])
+      (given-begin δ t) (vals-begin t)) ∷ [])
       ∵ join ! $ frame ! $ done !) $
       frame ! $ move ! (2 ∷ 1 ∷ 0 ∷ []) $ done !
 
@@ -316,7 +319,8 @@ module _ {M : Type 1} (𝓤 : URA M) (H : Heap 𝓤) (A : Atoms 𝓤) (W : Given
       move ! (3 ∷ 0 ∷ []) $ fjoin ! $ move ! (5 ∷ 0 ∷ []) $ fjoin ! $
       nothing ! $ move ! (8 ∷ 0 ∷ []) $ join ! $ move ! (7 ∷ 0 ∷ []) $ join ! $ move ! (6 ∷ 0 ∷ []) $ join ! $ move ! (5 ∷ 0 ∷ []) $ join ! $
       use2 W (raw (CountValue 𝓤 H A at-mem run .pre (to-count ν δ ws h j)))
-      (qed W (Tokens ν ∷ ‵ (owns (MutRef (named 0) (ν ∷ []) R₃ ∷ ShrSlice (named 1) κ u8 ∷ R ∷ R₂ ∷ ShrSlice (named 2) κ₂ u8 ∷ ShrSlice (named 3) κ₃ u8 ∷ []) (given-count δ ws h j) (vals-count h j)) ∷ [])
+      (qed W (Tokens ν ∷ ‵ (owns (MutRef (named 0) (ν ∷ []) R₃ ∷ ShrSlice (named 1) κ u8 ∷ R ∷ R₂ ∷ ShrSlice (named 2) κ₂ u8 ∷ ShrSlice (named 3) κ₃ u8 ∷ []) (given-count δ ws h j)
+      (vals-count h j)) ∷ [])
       ∵ says ! ok $ frame ! $ done !) $
       frame ! $ move ! (2 ∷ 1 ∷ 0 ∷ []) $ done !
 
@@ -348,7 +352,8 @@ module _ {M : Type 1} (𝓤 : URA M) (H : Heap 𝓤) (A : Atoms 𝓤) (W : Given
       (tt, (tt, (tt, (tt, (tt, (tt, (tt, (ws, (zs, tt))))))))) (tt, (tt, (tt, (tt, (tt, (tt, (tt, (tt, (tt, tt)))))))))) $ says ! e $
       move ! (11 ∷ 12 ∷ []) $ join ! $ move ! (11 ∷ 0 ∷ []) $ join ! $ move ! (10 ∷ 0 ∷ []) $ join ! $ move ! (9 ∷ 0 ∷ []) $ join ! $ move ! (8 ∷ 0 ∷ []) $ join ! $ frame ! $
       nothing ! $ move ! (6 ∷ 0 ∷ []) $ fjoin ! $ move ! (5 ∷ 0 ∷ []) $ fjoin ! $ move ! (4 ∷ 0 ∷ []) $ fjoin ! $ move ! (3 ∷ 0 ∷ []) $ fjoin ! $
-      owned ! u64 (Is u64) (uint-makes 𝓤 H A W w64) limit _ (refl, gl) $ fjoin ! $ owned ! u64 (Is u64) (uint-makes 𝓤 H A W w64) depth _ (refl, gd) $ fjoin ! $ owned ! u8 (Is u8) (uint-makes 𝓤 H A W w8) version _ (refl, gv) $ fjoin ! $
+      owned ! u64 (Is u64) (uint-makes 𝓤 H A W w64) limit _ (refl, gl) $ fjoin ! $ owned ! u64 (Is u64) (uint-makes 𝓤 H A W w64) depth _ (refl, gd) $ fjoin ! $
+      owned ! u8 (Is u8) (uint-makes 𝓤 H A W w8) version _ (refl, gv) $ fjoin ! $
       move ! (2 ∷ 0 ∷ []) $ fjoin ! $ move ! (1 ∷ 0 ∷ []) $ fjoin ! $ done !
 
   module _ (p₁ : Is (ShrSlice (named 1) κ₁ R) x₁ (v₁ ∷ [])) where
@@ -411,7 +416,9 @@ module _ {M : Type 1} (𝓤 : URA M) (H : Heap 𝓤) (A : Atoms 𝓤) (W : Given
     lentAnswer = tyRef erased mut (tyArray word 2)
 
     abbrev En : Env 𝓤 H
-    En = (half, l₀) ∷ (textTy, l₁) ∷ (spansTy, l₂) ∷ (byte, l₃) ∷ (word, l₄) ∷ (word, l₅) ∷ (listTy, l₆) ∷ (poolTy, l₇) ∷ (reportTy, l₈) ∷ (answerTy, l₉) ∷ (word, l₁₀) ∷ (J′.mir, l₁₁) ∷ (word, l₁₂) ∷ (word, l₁₃) ∷ (T′.mir, l₁₄) ∷ (word, l₁₅) ∷ (lentTy, l₁₆) ∷ (tyBool, l₁₇) ∷ (word, l₁₈) ∷ (tyPtr, l₁₉) ∷ (T′.mir, l₂₀) ∷ (tyUnit, l₂₁) ∷ (lentTy, l₂₂) ∷ (lentAnswer, l₂₃) ∷ []
+    En = (half, l₀) ∷ (textTy, l₁) ∷ (spansTy, l₂) ∷ (byte, l₃) ∷ (word, l₄) ∷ (word, l₅) ∷ (listTy, l₆) ∷ (poolTy, l₇) ∷ (reportTy, l₈) ∷ (answerTy, l₉) ∷ (word, l₁₀) ∷ (J′.mir, l₁₁)
+        ∷ (word, l₁₂) ∷ (word, l₁₃) ∷ (T′.mir, l₁₄) ∷ (word, l₁₅) ∷ (lentTy, l₁₆) ∷ (tyBool, l₁₇) ∷ (word, l₁₈) ∷ (tyPtr, l₁₉) ∷ (T′.mir, l₂₀) ∷ (tyUnit, l₂₁) ∷ (lentTy, l₂₂)
+        ∷ (lentAnswer, l₂₃) ∷ []
 
     -- ---- the loop, of a job that was started
     module _ (st : Started) where
@@ -493,28 +500,35 @@ module _ {M : Type 1} (𝓤 : URA M) (H : Heap 𝓤) (A : Atoms 𝓤) (W : Given
           let m : k .i < length ys = omega (arith, l, few) in
           -- span i is read: of the slice one copy is kept, the other is opened, and shut again
           assigns ! (bin ! (load ! (from ! (stop !)) (look ! 32 refl)) (lit ! tt) (offset-fits p₁ (k .i) m)) (from ! (stop !)) (init ! 22 refl (tt, offset-fits p₁ (k .i) m)) $
-          assigns ! (bin ! (load ! (from ! (fld ! refl (stop !))) (look-in ! 54 (sub ! 0 refl (whole !)))) (load ! (from ! (stop !)) (look ! 22 refl)) tt) (from ! (stop !)) (init ! 20 refl (tt, tt)) $
+          assigns ! (bin ! (load ! (from ! (fld ! refl (stop !))) (look-in ! 54 (sub ! 0 refl (whole !)))) (load ! (from ! (stop !)) (look ! 22 refl)) tt) (from ! (stop !))
+          (init ! 20 refl (tt, tt)) $
           rewrite ! 20 (λ (z : ℕ). ‵ (fat fullShare tyPtr l₁₉ 0 (vptr b z))) (sym (place-is 16 o (k .i))) refl $
           move ! (3 ∷ []) $ use1 W (‵ OwnS ⊛ ‵ OwnS) (shr-slice-copy 𝓤 H A W (named 1) κ₁ R .twice x₁ (v₁ ∷ [])) $ split ! $ fsplit ! $ drop ! $ fsplit ! $ drop ! $ move ! (0 ∷ 4 ∷ []) $
           looks-slice ! tt R (Is R) (shows 𝓤 H A R) (LL.vals T.the-type T′.the-laws) (LL.tells T.the-type T′.the-laws) (LL.copy T.the-type T′.the-copy 𝓤 H A W) ys b o (λ q‴.
           elem-out ! R (Is R) (shows 𝓤 H A R) (LL.vals T.the-type T′.the-laws) (LL.tells T.the-type T′.the-laws) q‴ ys (k .i) noSpan b o m (λ g.
           -- [the element's cell; what it owns; the others; what shuts; the fractured borrow; spans; ten of the others; _23 at 16; …]
           use1 W (‵ (fat q‴ T′.mir b (place 16 o (k .i)) (mach (span k)))) (W .laws .raw-at q‴ T′.mir b (place 16 o (k .i)) (mach (span k))) $
-          assigns ! (of-opd ! (load ! (from ! (hop ! (look ! 24 refl) (stop !))) (look ! 0 refl))) (from ! (stop !)) (init ! 22 refl (LL.lawful T.the-type T′.the-laws 𝓤 H A W .typed (span k) _ g .0)) $
+          assigns ! (of-opd ! (load ! (from ! (hop ! (look ! 24 refl) (stop !))) (look ! 0 refl))) (from ! (stop !))
+          (init ! 22 refl (LL.lawful T.the-type T′.the-laws 𝓤 H A W .typed (span k) _ g .0)) $
           assigns ! (of-opd ! (load ! (from ! (stop !)) (look ! 22 refl))) (from ! (stop !)) (init ! 34 refl (LL.lawful T.the-type T′.the-laws 𝓤 H A W .typed (span k) _ g .0)) $
           use1 W (‵ (cellAt q‴ (R .mir) (mach (span k) ∷ []) b (place 16 o (k .i)))) (W .laws .at-raw q‴ T′.mir b (place 16 o (k .i)) (mach (span k))) $
           elem-back ! R q‴ ys (k .i) noSpan (mach (span k) ∷ []) b o m $ shuts-slice ! tt R q‴ ys b o $ move ! (1 ∷ []) $ drop ! $
           -- [the token of spans; spans; ten of the others; _23 at 12; …]: the report is lent for the call
           assigns ! (addr ! (from ! (hop ! (look ! 42 refl) (stop !)))) (from ! (stop !)) (init ! 14 refl (tt, tt)) $
           lft-new ! tt (λ ν. move ! (10 ∷ 9 ∷ []) $
-          use2 W (later (some (λ (δ : GName). ‵ (Lent ν δ (k .ws)) ⊛ ‵ (Keeps ν δ (k .ws))))) (lends-again 𝓤 H A W R₃ (named 4) κ₄ (ν ∷ []) q₄ γ₄ b₄ o₄ (named 0) (k .ws)) $ await ! tt $ pick ! (λ δ. split ! $
+          use2 W (later (some (λ (δ : GName). ‵ (Lent ν δ (k .ws)) ⊛ ‵ (Keeps ν δ (k .ws))))) (lends-again 𝓤 H A W R₃ (named 4) κ₄ (ν ∷ []) q₄ γ₄ b₄ o₄ (named 0) (k .ws)) $ await ! tt $
+          pick ! (λ δ. split ! $
           move ! (2 ∷ 0 ∷ 5 ∷ 6 ∷ 7 ∷ 8 ∷ 9 ∷ 10 ∷ []) $ join ! $ join ! $ join ! $ join ! $ join ! $ join ! $ join ! $
           use1 W (raw (CountValue 𝓤 H A at-mem run .pre (to-count ν δ (k .ws) (span k) job)) ⊛ Slices) (goes-count ν δ (k .ws) (span k) job g (st .is) (ready k l)) $ split ! $
           calls-at ! (fmOf 𝓤 H (W .laws) 𝓣) (CountValue 𝓤 H A at-mem run) known-count (to-count ν δ (k .ws) (span k) job)
-          (and-then ! (load ! (from ! (stop !)) (look ! 9 refl)) (and-then ! (load ! (from ! (stop !)) (look ! 51 refl)) (and-then ! (load ! (from ! (stop !)) (look ! 25 refl)) (and-then ! (load ! (from ! (stop !)) (look ! 31 refl)) (and-then ! (load ! (from ! (stop !)) (look ! 41 refl)) (and-then ! (load ! (from ! (stop !)) (look ! 39 refl)) (no-more !))))))) (λ u.
-          use1 W (later (some (λ (r : U). (Tokens ν ⊛ ‵ (unit .own r (u ∷ []))) ⊛ raw (ensured 𝓤 H A count-value.ended (count-value.clauses 𝓤 H A at-mem run) (lfts ν) (given-count δ (k .ws) (span k) job) tt r)))) (id⊢ 𝓤 _) $
+          (and-then ! (load ! (from ! (stop !)) (look ! 9 refl)) (and-then ! (load ! (from ! (stop !)) (look ! 51 refl)) (and-then ! (load ! (from ! (stop !)) (look ! 25 refl))
+          (and-then ! (load ! (from ! (stop !)) (look ! 31 refl)) (and-then ! (load ! (from ! (stop !)) (look ! 41 refl))
+          (and-then ! (load ! (from ! (stop !)) (look ! 39 refl)) (no-more !))))))) (λ u.
+          use1 W (later (some (λ (r : U). (Tokens ν ⊛ ‵ (unit .own r (u ∷ [])))
+          ⊛ raw (ensured 𝓤 H A count-value.ended (count-value.clauses 𝓤 H A at-mem run) (lfts ν) (given-count δ (k .ws) (span k) job) tt r)))) (id⊢ 𝓤 _) $
           await ! tt $ pick ! (λ r.
-          split ! $ move ! (1 ∷ []) $ use1 W (some (λ (zs : List ℕ × (U × (U × (U × (U × (U × U)))))). ‵ (lasts count-value.ended (lfts ν) (given-count δ (k .ws) (span k) job) zs) ⊛ raw (fact 𝓤 (Turned-so (k .ws) (span k) job (zs .0))))) (id⊢ 𝓤 _) $ pick ! (λ zs.
+          split ! $ move ! (1 ∷ []) $ use1 W (some (λ (zs : List ℕ × (U × (U × (U × (U × (U × U)))))). ‵ (lasts count-value.ended (lfts ν) (given-count δ (k .ws) (span k) job) zs)
+          ⊛ raw (fact 𝓤 (Turned-so (k .ws) (span k) job (zs .0))))) (id⊢ 𝓤 _) $ pick ! (λ zs.
           split ! $ move ! (1 ∷ []) $ heard ! (Turned-so (k .ws) (span k) job (zs .0)) (λ e. fsplit ! $ move ! (2 ∷ []) $ split ! $ move ! (1 ∷ []) $
           -- [the result; the tokens; the report's last value; true; the slices; what is kept; the token of spans; spans; the token of answer; answer; _23 at 10; …]
           peeks ! unit (Is unit) (shows 𝓤 H A unit) r (u ∷ []) (λ is.
@@ -524,21 +538,29 @@ module _ {M : Type 1} (𝓤 : URA M) (H : Heap 𝓤) (A : Atoms 𝓤) (W : Given
           -- [the report; its token; the other tokens; true; the slices; the token of spans; spans; the token of answer; answer; …]
           move ! (2 ∷ []) $ split ! $ move ! (1 ∷ []) $ split ! $ move ! (1 ∷ []) $ split ! $ move ! (7 ∷ []) $ split ! $ move ! (1 ∷ []) $ split ! $
           move ! (6 ∷ 2 ∷ 10 ∷ 11 ∷ 5 ∷ 0 ∷ 3 ∷ 1 ∷ 8 ∷ 7 ∷ 12 ∷ 13 ∷ []) $ move ! (12 ∷ []) $ drop ! $ move ! (12 ∷ []) $ drop ! $
-          assigns-last ! (bin ! (load ! (from ! (stop !)) (look ! 32 refl)) (lit ! tt) (record { fits = index-fits p₁ (k .i + 1) (omega (arith, m)) })) (from ! (stop !)) (store ! 32 refl (tt, record { fits = index-fits p₁ (k .i + 1) (omega (arith, m)) })) $
+          assigns-last ! (bin ! (load ! (from ! (stop !)) (look ! 32 refl)) (lit ! tt) (record { fits = index-fits p₁ (k .i + 1) (omega (arith, m)) })) (from ! (stop !))
+          (store ! 32 refl (tt, record { fits = index-fits p₁ (k .i + 1) (omega (arith, m)) })) $
           forget ! 14 refl $ forget ! 16 refl $ forget ! 18 refl $ forget ! 20 refl $ forget ! 22 refl $ forget ! 24 refl $ forget ! 30 refl $
           again ! Nearer At k (next k l (zs .0) e) (add-one-dec (job .count) (k .i) l)))))))))))
           (λ past. exec ! C Λ En body.t-9 (atRet En Post) $
           assigns ! (addr ! (from ! (hop ! (look ! 40 refl) (stop !)))) (from ! (stop !)) (init ! 12 refl (tt, tt)) $
           move ! (10 ∷ 11 ∷ []) $ use2 W (raw (PutJob 𝓤 H A at-mem run .pre (to-put job))) (goes-put job (st .is)) $
-          calls-at ! (fmOf 𝓤 H (W .laws) 𝓣) (PutJob 𝓤 H A at-mem run) known-put (to-put job) (and-then ! (load ! (from ! (stop !)) (look ! 11 refl)) (and-then ! (load ! (from ! (stop !)) (look ! 35 refl)) (no-more !))) (λ u.
-          use1 W (later (some (λ (r : ℕ). ((‵ (flft κ₅ q₅) ⊛ ‵ ftrue) ⊛ ‵ (u32 .own r (u ∷ []))) ⊛ raw (ensured 𝓤 H A put-job.ended (put-job.clauses 𝓤 H A at-mem run) (κ₅, tt) (x₅, (job, tt)) tt r)))) (id⊢ 𝓤 _) $ await ! tt $ pick ! (λ r.
+          calls-at ! (fmOf 𝓤 H (W .laws) 𝓣) (PutJob 𝓤 H A at-mem run) known-put (to-put job) (and-then ! (load ! (from ! (stop !)) (look ! 11 refl))
+          (and-then ! (load ! (from ! (stop !)) (look ! 35 refl)) (no-more !))) (λ u.
+          use1 W (later (some (λ (r : ℕ). ((‵ (flft κ₅ q₅) ⊛ ‵ ftrue) ⊛ ‵ (u32 .own r (u ∷ [])))
+          ⊛ raw (ensured 𝓤 H A put-job.ended (put-job.clauses 𝓤 H A at-mem run) (κ₅, tt) (x₅, (job, tt)) tt r)))) (id⊢ 𝓤 _) $ await ! tt $ pick ! (λ r.
           split ! $ move ! (1 ∷ []) $ use1 W (some (λ (zs : List ℕ × (U × U)). ‵ (lasts put-job.ended (κ₅, tt) (x₅, (job, tt)) zs) ⊛ raw (fact 𝓤 (Put-so job r (zs .0))))) (id⊢ 𝓤 _) $ pick ! (λ zs.
           split ! $ move ! (1 ∷ []) $ heard ! (Put-so job r (zs .0)) (λ e. fsplit ! $ move ! (2 ∷ []) $ split ! $ move ! (1 ∷ []) $
           -- [the result; the token of answer; its last value; true; ten of the others; _23 at 14; …]
           peeks ! u32 (Is u32) (shows 𝓤 H A u32) r (u ∷ []) (λ g.
           land ! (from ! (stop !)) (init ! 60 refl (uint-lawful 𝓤 H A W w32 .typed r _ g .0)) $
-          returns ! (look ! 60 refl) $ forget ! 14 refl $ forget ! 26 refl $ forget ! 34 refl $ forget ! 36 refl $ forget ! 38 refl $ forget ! 40 refl $ forget ! 42 refl $ forget ! 44 refl $ forget ! 46 refl $ forget ! 48 refl $ forget ! 50 refl $ forget ! 52 refl $ forget ! 54 refl $ forget ! 56 refl $ forget ! 58 refl $ forget ! 60 refl $
-          move ! (60 ∷ 61 ∷ []) $ free1 ! $ move ! (58 ∷ 59 ∷ []) $ free1 ! $ move ! (56 ∷ 57 ∷ []) $ free1 ! $ move ! (54 ∷ 55 ∷ []) $ free1 ! $ move ! (52 ∷ 53 ∷ []) $ free1 ! $ move ! (50 ∷ 51 ∷ []) $ free1 ! $ move ! (48 ∷ 49 ∷ []) $ free1 ! $ move ! (46 ∷ 47 ∷ []) $ free1 ! $ move ! (44 ∷ 45 ∷ []) $ free1 ! $ move ! (42 ∷ 43 ∷ []) $ free1 ! $ move ! (40 ∷ 41 ∷ []) $ free1 ! $ move ! (38 ∷ 39 ∷ []) $ free1 ! $ move ! (36 ∷ 37 ∷ []) $ free1 ! $ move ! (34 ∷ 35 ∷ []) $ free1 ! $ move ! (32 ∷ 33 ∷ []) $ free1 ! $ move ! (30 ∷ 31 ∷ []) $ free1 ! $ move ! (28 ∷ 29 ∷ []) $ free1 ! $ move ! (26 ∷ 27 ∷ []) $ free1 ! $ move ! (24 ∷ 25 ∷ []) $ free1 ! $ move ! (22 ∷ 23 ∷ []) $ free1 ! $ move ! (20 ∷ 21 ∷ []) $ free1 ! $ move ! (18 ∷ 19 ∷ []) $ free1 ! $ move ! (16 ∷ 17 ∷ []) $ free1 ! $ move ! (14 ∷ 15 ∷ []) $ free1 ! $ free0 ! $
+          returns ! (look ! 60 refl) $ forget ! 14 refl $ forget ! 26 refl $ forget ! 34 refl $ forget ! 36 refl $ forget ! 38 refl $ forget ! 40 refl $ forget ! 42 refl $ forget ! 44 refl $
+          forget ! 46 refl $ forget ! 48 refl $ forget ! 50 refl $ forget ! 52 refl $ forget ! 54 refl $ forget ! 56 refl $ forget ! 58 refl $ forget ! 60 refl $
+          move ! (60 ∷ 61 ∷ []) $ free1 ! $ move ! (58 ∷ 59 ∷ []) $ free1 ! $ move ! (56 ∷ 57 ∷ []) $ free1 ! $ move ! (54 ∷ 55 ∷ []) $ free1 ! $ move ! (52 ∷ 53 ∷ []) $ free1 ! $
+          move ! (50 ∷ 51 ∷ []) $ free1 ! $ move ! (48 ∷ 49 ∷ []) $ free1 ! $ move ! (46 ∷ 47 ∷ []) $ free1 ! $ move ! (44 ∷ 45 ∷ []) $ free1 ! $ move ! (42 ∷ 43 ∷ []) $ free1 ! $
+          move ! (40 ∷ 41 ∷ []) $ free1 ! $ move ! (38 ∷ 39 ∷ []) $ free1 ! $ move ! (36 ∷ 37 ∷ []) $ free1 ! $ move ! (34 ∷ 35 ∷ []) $ free1 ! $ move ! (32 ∷ 33 ∷ []) $ free1 ! $
+          move ! (30 ∷ 31 ∷ []) $ free1 ! $ move ! (28 ∷ 29 ∷ []) $ free1 ! $ move ! (26 ∷ 27 ∷ []) $ free1 ! $ move ! (24 ∷ 25 ∷ []) $ free1 ! $ move ! (22 ∷ 23 ∷ []) $ free1 ! $
+          move ! (20 ∷ 21 ∷ []) $ free1 ! $ move ! (18 ∷ 19 ∷ []) $ free1 ! $ move ! (16 ∷ 17 ∷ []) $ free1 ! $ move ! (14 ∷ 15 ∷ []) $ free1 ! $ free0 ! $
           keep ! (5 ∷ 7 ∷ 9 ∷ 11 ∷ 13 ∷ 2 ∷ 0 ∷ 4 ∷ 6 ∷ 8 ∷ 10 ∷ 12 ∷ 1 ∷ []) $
           by ! (exits r u (zs .0) (k .ws) (answers-so (now s) version depth limit (now s₂) (now s₃) ys (st .t) job w₀ (st .start) (st .begun) (st .at) (e .0) (e .1)
           (k .left ∙ over-done (now s) job (now s₂) (now s₃) ys (k .i) (k .ws) (nltb→le (k .i) (job .count) past))))))))))
@@ -565,15 +587,26 @@ module _ {M : Type 1} (𝓤 : URA M) (H : Heap 𝓤) (A : Atoms 𝓤) (W : Given
     from-begin : (t : ℕ) → t ≡ inside (length (now s)) ys → t < 2 ^ 64 → Sq W (Found t) (runs C Λ En body.t-3 (atRet En Post))
     from-begin t at gt =
         assigns ! (addr ! (from ! (hop ! (look ! 42 refl) (stop !)))) (from ! (stop !)) (init ! 26 refl (tt, tt)) $
-        assigns ! (of-opd ! (load ! (from ! (fld ! refl (stop !))) (look-in ! 54 (sub ! 1 refl (whole !))))) (from ! (stop !)) (init ! 28 refl (tt, record { fits = index-fits p₁ (length ys) (omega arith) })) $
+        assigns ! (of-opd ! (load ! (from ! (fld ! refl (stop !))) (look-in ! 54 (sub ! 1 refl (whole !))))) (from ! (stop !)) (init ! 28 refl (
+          tt,
+          record {
+            fits = index-fits p₁ (length ys)
+                (omega arith);
+          },
+        )) $
         lft-new ! tt (λ ν. move ! (10 ∷ 9 ∷ []) $
         use2 W (later (some (λ (δ : GName). ‵ (Lent ν δ w₀) ⊛ ‵ (Keeps ν δ w₀)))) (lends-again 𝓤 H A W R₃ (named 4) κ₄ (ν ∷ []) q₄ γ₄ b₄ o₄ (named 0) w₀) $ await ! tt $ pick ! (λ δ. split ! $
         move ! (2 ∷ 0 ∷ 3 ∷ 4 ∷ 7 ∷ 8 ∷ 9 ∷ 10 ∷ []) $ join ! $ join ! $ join ! $ join ! $ join ! $ join ! $ join ! $
         use1 W (raw (Begin 𝓤 H A at-mem run .pre (to-begin ν δ t)) ⊛ Slices) (goes-begin ν δ t gt (index-fits p₁ (length ys) (omega arith))) $ split ! $
         calls-at ! (fmOf 𝓤 H (W .laws) 𝓣) (Begin 𝓤 H A at-mem run) known-begin (to-begin ν δ t)
-        (and-then ! (load ! (from ! (stop !)) (look ! 21 refl)) (and-then ! (load ! (from ! (stop !)) (look ! 51 refl)) (and-then ! (load ! (from ! (stop !)) (look ! 47 refl)) (and-then ! (load ! (from ! (stop !)) (look ! 45 refl)) (and-then ! (load ! (from ! (stop !)) (look ! 43 refl)) (and-then ! (load ! (from ! (stop !)) (look ! 41 refl)) (and-then ! (load ! (from ! (stop !)) (look ! 39 refl)) (and-then ! (load ! (from ! (stop !)) (look ! 23 refl)) (and-then ! (load ! (from ! (stop !)) (look ! 33 refl)) (no-more !)))))))))) (λ u.
-        use1 W (later (some (λ (r : Job). (Tokens ν ⊛ ‵ (R₂ .own r (u ∷ []))) ⊛ raw (ensured 𝓤 H A begin.ended (begin.clauses 𝓤 H A at-mem run) (lfts ν) (given-begin δ t) tt r)))) (id⊢ 𝓤 _) $ await ! tt $ pick ! (λ r.
-        split ! $ move ! (1 ∷ []) $ use1 W (some (λ (zs : List ℕ × (U × (U × (U × (U × (U × (U × (U × (U × U))))))))). ‵ (lasts begin.ended (lfts ν) (given-begin δ t) zs) ⊛ raw (fact 𝓤 (Begun t r (zs .0))))) (id⊢ 𝓤 _) $ pick ! (λ zs.
+        (and-then ! (load ! (from ! (stop !)) (look ! 21 refl)) (and-then ! (load ! (from ! (stop !)) (look ! 51 refl)) (and-then ! (load ! (from ! (stop !)) (look ! 47 refl))
+        (and-then ! (load ! (from ! (stop !)) (look ! 45 refl)) (and-then ! (load ! (from ! (stop !)) (look ! 43 refl)) (and-then ! (load ! (from ! (stop !)) (look ! 41 refl))
+        (and-then ! (load ! (from ! (stop !)) (look ! 39 refl)) (and-then ! (load ! (from ! (stop !)) (look ! 23 refl))
+        (and-then ! (load ! (from ! (stop !)) (look ! 33 refl)) (no-more !)))))))))) (λ u.
+        use1 W (later (some (λ (r : Job). (Tokens ν ⊛ ‵ (R₂ .own r (u ∷ []))) ⊛ raw (ensured 𝓤 H A begin.ended (begin.clauses 𝓤 H A at-mem run) (lfts ν) (given-begin δ t) tt r)))) (id⊢ 𝓤 _) $
+        await ! tt $ pick ! (λ r.
+        split ! $ move ! (1 ∷ []) $ use1 W (some (λ (zs : List ℕ × (U × (U × (U × (U × (U × (U × (U × (U × U))))))))). ‵ (lasts begin.ended (lfts ν) (given-begin δ t) zs)
+        ⊛ raw (fact 𝓤 (Begun t r (zs .0))))) (id⊢ 𝓤 _) $ pick ! (λ zs.
         split ! $ move ! (1 ∷ []) $ heard ! (Begun t r (zs .0)) (λ e. fsplit ! $ move ! (2 ∷ []) $ split ! $ move ! (1 ∷ []) $
         peeks ! R₂ (Is R₂) (shows 𝓤 H A R₂) r (u ∷ []) (λ is.
         land ! (from ! (stop !)) (init ! 34 refl (LL.lawful J.the-type J′.the-laws 𝓤 H A W .typed r _ is .0)) $
@@ -582,10 +615,12 @@ module _ {M : Type 1} (𝓤 : URA M) (H : Heap 𝓤) (A : Atoms 𝓤) (W : Given
         use3 W (later (‵ (OwnM (zs .0)) ⊛ ‵ (flft κ₄ q₄))) (comes-back 𝓤 H A W R₃ (named 4) κ₄ (ν ∷ []) q₄ γ₄ b₄ o₄ δ w₀ (zs .0)) $ await ! tt $ split ! $
         -- [the report; its token; the other tokens; true; the slices; the token of spans; spans; the token of answer; answer; …]
         move ! (2 ∷ []) $ split ! $ move ! (1 ∷ []) $ split ! $ move ! (1 ∷ []) $ split ! $ move ! (7 ∷ []) $ split ! $ move ! (1 ∷ []) $ split ! $
-        assigns ! (of-opd ! (load ! (from ! (fld ! refl (stop !))) (look-in ! 38 (sub ! 3 refl (whole !))))) (from ! (stop !)) (init ! 36 refl (uint-lawful 𝓤 H A W w64 .typed (r .count) _ (LL.owed J.the-type J′.the-laws r _ is .1 .1 .1 .0) .0)) $
+        assigns ! (of-opd ! (load ! (from ! (fld ! refl (stop !))) (look-in ! 38 (sub ! 3 refl (whole !))))) (from ! (stop !))
+        (init ! 36 refl (uint-lawful 𝓤 H A W w64 .typed (r .count) _ (LL.owed J.the-type J′.the-laws r _ is .1 .1 .1 .0) .0)) $
         assigns ! (of-opd ! (lit ! tt)) (from ! (stop !)) (init ! 34 refl (tt, record { fits = lit< tt })) $
         forget ! 28 refl $ forget ! 30 refl $
-        keep ! (6 ∷ 2 ∷ 10 ∷ 11 ∷ 5 ∷ 0 ∷ 3 ∷ 1 ∷ 8 ∷ 7 ∷ 12 ∷ 13 ∷ 14 ∷ 15 ∷ 16 ∷ 17 ∷ 18 ∷ 19 ∷ 20 ∷ 21 ∷ 22 ∷ 23 ∷ 24 ∷ 25 ∷ 26 ∷ 27 ∷ 28 ∷ 29 ∷ 30 ∷ 31 ∷ 32 ∷ 33 ∷ 34 ∷ 35 ∷ 36 ∷ 37 ∷ 38 ∷ 39 ∷ 40 ∷ 41 ∷ 42 ∷ 43 ∷ 44 ∷ 45 ∷ 46 ∷ 47 ∷ 48 ∷ 49 ∷ 50 ∷ 51 ∷ 52 ∷ 53 ∷ 54 ∷ 55 ∷ 56 ∷ 57 ∷ 58 ∷ 59 ∷ 60 ∷ 61 ∷ []) $
+        keep ! (6 ∷ 2 ∷ 10 ∷ 11 ∷ 5 ∷ 0 ∷ 3 ∷ 1 ∷ 8 ∷ 7 ∷ 12 ∷ 13 ∷ 14 ∷ 15 ∷ 16 ∷ 17 ∷ 18 ∷ 19 ∷ 20 ∷ 21 ∷ 22 ∷ 23 ∷ 24 ∷ 25 ∷ 26 ∷ 27 ∷ 28 ∷ 29 ∷ 30 ∷ 31 ∷ 32 ∷ 33 ∷ 34 ∷ 35 ∷ 36 ∷ 37 ∷ 38
+        ∷ 39 ∷ 40 ∷ 41 ∷ 42 ∷ 43 ∷ 44 ∷ 45 ∷ 46 ∷ 47 ∷ 48 ∷ 49 ∷ 50 ∷ 51 ∷ 52 ∷ 53 ∷ 54 ∷ 55 ∷ 56 ∷ 57 ∷ 58 ∷ 59 ∷ 60 ∷ 61 ∷ []) $
         let st : Started = record { t = t; j = r; start = zs .0; at = at; begun = e; is = subst (Is R₂ r) (LL.tells J.the-type J′.the-laws r (u ∷ []) is) is } in
         from-loop st (start-at st))))))))
 
@@ -610,14 +645,17 @@ module _ {M : Type 1} (𝓤 : URA M) (H : Heap 𝓤) (A : Atoms 𝓤) (W : Given
         let small : length (now s) < 2 ^ 64 = omega (arith, p .0 .1 .0) in
         assigns ! (of-opd ! (load ! (from ! (fld ! refl (stop !))) (look-in ! 56 (sub ! 1 refl (whole !))))) (from ! (stop !)) (init ! 28 refl (tt, record { fits = small })) $
         move ! (2 ∷ 3 ∷ []) $ use2 W (raw (Leaving 𝓤 H A at-mem run .pre to-leaving) ⊛ ‵ OwnS) (goes-leaving small) $ split ! $
-        calls-at ! (fmOf 𝓤 H (W .laws) 𝓣) (Leaving 𝓤 H A at-mem run) known to-leaving (and-then ! (load ! (from ! (stop !)) (look ! 54 refl)) (and-then ! (load ! (from ! (stop !)) (look ! 28 refl)) (no-more !))) (λ u.
-        use1 W (later (some (λ (r : ℕ). ((‵ (flft κ₁ q₁) ⊛ ‵ ftrue) ⊛ ‵ (usize .own r (u ∷ []))) ⊛ raw (ensured 𝓤 H A leaving.ended (leaving.clauses 𝓤 H A at-mem run) (κ₁, tt) (x₁, (length (now s), tt)) tt r)))) (id⊢ 𝓤 _) $ await ! tt $ pick ! (λ r.
+        calls-at ! (fmOf 𝓤 H (W .laws) 𝓣) (Leaving 𝓤 H A at-mem run) known to-leaving (and-then ! (load ! (from ! (stop !)) (look ! 54 refl))
+        (and-then ! (load ! (from ! (stop !)) (look ! 28 refl)) (no-more !))) (λ u.
+        use1 W (later (some (λ (r : ℕ). ((‵ (flft κ₁ q₁) ⊛ ‵ ftrue) ⊛ ‵ (usize .own r (u ∷ [])))
+        ⊛ raw (ensured 𝓤 H A leaving.ended (leaving.clauses 𝓤 H A at-mem run) (κ₁, tt) (x₁, (length (now s), tt)) tt r)))) (id⊢ 𝓤 _) $ await ! tt $ pick ! (λ r.
         split ! $ move ! (1 ∷ []) $ use1 W (raw (fact 𝓤 (r ≡ inside (length (now s)) ys))) (said-leaving r) $ heard ! (r ≡ inside (length (now s)) ys) (λ e. split ! $ move ! (1 ∷ []) $
         -- [the result; the token of spans and true; spans; ten of the others; _23 at 13; …]
         peeks ! usize (Is usize) (shows 𝓤 H A usize) r (u ∷ []) (λ is.
         land ! (from ! (stop !)) (init ! 39 refl (uint-lawful 𝓤 H A W w64 .typed r _ is .0)) $
         rewrite ! 39 (λ (z : Val). ‵ (fat fullShare word l₁₀ 0 z)) (ap only (is .0)) refl $ forget ! 29 refl $ drop ! $ split ! $
-        keep ! (3 ∷ 4 ∷ 0 ∷ 2 ∷ 5 ∷ 6 ∷ 7 ∷ 8 ∷ 9 ∷ 10 ∷ 11 ∷ 12 ∷ 13 ∷ 14 ∷ 15 ∷ 16 ∷ 17 ∷ 18 ∷ 19 ∷ 20 ∷ 21 ∷ 22 ∷ 23 ∷ 24 ∷ 25 ∷ 26 ∷ 27 ∷ 28 ∷ 29 ∷ 30 ∷ 31 ∷ 32 ∷ 33 ∷ 34 ∷ 35 ∷ 36 ∷ 37 ∷ 38 ∷ 39 ∷ 40 ∷ 41 ∷ 42 ∷ 43 ∷ 44 ∷ 45 ∷ 46 ∷ 47 ∷ 48 ∷ 49 ∷ 50 ∷ 51 ∷ 52 ∷ 53 ∷ 54 ∷ 55 ∷ 56 ∷ 57 ∷ 58 ∷ 59 ∷ 60 ∷ []) $
+        keep ! (3 ∷ 4 ∷ 0 ∷ 2 ∷ 5 ∷ 6 ∷ 7 ∷ 8 ∷ 9 ∷ 10 ∷ 11 ∷ 12 ∷ 13 ∷ 14 ∷ 15 ∷ 16 ∷ 17 ∷ 18 ∷ 19 ∷ 20 ∷ 21 ∷ 22 ∷ 23 ∷ 24 ∷ 25 ∷ 26 ∷ 27 ∷ 28 ∷ 29 ∷ 30 ∷ 31 ∷ 32 ∷ 33 ∷ 34 ∷ 35 ∷ 36 ∷ 37
+        ∷ 38 ∷ 39 ∷ 40 ∷ 41 ∷ 42 ∷ 43 ∷ 44 ∷ 45 ∷ 46 ∷ 47 ∷ 48 ∷ 49 ∷ 50 ∷ 51 ∷ 52 ∷ 53 ∷ 54 ∷ 55 ∷ 56 ∷ 57 ∷ 58 ∷ 59 ∷ 60 ∷ []) $
         from-begin r e (is .1)))))
 
   walk : (𝓣 : Tables 𝓤 H) → Triple 𝓤 (𝓣 .C #leaving) (Leaving 𝓤 H A at-mem run) → Triple 𝓤 (𝓣 .C #begin) (Begin 𝓤 H A at-mem run)
@@ -627,9 +665,12 @@ module _ {M : Type 1} (𝓤 : URA M) (H : Heap 𝓤) (A : Atoms 𝓤) (W : Given
       (WpFn 𝓤 H (𝓣 .C) (𝓣 .Λ) code.function (v ∷ v₁ ∷ vint w8 version ∷ vint w64 depth ∷ vint w64 limit ∷ v₂ ∷ v₃ ∷ vptr b₄ o₄ ∷ vptr b₅ o₅ ∷ []) Post)
   walk 𝓣 known known-begin known-count known-put p p₁ p₂ p₃ =
       qed W ((‵ (flft κ q) ⊛ ‵ (flft κ₁ q₁) ⊛ ‵ (flft κ₂ q₂) ⊛ ‵ (flft κ₃ q₃) ⊛ ‵ (flft κ₄ q₄) ⊛ ‵ (flft κ₅ q₅) ⊛ ‵ ftrue)
-      ∷ ‵ (owns (ShrSlice (named 0) κ u8 ∷ ShrSlice (named 1) κ₁ R ∷ u8 ∷ u64 ∷ u64 ∷ ShrSlice (named 2) κ₂ u8 ∷ ShrSlice (named 3) κ₃ u8 ∷ MutRef (named 4) κ₄ R₃ ∷ MutRef (named 5) κ₅ R₄ ∷ []) a vals) ∷ []) ∵
+      ∷ ‵ (owns (ShrSlice (named 0) κ u8 ∷ ShrSlice (named 1) κ₁ R ∷ u8 ∷ u64 ∷ u64 ∷ ShrSlice (named 2) κ₂ u8 ∷ ShrSlice (named 3) κ₃ u8 ∷ MutRef (named 4) κ₄ R₃ ∷ MutRef (named 5) κ₅ R₄
+      ∷ []) a vals) ∷ []) ∵
       enter ! (𝓣 .C) (𝓣 .Λ) code.function (v ∷ v₁ ∷ vint w8 version ∷ vint w64 depth ∷ vint w64 limit ∷ v₂ ∷ v₃ ∷ vptr b₄ o₄ ∷ vptr b₅ o₅ ∷ []) _ $
-      alloc1 ! (λ l₀. alloc1 ! (λ l₁. alloc1 ! (λ l₂. alloc1 ! (λ l₃. alloc1 ! (λ l₄. alloc1 ! (λ l₅. alloc1 ! (λ l₆. alloc1 ! (λ l₇. alloc1 ! (λ l₈. alloc1 ! (λ l₉. alloc1 ! (λ l₁₀. alloc1 ! (λ l₁₁. alloc1 ! (λ l₁₂. alloc1 ! (λ l₁₃. alloc1 ! (λ l₁₄. alloc1 ! (λ l₁₅. alloc1 ! (λ l₁₆. alloc1 ! (λ l₁₇. alloc1 ! (λ l₁₈. alloc1 ! (λ l₁₉. alloc1 ! (λ l₂₀. alloc1 ! (λ l₂₁. alloc1 ! (λ l₂₂. alloc1 ! (λ l₂₃. alloc0 ! $ params1 ! $
+      alloc1 ! (λ l₀. alloc1 ! (λ l₁. alloc1 ! (λ l₂. alloc1 ! (λ l₃. alloc1 ! (λ l₄. alloc1 ! (λ l₅. alloc1 ! (λ l₆. alloc1 ! (λ l₇. alloc1 ! (λ l₈. alloc1 ! (λ l₉. alloc1 ! (λ l₁₀. alloc1 ! (λ
+      l₁₁. alloc1 ! (λ l₁₂. alloc1 ! (λ l₁₃. alloc1 ! (λ l₁₄. alloc1 ! (λ l₁₅. alloc1 ! (λ l₁₆. alloc1 ! (λ l₁₇. alloc1 ! (λ l₁₈. alloc1 ! (λ l₁₉. alloc1 ! (λ l₂₀. alloc1 ! (λ l₂₁. alloc1 ! (λ
+      l₂₂. alloc1 ! (λ l₂₃. alloc0 ! $ params1 ! $
       pass1 ! (init ! 44 refl (shr-slice-lawful 𝓤 H A W (named 0) κ u8 .typed s (v ∷ []) p .0)) $
       pass1 ! (init ! 42 refl (shr-slice-lawful 𝓤 H A W (named 1) κ₁ R .typed x₁ (v₁ ∷ []) p₁ .0)) $
       pass1 ! (init ! 40 refl (tt, record { fits = gv })) $
@@ -639,8 +680,11 @@ module _ {M : Type 1} (𝓤 : URA M) (H : Heap 𝓤) (A : Atoms 𝓤) (W : Given
       pass1 ! (init ! 32 refl (shr-slice-lawful 𝓤 H A W (named 3) κ₃ u8 .typed s₃ (v₃ ∷ []) p₃ .0)) $
       pass1 ! (init ! 30 refl (tt, tt)) $
       pass1 ! (init ! 28 refl (tt, tt)) $ pass0 ! $
-      move ! (49 ∷ []) $ fsplit ! $ move ! (1 ∷ []) $ fsplit ! $ move ! (1 ∷ []) $ fsplit ! $ move ! (1 ∷ []) $ fsplit ! $ move ! (1 ∷ []) $ fsplit ! $ move ! (1 ∷ []) $ fsplit ! $ move ! (1 ∷ []) $ fsplit ! $ move ! (1 ∷ []) $ fsplit ! $ move ! (1 ∷ []) $ fsplit ! $ move ! (58 ∷ []) $ split ! $ move ! (1 ∷ []) $ split ! $ move ! (1 ∷ []) $ split ! $ move ! (1 ∷ []) $ split ! $ move ! (1 ∷ []) $ split ! $ move ! (1 ∷ []) $ split ! $
-      keep ! (6 ∷ 16 ∷ 5 ∷ 15 ∷ 4 ∷ 11 ∷ 3 ∷ 10 ∷ 2 ∷ 9 ∷ 0 ∷ 7 ∷ 17 ∷ 18 ∷ 19 ∷ 20 ∷ 21 ∷ 22 ∷ 23 ∷ 24 ∷ 25 ∷ 26 ∷ 27 ∷ 28 ∷ 29 ∷ 30 ∷ 31 ∷ 32 ∷ 33 ∷ 34 ∷ 35 ∷ 36 ∷ 37 ∷ 38 ∷ 39 ∷ 40 ∷ 41 ∷ 42 ∷ 43 ∷ 44 ∷ 45 ∷ 46 ∷ 47 ∷ 48 ∷ 49 ∷ 50 ∷ 51 ∷ 52 ∷ 53 ∷ 54 ∷ 55 ∷ 56 ∷ 57 ∷ 58 ∷ 59 ∷ 60 ∷ 61 ∷ 62 ∷ 63 ∷ 64 ∷ []) $
+      move ! (49 ∷ []) $ fsplit ! $ move ! (1 ∷ []) $ fsplit ! $ move ! (1 ∷ []) $ fsplit ! $ move ! (1 ∷ []) $ fsplit ! $ move ! (1 ∷ []) $ fsplit ! $ move ! (1 ∷ []) $ fsplit ! $
+      move ! (1 ∷ []) $ fsplit ! $ move ! (1 ∷ []) $ fsplit ! $ move ! (1 ∷ []) $ fsplit ! $ move ! (58 ∷ []) $ split ! $ move ! (1 ∷ []) $ split ! $ move ! (1 ∷ []) $ split ! $ move ! (1 ∷ []) $
+      split ! $ move ! (1 ∷ []) $ split ! $ move ! (1 ∷ []) $ split ! $
+      keep ! (6 ∷ 16 ∷ 5 ∷ 15 ∷ 4 ∷ 11 ∷ 3 ∷ 10 ∷ 2 ∷ 9 ∷ 0 ∷ 7 ∷ 17 ∷ 18 ∷ 19 ∷ 20 ∷ 21 ∷ 22 ∷ 23 ∷ 24 ∷ 25 ∷ 26 ∷ 27 ∷ 28 ∷ 29 ∷ 30 ∷ 31 ∷ 32 ∷ 33 ∷ 34 ∷ 35 ∷ 36 ∷ 37 ∷ 38 ∷ 39 ∷ 40 ∷ 41 ∷ 42
+      ∷ 43 ∷ 44 ∷ 45 ∷ 46 ∷ 47 ∷ 48 ∷ 49 ∷ 50 ∷ 51 ∷ 52 ∷ 53 ∷ 54 ∷ 55 ∷ 56 ∷ 57 ∷ 58 ∷ 59 ∷ 60 ∷ 61 ∷ 62 ∷ 63 ∷ 64 ∷ []) $
       from-start 𝓣 known known-begin known-count known-put p p₁ l₀ l₁ l₂ l₃ l₄ l₅ l₆ l₇ l₈ l₉ l₁₀ l₁₁ l₁₂ l₁₃ l₁₄ l₁₅ l₁₆ l₁₇ l₁₈ l₁₉ l₂₀ l₂₁ l₂₂ l₂₃))))))))))))))))))))))))
 
 module _ {M : Type 1} (𝓤 : URA M) (H : Heap 𝓤) (A : Atoms 𝓤) (W : Given 𝓤 H A) (at-mem : Memory → SProp 𝓤) (run : Routine → Fun 𝓤) (𝓣 : Tables 𝓤 H)
@@ -669,9 +713,11 @@ module _ {M : Type 1} (𝓤 : URA M) (H : Heap 𝓤) (A : Atoms 𝓤) (W : Given
         ),
       ))
       (λ κs qs bounds a g are. via 𝓤 _ (fst∗ 𝓤 _ (emp 𝓤))
-      (walk 𝓤 H A W at-mem run (κs .0) (κs .1 .0) (κs .1 .1 .0) (κs .1 .1 .1 .0) (κs .1 .1 .1 .1 .0) (κs .1 .1 .1 .1 .1 .0) bounds (qs .0) (qs .1 .0) (qs .1 .1 .0) (qs .1 .1 .1 .0) (qs .1 .1 .1 .1 .0) (qs .1 .1 .1 .1 .1 .0)
+      (walk 𝓤 H A W at-mem run (κs .0) (κs .1 .0) (κs .1 .1 .0) (κs .1 .1 .1 .0) (κs .1 .1 .1 .1 .0) (κs .1 .1 .1 .1 .1 .0) bounds (qs .0) (qs .1 .0) (qs .1 .1 .0) (qs .1 .1 .1 .0)
+      (qs .1 .1 .1 .1 .0) (qs .1 .1 .1 .1 .1 .0)
       (a .0) (a .1 .0 .ptr .0) (a .1 .0 .ptr .1) (a .1 .0 .name) (a .1 .0 .now) (a .1 .1 .0) (a .1 .1 .1 .0) (a .1 .1 .1 .1 .0) (are .1 .1 .0 .1) (are .1 .1 .1 .0 .1) (are .1 .1 .1 .1 .0 .1)
-      (a .1 .1 .1 .1 .1 .0) (a .1 .1 .1 .1 .1 .1 .0) (a .1 .1 .1 .1 .1 .1 .1 .0 .ptr .0) (a .1 .1 .1 .1 .1 .1 .1 .0 .ptr .1) (a .1 .1 .1 .1 .1 .1 .1 .0 .name) (a .1 .1 .1 .1 .1 .1 .1 .0 .now) (a .1 .1 .1 .1 .1 .1 .1 .1 .0 .ptr .0) (a .1 .1 .1 .1 .1 .1 .1 .1 .0 .ptr .1) (a .1 .1 .1 .1 .1 .1 .1 .1 .0 .name) (a .1 .1 .1 .1 .1 .1 .1 .1 .0 .now)
+      (a .1 .1 .1 .1 .1 .0) (a .1 .1 .1 .1 .1 .1 .0) (a .1 .1 .1 .1 .1 .1 .1 .0 .ptr .0) (a .1 .1 .1 .1 .1 .1 .1 .0 .ptr .1) (a .1 .1 .1 .1 .1 .1 .1 .0 .name) (a .1 .1 .1 .1 .1 .1 .1 .0 .now)
+      (a .1 .1 .1 .1 .1 .1 .1 .1 .0 .ptr .0) (a .1 .1 .1 .1 .1 .1 .1 .1 .0 .ptr .1) (a .1 .1 .1 .1 .1 .1 .1 .1 .0 .name) (a .1 .1 .1 .1 .1 .1 .1 .1 .0 .now)
       𝓣 known known-begin known-count known-put (are .0) (are .1 .0) (are .1 .1 .1 .1 .1 .0) (are .1 .1 .1 .1 .1 .1 .0)))
 
   all-go : AllGo 𝓤 H A W 6 (thin.signature .params) (thin.ended .kept) stayed
