@@ -28,6 +28,8 @@ use Rattle.collapse.specs.declared.Found.{Found}
 use Rattle.nmtokens.specs.Nmtokens.{collapsed}
 use Rattle.charref.specs.CharRef.{charNumber, anyCharacter, numberAnswer}
 use Rattle.walk_depths.specs.LeastDepth.{leastDepth}
+use Rattle.walk_rehearsal.specs.declared.Span.{Span}
+use Rattle.walk_rehearsal.specs.Rehearsal.{spansCheck, report}
 use Rattle.register.specs.RegisterCalls.{addCall, withdrawCall, countCall}
 use Rattle.table_grammar.specs.TableWritten.{readDeclarations}
 
@@ -157,3 +159,9 @@ leastDepthCall text version limit list pool =
 unfoldable pub readDeclarationsCall : List ℕ → ℕ → List ℕ → List ℕ → Called
 readDeclarationsCall text version list pool =
     guarded (argumentCheck text (versionCheck version)) (list ∷ pool ∷ []) (readDeclarations (ruleOf version) text list pool)
+
+-- document 02, K11: 1 to 9, then 31, else the report of the spans' values
+unfoldable pub rehearseCall : List ℕ → List Span → ℕ → ℕ → ℕ → List ℕ → List ℕ → List ℕ → Called
+rehearseCall text spans version depth limit list pool words =
+    guarded (andThen (walkCheck text version depth limit list pool) (spansCheck (length text) spans)) (words ∷ [])
+    (called 0 (0 ∷ 0 ∷ []) (report (readingOf (ruleOf version) list pool limit) depth text spans ∷ []))

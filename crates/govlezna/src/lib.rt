@@ -4,11 +4,12 @@ use normalize::Wanted;
 use text::Answer;
 use text::simple;
 use utils::Cursor;
+use walk_rehearsal::Span;
 ghost use mathlib.Core.Path.{_≡_};
 ghost use mathlib.Core.List.{[], _∷_};
 ghost use Rattle.text.specs.Call.{called};
 ghost use Rattle.govlezna.specs.Calls.{checkUtf8Call, parseNumberCall, escapeCall, normalizeEolsCall, trimCall, cursorLeft, cdataNextCall, checkTableCall, unescapeCall, normalizeAttributeValueCall, canonicalFormCall, normalizeAttributeValueStrictCall, canonicalFormStrictCall, registerAddCall, registerWithdrawCall, registerCountCall, normalizeNmtokensCall, nextNmtokenCall, c14nAttributeCall, c14nTextCall};
-ghost use Rattle.govlezna.specs.Calls.{leastDepthCall};
+ghost use Rattle.govlezna.specs.Calls.{leastDepthCall, rehearseCall};
 ghost use Rattle.govlezna.specs.declared.CDataNext.{CDataNext};
 ghost use Rattle.utils.specs.Trim.{trimStart, trimEnd, trimSpaces};
 ghost use Rattle.register.specs.RegisterCalls.{lent};
@@ -515,4 +516,42 @@ pub extern "C" fn govlezna_read_declarations(
         table_declarations::read_declarations(text, version, list, pool),
         answer,
     )
+}
+
+// How the values of a job fare (K11): a thin function over the lent spans, the turns of which are `walk_rehearsal::count_value`. Success:
+// nothing but the report.
+#[no_mangle]
+pub extern "C" fn govlezna_rehearse(
+    text: &[u8],
+    spans: &[Span],
+    version: u8,
+    depth: u64,
+    limit: u64,
+    list: &[u8],
+    pool: &[u8],
+    report: &mut [u64; 29],
+    answer: &mut [u64; 2],
+) -> u32
+    ensures { λ r. ⌜ called r (now (answer .exit)) (now (report .exit) ∷ []) ≡ rehearseCall (now (text .entry)) (now (spans .entry)) version depth limit (now (list .entry)) (now (pool .entry)) (now (report .entry)) ⌝ }
+{
+    let staying = walk_rehearsal::leaving(spans, text.len());
+    let job = walk_rehearsal::begin(
+        report,
+        text,
+        version,
+        depth,
+        limit,
+        list,
+        pool,
+        spans.len(),
+        staying,
+    );
+    let count = job.count;
+    let mut i: usize = 0;
+    while i < count {
+        let s = spans[i];
+        walk_rehearsal::count_value(report, text, s, job, list, pool);
+        i += 1;
+    }
+    walk_rehearsal::put_job(answer, job)
 }

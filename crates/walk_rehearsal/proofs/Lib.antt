@@ -1,0 +1,6 @@
+pub mod Spans
+pub mod WalkNumbers
+pub mod Verdicts
+pub mod Reports
+pub mod Turning
+pub mod Examples

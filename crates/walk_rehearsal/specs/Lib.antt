@@ -1,0 +1,3 @@
+pub mod Rehearsal
+pub mod Counts
+pub mod Turns
