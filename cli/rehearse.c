@@ -175,31 +175,42 @@ static uint32_t call(const struct request *q, size_t from, size_t count, uint64_
                              q->list_length, q->pool, q->pool_length, report, answer);
 }
 
-/* The first span that leaves the text, or 0: it is handed over first, so that no value is read in vain. */
-static size_t first_to_call(const struct request *q)
+/* The first span that leaves the text, or their number. */
+static size_t first_outside(const struct request *q)
 {
-    for (size_t i = 0; i < q->span_count; i++)
-        if (q->spans[i].start > q->text_length || q->spans[i].length > q->text_length - q->spans[i].start)
-            return i;
-    return 0;
+    size_t i = 0;
+    while (i < q->span_count && q->spans[i].start <= q->text_length && q->spans[i].length <= q->text_length - q->spans[i].start)
+        i++;
+    return i;
 }
 
-uint32_t rehearse(const struct request *q, struct outcome *o)
+/* One window after the other, from the first span on. */
+static uint32_t rehearse_all(const struct request *q, struct outcome *o)
 {
     struct progress progress = begin_progress(q->span_count);
-    size_t done = first_to_call(q);
+    size_t done = 0;
     do {
         uint64_t report[REPORT];
         size_t left = q->span_count - done, count = left < progress.window ? left : progress.window;
         o->number = call(q, done, count, report, o->answer);
-        if (o->number == GOVLEZNA_SPAN_OUTSIDE)
-            o->answer[0] += done;
         for (size_t i = 0; i < REPORT && o->number == 0; i++)
             o->report[i] += report[i];
         done += count;
         tell_progress(&progress, done);
     } while (o->number == 0 && done < q->span_count);
     end_progress(&progress);
+    return o->number;
+}
+
+/* A span that leaves the text is handed over alone, so that no value is read in vain: the library refuses it, or what comes before. */
+uint32_t rehearse(const struct request *q, struct outcome *o)
+{
+    size_t outside = first_outside(q);
+    if (outside == q->span_count)
+        return rehearse_all(q, o);
+    o->number = call(q, outside, 1, o->report, o->answer);
+    if (o->number == GOVLEZNA_SPAN_OUTSIDE)
+        o->answer[0] = outside;
     return o->number;
 }
 

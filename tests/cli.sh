@@ -716,7 +716,7 @@ rehearsals() {
     yes '' | head -c 16777217 >"$room/job"
     refuses 1 'over 16,777,216 bytes' rehearse "$room/job" --lines
     head -c 16777216 "$room/job" >"$room/most"
-    reports 16777216 '' 16777216 0 "$room/most" --lines
+    gives $'16777216  accepted\n16777216  values\n       0  bytes of the accepted ones, normalized\n' rehearse "$room/most" --lines
     progress
 }
 
