@@ -2,6 +2,7 @@
 
 pub mod answer;
 pub mod external;
+pub mod job;
 pub mod marked;
 pub mod memory;
 pub mod new_table;
@@ -21,6 +22,8 @@ use crate::call::{Faults, Parameter};
 pub fn of(parameter: Parameter) -> Faults {
     match parameter {
         Parameter::Text => text::TEXT,
+        Parameter::Spans => job::SPANS,
+        Parameter::Report => job::REPORT,
         Parameter::Choice => output::CHOICE,
         Parameter::Table => table::TABLE,
         Parameter::NewTable => new_table::NEW_TABLE,
