@@ -96,7 +96,7 @@ fn spans_of(bytes: &[u8]) -> (Vec<Span>, &[u8]) {
         length: size_of(pair[1]),
     };
     let mut spans: Vec<Span> = pairs.chunks_exact(2).map(span).collect();
-    // Sixteen times, or more than there may be.
+    // Up to sixteen times over, or more than there may be.
     spans = spans.repeat(1 + usize::from(count / 16 % 16));
     if count == 255 && !spans.is_empty() {
         spans = spans.repeat(MOST_SPANS / spans.len() + 1);
