@@ -13,6 +13,7 @@ static const char *const calls[] = {
     "unescape",
     "normalize_attribute_value",
     "least_depth",
+    "rehearse",
     "canonical_form",
     "normalize_attribute_value_strict",
     "canonical_form_strict",
@@ -42,6 +43,7 @@ void put_about(void)
          "  a text, or a form of a register, of 16,777,216 bytes\n"
          "  an entity table of 49,154 bytes of list and 1,048,576 of pool; a name of 255 bytes and a text of 65,535\n"
          "  entities nested 128 deep; 1,000,000 of them opened\n"
+         "  65,536 spans of a text\n"
          "  a count of 4,294,967,295 in a register\n"
          "  96 KiB of stack for a call, and no memory beyond");
 }

@@ -120,6 +120,7 @@ uint32_t make_call(const struct request *q, struct outcome *o)
     case CHECK: return o->number = check(q, o->answer);
     case USED: return o->number = read_only(q, o->answer);
     case LEAST_DEPTH: return o->number = least_depth(q, o->answer);
+    case REHEARSE: return rehearse(q, o);
     default: return write_result(q, o);
     }
 }

@@ -10,8 +10,9 @@
 #define LIST_MOST ((size_t)49154)
 #define POOL_MOST ((size_t)1048576)
 #define DEEPEST ((uint64_t)128)
+#define REPORT 29 /* words of a rehearsal's report */
 
-enum command { ESCAPE, UNESCAPE, NORMALIZE, CANONICAL, NMTOKENS, EOLS, TRIM, CDATA, CHECK, USED, C14N, DECLARATIONS, REGISTER, LEAST_DEPTH };
+enum command { ESCAPE, UNESCAPE, NORMALIZE, CANONICAL, NMTOKENS, EOLS, TRIM, CDATA, CHECK, USED, C14N, DECLARATIONS, REGISTER, LEAST_DEPTH, REHEARSE };
 enum side { BOTH, START, END };
 enum node { NEITHER, ATTRIBUTE, TEXT };
 enum action { ADD, WITHDRAW, COUNT, LIST };
@@ -34,7 +35,7 @@ struct arguments {
     const char *operand, *text, *file, *list, *pool; /* the operand is the text, or - */
     struct entity *entities;
     size_t entity_count;
-    const char *declarations; /* the file; NULL: none */
+    const char *declarations, *spans; /* the files; NULL: none */
     int marked, strict;
     uint8_t level, version;
     uint64_t depth, limit;
@@ -50,8 +51,10 @@ struct arguments {
 /* One call to make: the arguments with their text and table read. The buffers are owned. */
 struct request {
     const struct arguments *arguments;
-    uint8_t *text, *declarations, *list, *pool;
-    size_t text_length, declarations_length, list_length, pool_length;
+    uint8_t *text, *declarations, *list, *pool, *spans_text;
+    size_t text_length, declarations_length, list_length, pool_length, spans_text_length;
+    struct govlezna_span *spans; /* of rehearse, and the file that they are from, if it is one */
+    size_t span_count;
 };
 
 /* The library's answer. The bytes are the result, owned; of check, trim and cdata there are none. */
@@ -59,6 +62,7 @@ struct outcome {
     uint32_t number;
     uint64_t answer[2];
     uint8_t *bytes;
+    uint64_t report[REPORT]; /* of rehearse: all calls added up */
     int declarations; /* on the declarations, not on the text */
 };
 
@@ -66,7 +70,7 @@ struct outcome {
 struct place {
     int known;
     struct span text;      /* the text that was being read */
-    const char *file;      /* the file of declarations that it is; NULL: the text given, or of an entity */
+    const char *file;      /* the file of declarations or of spans that it is; NULL: the text given, or of an entity */
     struct span entity;    /* the name that it is the text of; no bytes: the text given */
     size_t start, end;
     size_t opened;         /* where in the text given the reference stands that leads there */
@@ -124,6 +128,8 @@ void read_arguments(int argc, char **argv, struct arguments *arguments);
 void fail(const char *what, const char *why);
 void flush_output(void);
 void *allocate(size_t length);
+/* The bytes of a file of at most so many bytes, or one byte more than that; - is standard input. */
+uint8_t *read_input(const char *path, size_t most, size_t *length);
 /* Where the commands of a list that is not empty begin: after its mark, if it has one. */
 const uint8_t *first_command(const struct request *request);
 /* How many bytes the command 1 or 2 of a list takes up. */
@@ -142,6 +148,15 @@ const char *declarations_name(const struct request *request);
 struct place declarations_place(const struct request *request, const struct outcome *outcome);
 /* The definition at the command of a table of declarations, and the command after it; 0 if there is none. */
 int next_definition(const struct request *request, const uint8_t **command, struct definition *definition);
+
+/* rehearse.c. The spans of the file, or of the text's lines; the library's answer, whose index is that of all spans. */
+void read_spans(struct request *request);
+const char *spans_name(const struct request *request);
+uint32_t rehearse(const struct request *request, struct outcome *outcome);
+/* The line of the span that leaves the text, in the file of spans. */
+struct place span_place(const struct request *request, const struct outcome *outcome);
+void put_report(const struct request *request, const struct outcome *outcome);
+void json_report(const struct request *request, const struct outcome *outcome);
 
 /* pieces.c */
 uint32_t next_piece(const struct request *request, struct govlezna_cursor *cursor, uint64_t answer[2]);

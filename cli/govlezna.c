@@ -77,6 +77,7 @@ static void put_success(const struct request *q, const struct outcome *o)
     case USED: return;
     case LEAST_DEPTH: printf("%" PRIu64 "\n", o->answer[0]); return;
     case DECLARATIONS: put_definitions(q); return;
+    case REHEARSE: put_report(q, o); return;
     case CDATA: put_sections(q); break;
     case TRIM: put(q->text + o->answer[0], o->answer[1]); break;
     default: put(o->bytes, o->answer[0]); break;

@@ -60,8 +60,7 @@ static uint8_t *read_file(const char *path, size_t most, size_t *length)
     return bytes;
 }
 
-/* The bytes of a file of at most so many bytes; - is standard input. */
-static uint8_t *read_input(const char *path, size_t most, size_t *length)
+uint8_t *read_input(const char *path, size_t most, size_t *length)
 {
     if (strcmp(path, "-") == 0)
         return read_stream(stdin, "standard input", most, length);
@@ -159,6 +158,8 @@ void read_request(const struct arguments *a, struct request *request)
         build_table(a, request);
     }
     read_text(a, request);
+    if (a->command == REHEARSE)
+        read_spans(request);
 }
 
 void free_request(struct request *request)
@@ -167,4 +168,6 @@ void free_request(struct request *request)
     free(request->declarations);
     free(request->list);
     free(request->pool);
+    free(request->spans_text);
+    free(request->spans);
 }

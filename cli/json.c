@@ -118,6 +118,8 @@ void json_success(const struct request *q, const struct outcome *o)
         json_number("list", o->answer[0]);
         json_number("pool", o->answer[1]);
         put_definitions(q);
+    } else if (command == REHEARSE) {
+        json_report(q, o);
     } else {
         json_number("length", o->answer[0]);
         if (command == NORMALIZE || command == CANONICAL || command == NMTOKENS)
@@ -182,6 +184,8 @@ void json_refusal(const struct request *q, const struct outcome *o)
     }
     if (o->number == GOVLEZNA_TOO_DEEP)
         put_depth(q);
+    if (o->number == GOVLEZNA_SPAN_OUTSIDE)
+        json_number("length", q->text_length);
     put_names(q, o);
     puts("}");
 }

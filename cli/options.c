@@ -6,7 +6,7 @@
 #include <string.h>
 
 static const char *const commands[] = { "escape", "unescape", "normalize", "canonical",    "nmtokens", "eols",  "trim",
-                                        "cdata",  "check",    "used",      "c14n",         "declarations", "register", "depth" };
+                                        "cdata",  "check",    "used",      "c14n",         "declarations", "register", "depth", "rehearse" };
 static const char *const actions[] = { "add", "withdraw", "count", "list" };
 
 #define COMMANDS (sizeof commands / sizeof commands[0])
@@ -14,14 +14,14 @@ static const char *const actions[] = { "add", "withdraw", "count", "list" };
 #define ROOM_IF_NOT_GIVEN ((size_t)1048576)
 
 enum option {
-    LEVEL, VERSION, DEPTH, LIMIT, STRICT, ENTITY, EXTERNAL, MARKED, TABLE, DECLARED, LINES, WITH_NULL, AT_START, AT_END, AS_ATTRIBUTE,
+    LEVEL, VERSION, DEPTH, LIMIT, STRICT, ENTITY, EXTERNAL, MARKED, TABLE, DECLARED, SPANS, LINES, WITH_NULL, AT_START, AT_END, AS_ATTRIBUTE,
     AS_TEXT, ROOM, OF_CANONICAL, TAKE_EMPTY, FROM_FILE, CHOMP, JSON, OPTIONS
 };
 
 #define ON(command) (1u << (command))
 #define ALL (ON(COMMANDS) - 1)
 /* Those that read an attribute value, and those that have a table. */
-#define VALUES (ON(NORMALIZE) | ON(CANONICAL) | ON(NMTOKENS) | ON(USED) | ON(LEAST_DEPTH))
+#define VALUES (ON(NORMALIZE) | ON(CANONICAL) | ON(NMTOKENS) | ON(USED) | ON(LEAST_DEPTH) | ON(REHEARSE))
 #define TABLES (VALUES | ON(UNESCAPE) | ON(CHECK))
 /* What register takes with --canonical alone. */
 #define OF_VALUES (ON(VERSION) | ON(DEPTH) | ON(LIMIT) | ON(STRICT) | ON(ENTITY) | ON(EXTERNAL) | ON(MARKED) | ON(TABLE) | \
@@ -43,7 +43,8 @@ static const struct {
     { "--marked", 0, TABLES | ON(REGISTER) },
     { "--table", 2, TABLES | ON(REGISTER) },
     { "--declarations", 1, TABLES | ON(REGISTER) },
-    { "--lines", 0, ON(NMTOKENS) },
+    { "--spans", 1, ON(REHEARSE) },
+    { "--lines", 0, ON(NMTOKENS) | ON(REHEARSE) },
     { "--null", 0, ON(NMTOKENS) | ON(REGISTER) },
     { "--start", 0, ON(TRIM) },
     { "--end", 0, ON(TRIM) },
@@ -52,8 +53,8 @@ static const struct {
     { "--room", 1, ON(REGISTER) },
     { "--canonical", 0, ON(REGISTER) },
     { "--empty", 0, ON(REGISTER) },
-    { "--file", 1, ALL & ~ON(DECLARATIONS) },
-    { "--chomp", 0, ALL & ~ON(DECLARATIONS) },
+    { "--file", 1, ALL & ~(ON(DECLARATIONS) | ON(REHEARSE)) },
+    { "--chomp", 0, ALL & ~(ON(DECLARATIONS) | ON(REHEARSE)) },
     { "--json", 0, ALL },
 };
 
@@ -111,6 +112,7 @@ static const char *expected(enum option option)
     case EXTERNAL: return "NAME";
     case TABLE: return "two files, LIST and POOL";
     case DECLARED: return "a file of declarations";
+    case SPANS: return "a file of lines START LENGTH";
     case ROOM: return "a number of bytes";
     default: return "PATH";
     }
@@ -190,6 +192,7 @@ static void set_option(struct arguments *a, enum option option, char **values)
     case MARKED: a->marked = 1; break;
     case TABLE: a->list = values[0], a->pool = values[1]; break;
     case DECLARED: a->declarations = values[0]; break;
+    case SPANS: a->spans = values[0]; break;
     case LINES: a->lines = 1; break;
     case WITH_NULL: a->null = 1; break;
     case AT_START: a->side = START; break;
@@ -246,26 +249,47 @@ static void take_operand(struct arguments *a, const char *word, int options_end)
         a->text = word;
 }
 
-/* The word of declarations: its file. */
+/* The word of declarations, or of rehearse: its file. */
 static int take_file(struct arguments *a, const char *word)
 {
-    if (a->command != DECLARATIONS)
+    const char **file = a->command == DECLARATIONS ? &a->declarations : &a->file;
+    if (a->command != DECLARATIONS && a->command != REHEARSE)
         return 0;
-    if (a->declarations != NULL)
+    if (*file != NULL)
         bad_usage(word, "a second file");
-    a->declarations = word;
+    *file = word;
     return 1;
+}
+
+static int is_input(const char *path)
+{
+    return path != NULL && strcmp(path, "-") == 0;
+}
+
+static int text_from_input(const struct arguments *a)
+{
+    return a->text == NULL && (a->file == NULL || is_input(a->file));
+}
+
+/* The values are spans or lines. */
+static void check_rehearsal(const struct arguments *a)
+{
+    if ((a->spans != NULL) == a->lines)
+        bad_usage(a->lines ? "--spans" : "rehearse", a->lines ? "--lines is given too" : "expected --spans FILE or --lines");
+    if (is_input(a->spans) && text_from_input(a))
+        bad_usage("--spans", "standard input is the text");
+    if (is_input(a->spans) && is_input(a->declarations))
+        bad_usage("--spans", "standard input is the declarations");
 }
 
 /* A file of declarations is the whole table. */
 static void check_declarations(const struct arguments *a, unsigned seen)
 {
     static const enum option others[] = { ENTITY, EXTERNAL, MARKED, TABLE };
-    int text_from_input = a->text == NULL && (a->file == NULL || strcmp(a->file, "-") == 0);
     for (size_t i = 0; i < sizeof others / sizeof others[0]; i++)
         if (seen & ON(others[i]))
             bad_usage("--declarations", "--entity, --external, --marked or --table is given too");
-    if (seen & ON(DECLARED) && strcmp(a->declarations, "-") == 0 && text_from_input)
+    if (seen & ON(DECLARED) && is_input(a->declarations) && text_from_input(a))
         bad_usage("--declarations", "standard input is the text");
 }
 
@@ -283,7 +307,7 @@ static void check_together(const struct arguments *a, unsigned seen)
         check_declarations(a, seen);
     else if (seen & ON(VERSION) && (a->command == UNESCAPE || a->command == CHECK))
         bad_usage("--version", "not an option of this command without --declarations");
-    if ((a->lines || a->null) && a->json)
+    if ((a->lines || a->null) && a->json && a->command != REHEARSE)
         bad_usage(a->lines ? "--lines" : "--null", "--json is given too, which has the tokens or entries");
     if (a->null && a->command == REGISTER && a->action != LIST)
         bad_usage("--null", "only list takes it");
@@ -295,6 +319,8 @@ static void check_together(const struct arguments *a, unsigned seen)
         bad_usage("c14n", "expected --attribute or --text");
     if (a->command == REGISTER)
         check_register(a, seen);
+    if (a->command == REHEARSE)
+        check_rehearsal(a);
 }
 
 /* Takes the option at argv[at] with its values; the place after them. */

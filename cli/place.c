@@ -385,6 +385,8 @@ struct place find_place(const struct request *q, const struct outcome *o)
     struct trail trail = { .count = 0 };
     if (o->declarations)
         return declarations_place(q, o);
+    if (o->number == GOVLEZNA_SPAN_OUTSIDE)
+        return span_place(q, o);
     if (o->number == GOVLEZNA_NOT_UTF8)
         return (struct place){ .known = 1,
                                .text = { q->text, q->text_length },

@@ -251,4 +251,6 @@ void report_refusal(const struct request *q, const struct outcome *o)
         fputc('\n', stderr);
     if (o->number == GOVLEZNA_TOO_DEEP)
         show_depth(q);
+    if (o->number == GOVLEZNA_SPAN_OUTSIDE)
+        fprintf(stderr, "govlezna: the text has %zu bytes\n", q->text_length);
 }

@@ -36,6 +36,7 @@ static const struct {
     { GOVLEZNA_DAMAGED_REGISTER, "the register is damaged" },
     { GOVLEZNA_ABSENT_FORM, "the form is not in the register" },
     { GOVLEZNA_REGISTER_FULL, "the register is full: no room for the form, or its count is 4,294,967,295 already" },
+    { GOVLEZNA_SPAN_OUTSIDE, "more than 65,536 spans, or one that leaves the text" },
     { GOVLEZNA_NO_DEPTH, "no depth up to 128 is enough" },
     { GOVLEZNA_NO_MORE, "there is no further piece" },
 };

@@ -15,9 +15,11 @@
  * - `text`, `list` and `pool` point to as many readable bytes as their length says, of any value; `out` and `scratch`, and
  *   `list` and `pool` of govlezna_read_declarations, to as many writable bytes. NULL is allowed where the length is 0; but a
  *   list of no bytes is refused: "no table" is the list { 0 } of length 1.
- * - `answer` points to two writable words, `cursor` to a cursor, `offset` to a word; `form` and `buffer` of a register are as
- *   `text` and `out` (for govlezna_register_count both are read alone), `used` points to a writable word.
- * - `answer`, `cursor`, `offset` and `used` are aligned as C aligns their types, to 8 bytes. Bytes may lie anywhere.
+ * - `answer` points to two writable words, `report` to 29, `cursor` to a cursor, `offset` to a word, `spans` to as many
+ *   readable spans as their count says; `form` and `buffer` of a register are as `text` and `out` (for
+ *   govlezna_register_count both are read alone), `used` points to a writable word.
+ * - `answer`, `report`, `cursor`, `spans`, `offset` and `used` are aligned as C aligns their types, to 8 bytes. Bytes may
+ *   lie anywhere.
  * - What a call may write overlaps nothing else that it is lent.
  * Nothing is kept after a call, and no call allocates: calls on different buffers may run at the same time.
  * A call takes at most 96 KiB of stack: about 550 bytes for each level of depth, and 17 KB for an index of the table's names
@@ -88,6 +90,8 @@ extern "C" {
 #define GOVLEZNA_DAMAGED_REGISTER 28    /* the used bytes are no register */
 #define GOVLEZNA_ABSENT_FORM 29         /* the form to withdraw is not in the register */
 #define GOVLEZNA_REGISTER_FULL 30       /* no room for a new form, or its count is 4,294,967,295 already */
+#define GOVLEZNA_SPAN_OUTSIDE 31        /* more than 65,536 spans: first is 65,536; else one leaves the text: first is its
+                                           index, from 0 */
 #define GOVLEZNA_NO_DEPTH 32            /* no depth up to 128 is enough */
 
 /* No refusal: there is no further piece or token. */
@@ -322,6 +326,37 @@ GOVLEZNA_MUST_USE
 uint32_t govlezna_least_depth(const uint8_t *text, size_t text_length, uint8_t version, uint64_t limit,
                               const uint8_t *list, size_t list_length, const uint8_t *pool, size_t pool_length,
                               uint64_t answer[2]);
+
+/* A value of a job: the bytes of the text from `start` on, as many as `length` says. No padding. */
+struct govlezna_span {
+    uint64_t start;
+    uint64_t length;
+};
+
+/*
+ * How the values of a job fare under these settings: each span of the text is read by itself, as by
+ * govlezna_normalize_attribute_value with room for its result, and nothing is written but the report. Spans may overlap, be
+ * empty and come in any order; one that cuts a character is not UTF-8 by itself, and counts under NOT_UTF8.
+ *
+ * `spans`: at most 65,536. `depth`, `limit`: as there, for each value by itself. `list`, `pool`: the table;
+ * for none the list { 0 } of length 1, and NULL with length 0.
+ * Success: report[0] is how many values are accepted, report[n] for each n from 1 to 27 how many are refused by the number
+ * n; together they are as many as there are spans. report[28] is the length of all accepted ones' results together. A value
+ * is refused by NOT_UTF8 or by the walk, so that all other counts are 0.
+ * Refusals, in this order: TOO_LONG; DEPTH_TOO_LARGE; LIMIT_TOO_LARGE; UNKNOWN_BYTE (version over 2); NOT_UTF8; those of
+ * govlezna_check_table: all of them of the whole text, the settings and the table; SPAN_OUTSIDE (more than 65,536 spans;
+ * answer[0]: 65,536; else a span that leaves the text, also where start + length would pass 64 bits; answer[0]: the index
+ * of the first, from 0). None writes to `report`.
+ * Time: text and table are checked once for all spans. Each value then takes what govlezna_normalize_attribute_value with
+ * an output of length 0 takes beyond these checks.
+ * Example: version 0, depth 2, limit 10, the table above, the text `a&e;&b;`: the spans { 0, 4 }, { 4, 3 } and { 7, 0 },
+ * which are `a&e;`, `&b;` and the empty value, give report[0] 2, report[11] 1, report[28] 5, and 0 in all other places.
+ * With { 7, 1 } in the place of the last they are refused by SPAN_OUTSIDE, first 2.
+ */
+GOVLEZNA_MUST_USE
+uint32_t govlezna_rehearse(const uint8_t *text, size_t text_length, const struct govlezna_span *spans, size_t span_count,
+                           uint8_t version, uint64_t depth, uint64_t limit, const uint8_t *list, size_t list_length,
+                           const uint8_t *pool, size_t pool_length, uint64_t report[29], uint64_t answer[2]);
 
 /*
  * The canonical form of an attribute value: the normalized value, written as level 3 of govlezna_escape; in version 2

@@ -661,6 +661,134 @@ sizes() {
     refuses 6 'too long' check a --table "$room/list" "$room/pool"
 }
 
+# reports ACCEPTED REFUSED VALUES BYTES ARGUMENTS..: the table of a rehearsal, in which all words begin in one column, and the same in JSON. REFUSED
+# is each number with its count, as `11=2 16=1`; the numbers have some words.
+reports() {
+    local accepted=$1 refused=$2 values=$3 bytes=$4 table rows= row
+    shift 4
+    table="$accepted  accepted"$'\n'
+    for row in $refused; do
+        table+="${row#*=}  refusal ${row%=*}: words"$'\n'
+        rows+="{\"number\":${row%=*},\"words\":\"words\",\"count\":${row#*=}},"
+    done
+    table+="$values  values"$'\n'"$bytes  bytes of the accepted ones, normalized"
+    run rehearse "$@"
+    [ "$status" -eq 0 ] && [ ! -s "$room/err" ] &&
+        [ "$(sed 's/^ *//; s/\(refusal [0-9]*: \)..*/\1words/' "$room/out")" = "$table" ] &&
+        [ "$(awk '{ match($0, /^ *[0-9]+ */); print RLENGTH }' "$room/out" | sort -u | wc -l)" -eq 1 ]
+    expect $? rehearse "$@"
+    run rehearse --json "$@"
+    [ "$status" -eq 0 ] && [ ! -s "$room/err" ] && [ "$(sed 's/"words":"[^"][^"]*"/"words":"words"/g' "$room/out")" = \
+        "{\"command\":\"rehearse\",\"number\":0,\"values\":$values,\"accepted\":$accepted,\"refused\":[${rows%,}],\"length\":$bytes}" ]
+    expect $? rehearse --json "$@"
+}
+
+rehearsals() {
+    local sail=(--entity e=sail)
+    printf 'a&e;&b;½' >"$room/job"
+    printf '0 4\n4 3\n9 0\n' >"$room/spans"
+    gives $'2  accepted\n1  refusal 11: unknown entity\n3  values\n5  bytes of the accepted ones, normalized\n' \
+        rehearse "$room/job" --spans "$room/spans" "${sail[@]}"
+    reports 2 11=1 3 5 "$room/job" --spans "$room/spans" "${sail[@]}"
+    reports 1 16=2 3 0 "$room/job" --spans "$room/spans" "${sail[@]}" --depth 0
+    reports 1 '11=1 17=1' 3 0 "$room/job" --spans "$room/spans" "${sail[@]}" --limit 0
+    reports 1 '11=1 27=1' 3 0 "$room/job" --spans "$room/spans" --external e
+    # Overlaps, parts of a character, blanks, a last line without an end, CR LF; nothing at all.
+    printf ' 0\t2 \r\n1 3\r\n0 9\n7 1\n8 1\n7 2' >"$room/spans"
+    reports 2 '5=2 10=1 11=1' 6 6 "$room/job" --spans "$room/spans" "${sail[@]}"
+    reports 0 '' 0 0 "$room/job" --spans /dev/null
+    reports 0 '' 0 0 /dev/null --lines
+    # Lines of the text: by LF, CR or both, the last one without.
+    printf 'a\r\n&e;\r\n\n\r&b;\tb' >"$room/job"
+    reports 4 11=1 5 5 "$room/job" --lines "${sail[@]}"
+    input=$room/job
+    reports 4 11=1 5 5 - --lines "${sail[@]}"
+    reports 4 11=1 5 5 --lines "${sail[@]}"
+    input=/dev/null
+    printf '<!ENTITY e "sail">' >"$room/office"
+    reports 4 11=1 5 5 "$room/job" --lines --declarations "$room/office"
+    # More than one call takes.
+    yes 'a&lt;' | head -n 200000 >"$room/job"
+    reports 200000 '' 200000 400000 "$room/job" --lines
+    awk 'BEGIN { for (i = 0; i < 70000; i++) print 6 * i, 3 }' >"$room/spans"
+    reports 0 10=70000 70000 0 "$room/job" --spans "$room/spans"
+    spans_outside
+    yes '' | head -c 16777217 >"$room/job"
+    refuses 1 'over 16,777,216 bytes' rehearse "$room/job" --lines
+    head -c 16777216 "$room/job" >"$room/most"
+    gives $'16777216  accepted\n16777216  values\n       0  bytes of the accepted ones, normalized\n' rehearse "$room/most" --lines
+    progress
+}
+
+# A span that leaves the text, with its line; after what the library asks of text, settings and table.
+spans_outside() {
+    printf '½abc' >"$room/job"
+    printf '0 5\n5 0\n4 2\n9 9\n' >"$room/spans"
+    shows "govlezna: refusal 31: more than 65,536 spans, or one that leaves the text: bytes 8..11 of $room/spans, line 3
+    4 2
+    ^^^
+govlezna: the text has 5 bytes" rehearse "$room/job" --spans "$room/spans"
+    refuses 31 ", line 3" rehearse "$room/job" --spans "$room/spans"
+    grep -q "\"first\":2,\"second\":0,\"file\":\"$room/spans\",\"start\":8,\"end\":11,\"line\":3,\"length\":5}" "$room/out"
+    expect $? the place of refusal 31 in JSON
+    refuses 2 ': --depth 129' rehearse "$room/job" --spans "$room/spans" --depth 129
+    refuses 9 ': --entity number 1' rehearse "$room/job" --spans "$room/spans" --entity =a
+    printf '1 18446744073709551615\n' >"$room/spans"
+    refuses 31 ", line 1" rehearse "$room/job" --spans "$room/spans"
+    input=$room/spans
+    refuses 31 "of standard input, line 1" rehearse "$room/job" --spans -
+    input=/dev/null
+    awk 'BEGIN { for (i = 0; i < 70000; i++) print 0, 2; print 6, 0 }' >"$room/spans"
+    refuses 31 ", line 70001" rehearse "$room/job" --spans "$room/spans"
+    grep -q '"first":70000,' "$room/out"
+    expect $? the index of refusal 31 in JSON
+    printf '\xff' >>"$room/job"
+    refuses 5 ': byte 5 of the text' rehearse "$room/job" --spans "$room/spans"
+    for line in '' ' ' '1' '1 ' '1 2 3' '1 2x' '-1 2' '1 +2' '1,2' '18446744073709551616 0' '0 99999999999999999999'; do
+        printf '0 0\n%s\n' "$line" >"$room/spans"
+        misused "govlezna: $room/spans: line 2: expected START LENGTH" rehearse "$room/job" --spans "$room/spans"
+    done
+    misused '/dev/zero: over 268,435,456 bytes' rehearse "$room/job" --spans /dev/zero
+}
+
+# On a terminal, and from the second second on: forty texts of 65,535 CRs in turn, more than the library keeps, until that takes long enough.
+# Python has the terminal; without it nothing is asked.
+progress() {
+    local i lines=100
+    command -v python3 >/dev/null || return
+    for i in {0..39}; do printf "\\1\\$(printf %o "$i")\\0\\0\\0\\1\\50\\0\\0\\0\\377\\377"; done >"$room/list"
+    printf '\0' >>"$room/list"
+    { printf %s {a..z} {A..N}; printf '%065535d' 0 | tr 0 '\r'; } >"$room/pool"
+    cat >"$room/terminal.py" <<'END'
+import os, pty, subprocess, sys, time
+master, slave = pty.openpty()
+start = time.monotonic()
+child = subprocess.Popen(sys.argv[1:], stdin=subprocess.DEVNULL, stdout=subprocess.PIPE, stderr=slave)
+os.close(slave)
+shown = b''
+try:
+    while part := os.read(master, 4096):
+        shown += part
+except OSError:
+    pass
+child.stdout.read()
+took = time.monotonic() - start
+print(child.wait(), f'{took:.1f}', shown.replace(b'\r\n', b'\n').replace(b'\r', b'|').decode().strip())
+END
+    while :; do
+        yes "$(printf '&%s;' {a..z} {A..N})" | head -n "$lines" >"$room/job"
+        python3 "$room/terminal.py" "$program" rehearse "$room/job" --lines --table "$room/list" "$room/pool" >"$room/out"
+        [[ $(cat "$room/out") == '0 '[01].* && $lines -lt 100000 ]] || break
+        lines=$((2 * lines))
+    done
+    status=0 cases=$((cases + 1))
+    grep -qE "^0 [0-9.]+ (\|govlezna: [0-9]+ of $lines values)*\|govlezna: $lines of $lines values$" "$room/out"
+    expect $? rehearse with progress
+    python3 "$room/terminal.py" "$program" rehearse /dev/null --lines >"$room/out"
+    grep -qE '^0 [0-9.]+ $' "$room/out"
+    expect $? rehearse without progress
+}
+
 # The library gets windows of the text, the first of 64 bytes and each twice as long (cli/pieces.c); the pieces are those of
 # the whole text. Cuts and characters at the ends of the first windows; then nothing but cuts, which take about a second.
 sections() {
@@ -773,6 +901,18 @@ usage() {
     misused 'a second file' declarations b c
     misused "$room/none: No such file" declarations "$room/none"
     misused "$room/none: No such file" check a --declarations "$room/none"
+    misused 'expected --spans FILE or --lines' rehearse b
+    misused '--lines is given too' rehearse b --spans c --lines
+    misused 'a second file' rehearse b c --lines
+    misused 'its value is missing, expected a file of lines START LENGTH' rehearse b --spans
+    misused 'standard input is the text' rehearse --spans -
+    misused 'standard input is the declarations' rehearse b --spans - --declarations -
+    misused 'not an option of this command' rehearse b --lines --strict
+    misused 'not an option of this command' rehearse b --lines --chomp
+    misused 'not an option of this command' rehearse --file b --lines
+    misused 'not an option of this command' depth b --spans c
+    misused "$room/none: No such file" rehearse "$room/none" --lines
+    misused "$room/none: No such file" rehearse "$room/text" --spans "$room/none"
     misused '--end is given too' trim a --start --end
     misused 'takes no value' trim a --start=2
     run --help
@@ -794,6 +934,7 @@ declarations
 sizes
 sections
 tokens
+rehearsals
 usage
 echo "$cases runs, $wrong wrong"
 [ "$wrong" -eq 0 ]

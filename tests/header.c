@@ -94,6 +94,44 @@ static void least_depths(void)
     expect(__LINE__, least_depth("&e;", 0, 4, "esai"), GOVLEZNA_OUTSIDE_POOL, 0, 0);
 }
 
+/* The text `a&e;&b;` with these spans, and a report that held other numbers. */
+static uint32_t rehearse(const struct govlezna_span *spans, size_t count, uint64_t limit, uint64_t report[29])
+{
+    for (size_t i = 0; i < 29; i++)
+        report[i] = UNTOUCHED;
+    return govlezna_rehearse(bytes("a&e;&b;"), 7, spans, count, 0, 2, limit, list, sizeof list, pool, sizeof pool, report, answer);
+}
+
+/* All 29 words: these three numbers, and the other one in all other places. */
+static void expect_report(int line, const uint64_t report[29], uint64_t accepted, uint64_t unknown, uint64_t total, uint64_t other)
+{
+    for (size_t i = 0; i < 29; i++)
+        if (report[i] != (i == 0 ? accepted : i == GOVLEZNA_UNRECOGNIZED_ENTITY ? unknown : i == 28 ? total : other)) {
+            wrong = 1;
+            printf("line %d: report[%zu] is %llu\n", line, i, (unsigned long long)report[i]);
+        }
+}
+
+static void rehearsals(void)
+{
+    static const struct govlezna_span job[] = { { 0, 4 }, { 4, 3 }, { 7, 0 } }, outside[] = { { 0, 4 }, { 4, 3 }, { 7, 1 } };
+    static const struct govlezna_span wrapped[] = { { 1, UINT64_MAX }, { 8, 0 } };
+    static struct govlezna_span many[65537];
+    uint64_t report[29];
+    expect(__LINE__, rehearse(job, 3, 10, report), 0, 0, 0);
+    expect_report(__LINE__, report, 2, 1, 5, 0);
+    expect(__LINE__, rehearse(NULL, 0, 10, report), 0, 0, 0);
+    expect_report(__LINE__, report, 0, 0, 0, 0);
+    expect(__LINE__, rehearse(many, 65536, 10, report), 0, 0, 0);
+    expect_report(__LINE__, report, 65536, 0, 0, 0);
+    expect(__LINE__, rehearse(outside, 3, 10, report), GOVLEZNA_SPAN_OUTSIDE, 2, 0);
+    expect(__LINE__, rehearse(wrapped, 2, 10, report), GOVLEZNA_SPAN_OUTSIDE, 0, 0);
+    many[0].start = 8;
+    expect(__LINE__, rehearse(many, 65537, 10, report), GOVLEZNA_SPAN_OUTSIDE, 65536, 0);
+    expect(__LINE__, rehearse(outside, 3, 1000001, report), GOVLEZNA_LIMIT_TOO_LARGE, 0, 0);
+    expect_report(__LINE__, report, UNTOUCHED, UNTOUCHED, UNTOUCHED, UNTOUCHED);
+}
+
 static void marked_lists(void)
 {
     expect(__LINE__, govlezna_check_table(marked, sizeof marked, pool, sizeof pool, answer), 0, 1, 0);
@@ -266,6 +304,7 @@ static void examples(void)
     expect(__LINE__, govlezna_check_table(external, sizeof external, pool, sizeof pool, answer), 0, 1, 0);
     expect(__LINE__, normalize(2, 10, external, sizeof external), GOVLEZNA_EXTERNAL_ENTITY, 0, 0);
     least_depths();
+    rehearsals();
     marked_lists();
     declarations();
     canonical_xml();
@@ -314,6 +353,7 @@ static void two_lengths(void)
 
 static void no_table(void)
 {
+    uint64_t report[29];
     expect(__LINE__, govlezna_check_table(empty, 1, NULL, 0, answer), 0, 0, 0);
     expect(__LINE__, govlezna_check_table(NULL, 0, NULL, 0, answer), GOVLEZNA_MALFORMED_LIST, 0, 0);
     expect(__LINE__, unescape("&lt;", empty, 1, NULL, 0), 0, 1, 0);
@@ -325,6 +365,8 @@ static void no_table(void)
                                    answer),
            0, 1, 0);
     expect(__LINE__, govlezna_least_depth(bytes("a\t"), 2, 0, 1, empty, 1, NULL, 0, answer), 0, 1, 0);
+    expect(__LINE__, govlezna_rehearse(NULL, 0, NULL, 0, 0, 1, 1, empty, 1, NULL, 0, report, answer), 0, 0, 0);
+    expect(__LINE__, govlezna_rehearse(NULL, 0, NULL, 0, 0, 1, 1, NULL, 0, NULL, 0, report, answer), GOVLEZNA_MALFORMED_LIST, 0, 0);
 }
 
 /* Start and end of each window, the piece's length, and whether the cursor is finished. */

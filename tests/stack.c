@@ -124,6 +124,20 @@ static uint32_t least_depth(const struct job *job, uint64_t answer[2])
     return number == GOVLEZNA_NO_DEPTH ? GOVLEZNA_TOO_DEEP : number; /* as the calls that are handed the depth */
 }
 
+/* The value twice; both have to fare alike. */
+static uint32_t rehearse(const struct job *job, uint64_t answer[2])
+{
+    const struct govlezna_span spans[] = { { 0, job->length }, { 0, job->length } };
+    uint64_t report[29];
+    uint32_t number = govlezna_rehearse(text + LONG - job->length, job->length, spans, 2, job->version, DEPTH, 1000000, job->chain.list,
+                                        sizeof job->chain.list, job->chain.pool, job->chain.pool_length, report, answer);
+    if (number != 0)
+        return UINT32_MAX;
+    while (number < 28 && report[number] != 2)
+        number++;
+    return number;
+}
+
 /* A register of 300 forms of three digits; the version says which call. */
 static uint32_t register_call(const struct job *job, uint64_t answer[2])
 {
@@ -209,7 +223,7 @@ static size_t measure_versions(uint32_t (*call)(const struct job *, uint64_t *),
 int main(void)
 {
     static uint32_t (*const calls[])(const struct job *, uint64_t *) = { normalize, canonical, normalize_strictly,
-                                                                         canonical_strictly, nmtokens, least_depth };
+                                                                         canonical_strictly, nmtokens, least_depth, rehearse };
     enum { CALLS = sizeof calls / sizeof calls[0] };
     const struct {
         const char *last;

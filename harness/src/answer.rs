@@ -30,6 +30,8 @@ pub struct Answer {
     pub offset: u64,
     /// The register's buffer whole, and its used length.
     pub register: Left,
+    /// The words of a report; none where it is left.
+    pub report: Vec<u64>,
 }
 
 pub fn success(first: u64) -> Answer {
@@ -52,5 +54,6 @@ pub fn refusal(number: u32, first: u64) -> Answer {
         cursor: Cursor::default(),
         offset: 0,
         register: Left::default(),
+        report: vec![],
     }
 }

@@ -1,6 +1,6 @@
 //! What a call is handed, and how the inputs of a comparison are made: one after the other, each taken as it is made.
 
-use crate::lent::Cursor;
+use crate::lent::{Cursor, Span};
 use crate::random::Random;
 use crate::register::Held;
 use crate::table::{Table, EMPTY, LONGEST_POOL};
@@ -9,6 +9,10 @@ use crate::table::{Table, EMPTY, LONGEST_POOL};
 pub const LONGEST_TEXT: usize = 16_777_216;
 pub const DEEPEST: u64 = 128;
 pub const MOST_OPENINGS: u64 = 1_000_000;
+/// Document 02's (K11).
+pub const MOST_SPANS: usize = 65_536;
+/// So many may be lent.
+pub const MOST_SPANS_LENT: usize = MOST_SPANS + 100;
 
 /// Outputs are longer than the result by fewer bytes than this.
 pub const MOST_SPARE: usize = 40;
@@ -34,6 +38,7 @@ pub type Family = fn(&mut Random, &mut Sink);
 pub struct Arguments<'a> {
     pub text: &'a [u8],
     pub place: Place,
+    pub spans: &'a [Span],
     /// The level or the version.
     pub choice: u8,
     pub depth: u64,
@@ -100,6 +105,7 @@ impl<'a> Arguments<'a> {
         Arguments {
             text,
             place,
+            spans: &[],
             choice: 0,
             depth: DEEPEST,
             limit: MOST_OPENINGS,
@@ -112,6 +118,16 @@ impl<'a> Arguments<'a> {
             offset: 0,
             register: Held::default(),
         }
+    }
+
+    /// The bytes of each span; nothing if one leaves the text, where a sum past 64 bits does too.
+    pub fn values(&self) -> Option<Vec<&'a [u8]>> {
+        let value = |span: &Span| {
+            let end = span.start.checked_add(span.length)?;
+            self.text
+                .get(usize::try_from(span.start).ok()?..usize::try_from(end).ok()?)
+        };
+        self.spans.iter().map(value).collect()
     }
 
     pub fn of_table(table: Table<'a>) -> Self {

@@ -15,9 +15,9 @@ pub fn run(calls: &[&Call], part: &str) {
     let mut differences: Vec<Difference> = differences.collect();
     let mut copy = copy_alone();
     // Rows take turns too: a slow while of the machine takes some rounds of each, not all of one.
-    for _ in 0..ROUNDS {
-        rows.iter_mut().for_each(Row::measure);
-        differences.iter_mut().for_each(Difference::measure);
+    for round in 0..ROUNDS {
+        rows.iter_mut().for_each(|row| row.measure(round));
+        differences.iter_mut().for_each(|one| one.measure(round));
         copy.measure();
     }
     println!(

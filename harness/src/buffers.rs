@@ -5,9 +5,9 @@ use crate::answer::Answer;
 use crate::arguments::{Arguments, Place, Room};
 use crate::arguments::{
     ALIGNMENTS, LONGEST_NEW_LIST, LONGEST_NEW_POOL, LONGEST_OUTPUT, LONGEST_REGISTER,
-    LONGEST_SCRATCH, LONGEST_TEXT,
+    LONGEST_SCRATCH, LONGEST_TEXT, MOST_SPANS_LENT,
 };
-use crate::lent::{Cursor, Lent};
+use crate::lent::{Cursor, Lent, Span, REPORT};
 use crate::register::Held;
 use crate::table::{Table, LONGEST_LIST, LONGEST_POOL};
 
@@ -17,6 +17,9 @@ const WORDS: usize = 2;
 /// The offset and the flag: no byte of a cursor is padding, so each of them is compared.
 const CURSOR: usize = 2 * WORD;
 const _: () = assert!(std::mem::size_of::<Cursor>() == CURSOR);
+/// The same holds for a span.
+const SPAN: usize = 2 * WORD;
+const _: () = assert!(std::mem::size_of::<Span>() == SPAN);
 
 /// Buffers and guards take these in turn: a byte that happens to be written as it was is seen at
 /// another turn. A text read past its end goes on with a digit, a lead byte or a continuation byte.
@@ -141,6 +144,8 @@ pub struct Buffers {
     offset: Guarded,
     register: Guarded,
     used: Guarded,
+    spans: Guarded,
+    report: Guarded,
     answer: Guarded,
 }
 
@@ -158,6 +163,8 @@ impl Buffers {
             offset: Guarded::new("the offset", WORD),
             register: Guarded::new("the register", LONGEST_REGISTER),
             used: Guarded::new("the used length", WORD),
+            spans: Guarded::new("the spans", MOST_SPANS_LENT * SPAN),
+            report: Guarded::new("the report", REPORT * WORD),
             answer: Guarded::new("the answer words", WORDS * WORD),
         }
     }
@@ -190,6 +197,10 @@ impl Buffers {
             .prefill(WORD, (turn + 5) * WORD % ALIGNMENTS, fill)
             .copy_from_slice(&used.to_ne_bytes());
         let register_place = place_in_table(buffer, LONGEST_REGISTER, turn);
+        let spans = span_bytes(arguments.spans);
+        let spans_place = place_in_table(&spans, MOST_SPANS_LENT * SPAN, turn);
+        self.report
+            .prefill(REPORT * WORD, (turn + 2) * WORD % ALIGNMENTS, fill);
         self.answer
             .prefill(WORDS * WORD, turn * WORD % ALIGNMENTS, fill);
         let Table { list, pool } = arguments.table;
@@ -200,6 +211,11 @@ impl Buffers {
                 .text
                 .hold(arguments.text, arguments.place, alignment, fill),
             text_length: arguments.text.len(),
+            spans: self
+                .spans
+                .hold(&spans, spans_place, (turn + 3) * WORD % ALIGNMENTS, fill)
+                .cast(),
+            span_count: arguments.spans.len(),
             choice: arguments.choice,
             depth: arguments.depth,
             limit: arguments.limit,
@@ -223,6 +239,7 @@ impl Buffers {
                 .cast_mut(),
             buffer_length: buffer.len(),
             used: self.used.pointer().cast(),
+            report: self.report.pointer().cast(),
             answer: self.answer.pointer().cast(),
         }
     }
@@ -239,9 +256,18 @@ impl Buffers {
             .or_else(|| self.offset.damage(&expected.offset.to_ne_bytes()))
             .or_else(|| self.register.damage_of_held(&expected.register.buffer))
             .or_else(|| self.used.damage(&expected.register.used.to_ne_bytes()))
+            .or_else(|| self.report.damage(&report_bytes(&expected.report)))
+            .or_else(|| self.spans.damage_of_held(&span_bytes(arguments.spans)))
             .or_else(|| self.text.damage_of_held(arguments.text))
             .or_else(|| self.list.damage_of_held(arguments.table.list))
             .or_else(|| self.pool.damage_of_held(arguments.table.pool))
+    }
+
+    pub fn report(&self) -> Vec<u64> {
+        let words = self.report.content().chunks_exact(WORD);
+        words
+            .map(|word| u64::from_ne_bytes(word.try_into().unwrap()))
+            .collect()
     }
 
     pub fn answer_words(&self) -> [u64; WORDS] {
@@ -255,6 +281,15 @@ impl Buffers {
 
 fn cursor_bytes(cursor: Cursor) -> [u8; CURSOR] {
     word_bytes([cursor.offset, cursor.finished])
+}
+
+fn span_bytes(spans: &[Span]) -> Vec<u8> {
+    let bytes = |span: &Span| word_bytes([span.start, span.length]);
+    spans.iter().flat_map(bytes).collect()
+}
+
+fn report_bytes(report: &[u64]) -> Vec<u8> {
+    report.iter().flat_map(|word| word.to_ne_bytes()).collect()
 }
 
 fn word_bytes(words: [u64; 2]) -> [u8; 2 * WORD] {

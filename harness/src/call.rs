@@ -40,6 +40,8 @@ pub type Expected = fn(&Arguments) -> Answer;
 #[derive(Clone, Copy, PartialEq, Eq)]
 pub enum Parameter {
     Text,
+    /// The values of a job.
+    Spans,
     /// A level or a version.
     Choice,
     Depth,
@@ -57,6 +59,8 @@ pub enum Parameter {
     Register,
     /// The same, read alone.
     RegisterRead,
+    /// How the values fare, written.
+    Report,
 }
 
 /// A wrong library, made of the real call.

@@ -101,7 +101,7 @@ impl<'a> Comparison<'a> {
         let words = |answer: &Answer| (answer.number, answer.first, answer.second);
         self.descriptions.push(format!(
             "{}: the documents' own reading differs: {}\n  level or version {}, depth {}, limit {}\n  list {}\n  pool {}\n  \
-             expected {:?} {}\n  read     {:?} {}",
+             expected {:?} {} {:?}\n  read     {:?} {} {:?}",
             self.call.name,
             shortened(arguments.text),
             arguments.choice,
@@ -111,8 +111,10 @@ impl<'a> Comparison<'a> {
             shortened(arguments.table.pool),
             words(expected),
             shortened(&expected.written),
+            expected.report,
             words(read),
             shortened(&read.written),
+            read.report,
         ));
     }
 
@@ -150,6 +152,9 @@ impl<'a> Comparison<'a> {
         if self.call.has(Parameter::Table) {
             description += &table_description(arguments, lent);
         }
+        if self.call.has(Parameter::Spans) {
+            description += &job_description(arguments, expected, &self.buffers.report());
+        }
         if self.call.has(Parameter::NewTable) {
             description += &format!(
                 "\n  list of {} bytes, pool of {}",
@@ -171,6 +176,24 @@ impl<'a> Comparison<'a> {
         }
         self.descriptions.push(description);
     }
+}
+
+/// A few of the spans, and of both reports the words that are not 0.
+fn job_description(arguments: &Arguments, expected: &Answer, found: &[u64]) -> String {
+    let few: Vec<(u64, u64)> = arguments.spans[..arguments.spans.len().min(8)]
+        .iter()
+        .map(|span| (span.start, span.length))
+        .collect();
+    let counts = |report: &[u64]| -> Vec<(usize, u64)> {
+        let words = report.iter().copied().enumerate();
+        words.filter(|&(_, count)| count != 0).collect()
+    };
+    format!(
+        "\n  {} spans: {few:?}\n  report {:?}, found {:?}",
+        arguments.spans.len(),
+        counts(&expected.report),
+        counts(found),
+    )
 }
 
 fn table_description(arguments: &Arguments, lent: &Lent) -> String {

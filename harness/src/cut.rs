@@ -1,11 +1,11 @@
 //! Cuts bytes into a call and its arguments, so that a fuzzer's inputs, and those of its inputs that
 //! are kept, mean the same. Every sequence of bytes is an input; what is missing is 0.
 
-use crate::arguments::{Arguments, Room, MOST_SPARE};
+use crate::arguments::{Arguments, Room, MOST_SPANS, MOST_SPARE};
 use crate::call::{Call, Parameter};
 use crate::calls::CALLS;
 use crate::draft::Draft;
-use crate::lent::Cursor;
+use crate::lent::{Cursor, Span};
 use crate::register::{bytes_of, Held};
 use crate::table::{Table, MARK};
 
@@ -37,6 +37,10 @@ pub fn cut_for(call: &Call, bytes: &[u8], each: &mut dyn FnMut(Arguments, usize)
     let (list, rest) = rest.split_at(rest.len().min(list.into()));
     let (pool, text) = rest.split_at(rest.len().min(pool.into()));
     let list = list_of(list);
+    let (spans, text) = match call.has(Parameter::Spans) {
+        true => spans_of(text),
+        false => (vec![], text),
+    };
     let text = &text[..text.len().min(LONGEST_TEXT)];
     let offset = i16::from_le_bytes([offset_low, offset_high]);
     // The others leave the cursor and the offset as they are lent, the usual ones.
@@ -65,6 +69,7 @@ pub fn cut_for(call: &Call, bytes: &[u8], each: &mut dyn FnMut(Arguments, usize)
     };
     let arguments = Arguments {
         register,
+        spans: &spans,
         choice: choice_of(choice),
         depth: depth_of(depth),
         limit: limit_of(limit),
@@ -79,6 +84,33 @@ pub fn cut_for(call: &Call, bytes: &[u8], each: &mut dyn FnMut(Arguments, usize)
     };
     let turn = u16::from_le_bytes([turn_low, turn_high]);
     each(arguments, turn.into());
+}
+
+/// How many, then start and length of each; and the text after them.
+fn spans_of(bytes: &[u8]) -> (Vec<Span>, &[u8]) {
+    let (&count, rest) = bytes.split_first().unwrap_or((&0, &[]));
+    let length = rest.len().min(2 * usize::from(count % 16));
+    let (pairs, text) = rest.split_at(length);
+    let span = |pair: &[u8]| Span {
+        start: size_of(pair[0]),
+        length: size_of(pair[1]),
+    };
+    let mut spans: Vec<Span> = pairs.chunks_exact(2).map(span).collect();
+    // Up to sixteen times over, or more than there may be.
+    spans = spans.repeat(1 + usize::from(count / 16 % 16));
+    if count == 255 && !spans.is_empty() {
+        spans = spans.repeat(MOST_SPANS / spans.len() + 1);
+    }
+    (spans, text)
+}
+
+/// Small ones, and those whose sums pass 64 bits.
+fn size_of(byte: u8) -> u64 {
+    match byte {
+        0..=239 => byte.into(),
+        240..=247 => 1 << (8 * (byte - 240)),
+        _ => u64::MAX - u64::from(255 - byte),
+    }
 }
 
 /// After a 1 bytes as they are; else entries whose lengths and counts have a byte each. So many bytes more come after them.

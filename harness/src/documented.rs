@@ -4,11 +4,13 @@
 use crate::answer::{refusal, Answer};
 use crate::arguments::{Arguments, Room, Sink};
 use crate::draft::{Draft, Entity};
+use crate::lent::{Span, REPORT};
 use crate::register::Held;
 
 pub struct Documented {
     given: Given,
     pub text: &'static str,
+    spans: &'static [(u64, u64)],
     choice: u8,
     depth: u64,
     limit: u64,
@@ -39,6 +41,8 @@ pub enum Outcome {
     Formed(&'static str, u64, &'static [u8]),
     /// The number and both answer words; a scratch is left.
     Answered(u32, u64, u64),
+    /// The places of a report that are not 0, with their words.
+    Reported(&'static [(usize, u64)]),
     /// List and pool of these names and texts, after a mark.
     Declared(&'static [(&'static str, &'static str)]),
     /// The number and both answer words, and a register's buffer and its used length after the call.
@@ -49,6 +53,7 @@ pub const fn row(text: &'static str, choice: u8, outcome: Outcome) -> Documented
     Documented {
         given: Given::Entities(&[]),
         text,
+        spans: &[],
         choice,
         depth: 1,
         limit: 0,
@@ -66,6 +71,11 @@ pub const fn within(depth: u64, limit: u64, row: Documented) -> Documented {
         limit,
         ..row
     }
+}
+
+/// With these values, each by its start and its length.
+pub const fn spanned(spans: &'static [(u64, u64)], row: Documented) -> Documented {
+    Documented { spans, ..row }
 }
 
 /// With an output of so many bytes.
@@ -146,8 +156,11 @@ impl Documented {
             Given::Register(held) => held,
             _ => Held::default(),
         };
+        let span = |&(start, length)| Span { start, length };
+        let spans: Vec<Span> = self.spans.iter().map(span).collect();
         sink(Arguments {
             register,
+            spans: &spans,
             choice: self.choice,
             depth: self.depth,
             limit: self.limit,
@@ -179,6 +192,14 @@ impl Documented {
                     && answer.scratch.is_empty()
                     && answer.list.is_empty()
                     && answer.pool.is_empty()
+                    && answer.report.is_empty()
+            }
+            Outcome::Reported(counts) => {
+                let mut report = [0; REPORT];
+                for &(place, count) in counts {
+                    report[place] = count;
+                }
+                found == (0, 0, 0) && answer.report == report
             }
             Outcome::Declared(definitions) => {
                 let Draft { list, pool } = Draft::of(definitions).marked();

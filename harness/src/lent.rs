@@ -10,10 +10,23 @@ pub struct Cursor {
     pub finished: u64,
 }
 
+/// A value of a job: where it starts in the text, and how many bytes it has.
+#[repr(C)]
+#[derive(Clone, Copy, Debug, Default, PartialEq, Eq)]
+pub struct Span {
+    pub start: u64,
+    pub length: u64,
+}
+
+/// How many words a rehearsal's report has.
+pub const REPORT: usize = 29;
+
 /// What a call is lent, as C sees it. A call takes the parts that it has.
 pub struct Lent {
     pub text: *const u8,
     pub text_length: usize,
+    pub spans: *const Span,
+    pub span_count: usize,
     pub choice: u8,
     pub depth: u64,
     pub limit: u64,
@@ -35,6 +48,7 @@ pub struct Lent {
     pub buffer: *mut u8,
     pub buffer_length: usize,
     pub used: *mut u64,
+    pub report: *mut u64,
     pub answer: *mut u64,
 }
 
@@ -43,6 +57,8 @@ impl Lent {
     pub const NOTHING: Lent = Lent {
         text: null(),
         text_length: 0,
+        spans: null(),
+        span_count: 0,
         choice: 0,
         depth: 0,
         limit: 0,
@@ -63,6 +79,7 @@ impl Lent {
         buffer: null_mut(),
         buffer_length: 0,
         used: null_mut(),
+        report: null_mut(),
         answer: null_mut(),
     };
 }

@@ -4,7 +4,7 @@ use crate::answer::Answer;
 use crate::arguments::Arguments;
 use crate::call::{Call, Parameter};
 use crate::hex::hex;
-use crate::lent::Cursor;
+use crate::lent::{Cursor, Span};
 use crate::register::{Held, Left};
 
 /// Inputs with more bytes to read or to write are left out, so that every line is short.
@@ -12,6 +12,8 @@ const LONGEST: usize = 300;
 const LONGEST_OUTPUT: usize = 700;
 /// The buffers of crates/replay have so many bytes.
 const LONGEST_REPLAYED: usize = 2048;
+/// And so many spans.
+const MOST_SPANS: usize = 16;
 
 pub fn is_short(arguments: &Arguments, answer: &Answer) -> bool {
     is_within(arguments, answer, LONGEST, LONGEST_OUTPUT)
@@ -38,6 +40,7 @@ fn is_within(
     ];
     read.iter().all(|bytes| bytes.len() <= longest)
         && written.iter().all(|&room| room <= longest_output)
+        && arguments.spans.len() <= MOST_SPANS
 }
 
 pub fn line(call: &Call, arguments: &Arguments, answer: &Answer) -> String {
@@ -58,6 +61,7 @@ pub fn line(call: &Call, arguments: &Arguments, answer: &Answer) -> String {
 fn given(parameter: Parameter, arguments: &Arguments, answer: &Answer) -> Vec<String> {
     match parameter {
         Parameter::Text => vec![hex(arguments.text)],
+        Parameter::Spans => span_fields(arguments.spans),
         Parameter::Choice => vec![arguments.choice.to_string()],
         Parameter::Depth => vec![arguments.depth.to_string()],
         Parameter::Limit => vec![arguments.limit.to_string()],
@@ -71,6 +75,7 @@ fn given(parameter: Parameter, arguments: &Arguments, answer: &Answer) -> Vec<St
             let Held { buffer, used } = arguments.register;
             vec![hex(buffer), used.to_string()]
         }
+        Parameter::Report => vec![],
     }
 }
 
@@ -86,7 +91,23 @@ fn left(parameter: Parameter, answer: &Answer) -> Vec<String> {
             let Left { buffer, used } = &answer.register;
             vec![hex(buffer), used.to_string()]
         }
+        Parameter::Report => report_fields(&answer.report),
         _ => vec![],
+    }
+}
+
+/// How many there are, then start and length of each.
+fn span_fields(spans: &[Span]) -> Vec<String> {
+    let pairs = spans.iter().flat_map(|span| [span.start, span.length]);
+    let numbers = [spans.len() as u64].into_iter().chain(pairs);
+    numbers.map(|number| number.to_string()).collect()
+}
+
+/// Its words; `-` where it is left.
+fn report_fields(report: &[u64]) -> Vec<String> {
+    match report {
+        [] => vec!["-".to_string()],
+        words => words.iter().map(u64::to_string).collect(),
     }
 }
 

@@ -2,7 +2,7 @@
 
 use crate::answer::Answer;
 use crate::arguments::Arguments;
-use crate::call::Call;
+use crate::call::{Call, Parameter};
 use crate::calls::CALLS;
 use crate::corpus;
 use crate::line::{is_replayed, is_short, line};
@@ -21,13 +21,19 @@ const HEADER: &str = "\
 # Bytes are in hexadecimal, with - for none; ROOM is the output's length, OUTPUT the result alone.
 ";
 
+/// Not those with spans: crates/replay reads none.
+fn is_replayed_there(call: &&Call) -> bool {
+    !call.has(Parameter::Spans)
+}
+
 /// The seams of each call, the documents' rows and what a fuzzer found, each once. Rows may be longer than the others.
 pub fn write(calls: &[&Call], out: &mut dyn Write) -> Result<()> {
     out.write_all(HEADER.as_bytes())?;
-    for call in CALLS.iter().filter(|call| !call.stored.is_empty()) {
+    let replayed = CALLS.iter().filter(is_replayed_there);
+    for call in replayed.filter(|call| !call.stored.is_empty()) {
         writeln!(out, "#   {}", call.stored)?;
     }
-    for call in calls {
+    for call in calls.iter().copied().filter(is_replayed_there) {
         let mut lines = vec![];
         let mut seen = HashSet::new();
         let mut store = |arguments: Arguments, is_stored: fn(&Arguments, &Answer) -> bool| {

@@ -21,11 +21,16 @@ pub struct Row {
     left: Option<Side>,
     /// The same on a text that is known to be UTF-8.
     unchecked: Option<Side>,
+    /// It is measured in every so many rounds alone.
+    every: usize,
 }
 
 impl Row {
     /// One sample of each, in turn, so that a slow moment of the machine meets all.
-    pub fn measure(&mut self) {
+    pub fn measure(&mut self, round: usize) {
+        if round % self.every != 0 {
+            return;
+        }
         self.ours.measure();
         self.rust.measure();
         let others = [&mut self.left, &mut self.unchecked];
@@ -64,9 +69,9 @@ pub struct Difference {
 }
 
 impl Difference {
-    pub fn measure(&mut self) {
-        self.without.measure();
-        self.with.measure();
+    pub fn measure(&mut self, round: usize) {
+        self.without.measure(round);
+        self.with.measure(round);
     }
 
     pub fn print(&self) {
@@ -132,7 +137,13 @@ pub fn row(
         rust: Side::new(repeated(rust)),
         unchecked: unchecked.map(|once| Side::new(repeated(once))),
         left: None,
+        every: 1,
     }
+}
+
+/// A row whose samples take seconds: a tenth of the rounds has to do.
+pub fn seldom(row: Row) -> Row {
+    Row { every: 10, ..row }
 }
 
 /// The row with another side in the column of what is left where it is made.

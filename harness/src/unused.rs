@@ -30,6 +30,17 @@ fn names_of(call: &Call) -> Option<Names> {
         "normalize_attribute_value_strict" | "canonical_form_strict" => {
             Some(|arguments| reading::looked_up(arguments, Rule::Strict))
         }
+        // Those of each value.
+        "rehearse" => Some(|arguments| {
+            let mut names: Vec<String> = vec![];
+            for text in arguments.values().unwrap_or_default() {
+                names.extend(reading::looked_up(
+                    &Arguments { text, ..*arguments },
+                    Rule::Lenient,
+                ));
+            }
+            names
+        }),
         // As at depth 128.
         "least_depth" => Some(|arguments| {
             let depth = DEEPEST;

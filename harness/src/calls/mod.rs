@@ -14,6 +14,7 @@ pub mod normalize_nmtokens;
 pub mod parse_number;
 pub mod read_declarations;
 pub mod register;
+pub mod rehearse;
 pub mod trim_xml;
 pub mod unescape;
 
@@ -43,6 +44,7 @@ pub static CALLS: &[Call] = &[
     c14n::TEXT,
     least_depth::CALL,
     read_declarations::CALL,
+    rehearse::CALL,
 ];
 
 /// The calls of these names, or all where none is named; nothing if one is unknown.

@@ -20,9 +20,11 @@ pub const LOOKUP: Faults = &[
     ("command 2 skipped by the lookup", skipped),
     ("12 bytes passed at a command 2", passed_12),
     ("a command 2 binds before every text", external_first),
-    ("27 at the name", at_the_name),
     ("texts that are not opened looked through for 27", foreseen),
 ];
+
+/// Of calls that say where the text is refused.
+pub const PLACES: Faults = &[("27 at the name", at_the_name)];
 
 /// Of the walk.
 pub const WALK: Faults = &[("27 after 17", late_27), ("27 before 16", early_27)];

@@ -59,8 +59,10 @@ pub const WALK: Faults = &[
         "texts in a marked text not past line ends",
         library::<FirstLevel>,
     ),
-    ("`½` of a marked text refused at depth 0", stopped_at_half),
 ];
+
+/// Of calls whose number is the walk's.
+pub const STOPS: Faults = &[("`½` of a marked text refused at depth 0", stopped_at_half)];
 
 /// Of unescaping.
 pub const UNESCAPE: Faults = &[

@@ -3,6 +3,7 @@
 pub mod answer;
 pub mod external;
 pub mod index;
+pub mod job;
 pub mod marked;
 pub mod memory;
 pub mod new_table;
@@ -22,6 +23,8 @@ use crate::call::{Faults, Parameter};
 pub fn of(parameter: Parameter) -> Faults {
     match parameter {
         Parameter::Text => text::TEXT,
+        Parameter::Spans => job::SPANS,
+        Parameter::Report => job::REPORT,
         Parameter::Choice => output::CHOICE,
         Parameter::Table => table::TABLE,
         Parameter::NewTable => new_table::NEW_TABLE,

@@ -6,11 +6,13 @@ use crate::call::{Call, Expected, Misreading, Parameter};
 
 const ANY: &[(&str, Misreading)] = &[
     ("the second word of a success one more", more_second),
-    ("10 at the name", later_10),
-    ("11 at the `&`", earlier_11),
     ("`&apos;` unknown", unknown_apos),
     ("`x` in upper case taken", upper_x),
 ];
+
+/// Of calls that say where the text is refused.
+const PLACES: &[(&str, Misreading)] =
+    &[("10 at the name", later_10), ("11 at the `&`", earlier_11)];
 
 const WRITERS: &[(&str, Misreading)] = &[("the result's last byte changed", changed_result)];
 
@@ -27,7 +29,12 @@ pub fn of(call: &Call) -> impl Iterator<Item = &'static (&'static str, Misreadin
         true => misreadings,
         false => &[],
     };
+    let places = match call.has(Parameter::Report) {
+        true => &[],
+        false => PLACES,
+    };
     ANY.iter()
+        .chain(places)
         .chain(of(Parameter::Output, WRITERS))
         .chain(of(Parameter::Limit, WALKS))
         .chain(of(Parameter::Depth, DEPTHS))

@@ -5,13 +5,17 @@ use crate::arguments::{DEEPEST, MOST_OPENINGS};
 use crate::call::Faults;
 use crate::lent::{Lent, Run};
 
-pub const WALK: Faults = &[
+pub const DEPTH: Faults = &[
     ("depth one less", less_depth),
     ("depth one more", more_depth),
     ("depth 129 accepted", accepted_depth),
     ("depth used up at references alone", depth_at_references),
     ("3 before 2", swapped_2_and_3),
     ("2 after 5", late_depth),
+];
+
+/// Of calls that tell the openings.
+pub const OPENINGS: Faults = &[
     ("openings not told", untold_openings),
     ("`&lt;` counted as an opening", counted_predefined),
 ];
@@ -23,8 +27,10 @@ pub const REFERENCES: Faults = &[
     ("limit 1,000,001 accepted", accepted_limit),
     ("version 1 taken for 1.1", version_1_as_1_1),
     ("`amp` looked up in the table", asked_for_amp),
-    ("a name ended at an inner `&`", ended_at_inner),
 ];
+
+/// Of calls that say where the text is refused.
+pub const PLACES: Faults = &[("a name ended at an inner `&`", ended_at_inner)];
 
 unsafe fn less_depth(lent: &Lent, real: Run) -> u32 {
     let depth = lent.depth.saturating_sub(1);

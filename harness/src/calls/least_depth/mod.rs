@@ -9,7 +9,7 @@ mod rows;
 use crate::call::Call;
 use crate::call::Parameter::{Choice, Limit, Table, Text};
 use crate::calls::normalize_attribute_value::run as count;
-use crate::faults::{external, marked, table::LOOKUP, walk::REFERENCES};
+use crate::faults::{external, marked, table::LOOKUP, walk};
 use crate::inputs::attribute::{self, Attribute};
 use crate::inputs::{entities, woven};
 use crate::lent::Lent;
@@ -72,9 +72,11 @@ pub const CALL: Call = Call {
     faults: &[
         faults::DEPTHS,
         LOOKUP,
-        REFERENCES,
+        walk::REFERENCES,
+        walk::PLACES,
         external::TABLE,
         external::LOOKUP,
+        external::PLACES,
         marked::TABLE,
         marked::LOOKUP,
     ],

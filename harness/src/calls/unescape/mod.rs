@@ -81,6 +81,7 @@ pub const CALL: Call = Call {
         LOOKUP,
         external_faults::TABLE,
         external_faults::LOOKUP,
+        external_faults::PLACES,
         marked_faults::TABLE,
         marked_faults::LOOKUP,
         marked_faults::UNESCAPE,
