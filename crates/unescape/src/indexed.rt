@@ -7,7 +7,6 @@ ghost use lib.ListN.{length, getD};
 ghost use Rattle.text.specs.Call.{callOf, longestText};
 ghost use Rattle.entity.specs.Table.{ValidTable};
 ghost use Rattle.entity.specs.Binding.{binding};
-ghost use Rattle.runs.specs.RunEnds.{RunEnd, Put, isAmp};
 ghost use Rattle.tokens.specs.Outcome.{finished};
 ghost use Rattle.tokens.specs.Walking.{Walked};
 ghost use Rattle.unescape.specs.Unescape.{unescape};
@@ -71,16 +70,6 @@ fn indexed_step(
     found_step(&text[start..end], i, end + 1, list, pool, index, out)
 }
 
-// The next `&` from `from` on, or the text's end; the bytes before it are copied.
-fn run_to_amp(text: &[u8], from: usize, out: &mut [u8]) -> usize
-    requires { ⌜ from ≤ length (now text) ⌝ }
-    ensures { λ r. ⌜ RunEnd isAmp (now (text .entry)) from r × Put (now (text .entry)) from r (now (out .entry)) (now (out .exit)) ⌝ }
-{
-    let e = name_ends::next_byte(text, from, b'&');
-    output::put_over(&text[from..e], out);
-    e
-}
-
 // Runs and references in turn. Writes as much of the value as there is room for.
 fn indexed_runs(text: &[u8], list: &[u8], pool: &[u8], index: &mut [u64], out: &mut [u8]) -> Answer
     requires { ⌜ length (now text) ≤ longestText ⌝ }
@@ -91,8 +80,9 @@ fn indexed_runs(text: &[u8], list: &[u8], pool: &[u8], index: &mut [u64], out: &
     let mut i: usize = 0;
     let mut len: usize = 0;
     loop {
+        let e = name_ends::next_byte(text, i, b'&');
         let at = output::least(len, out.len());
-        let e = run_to_amp(text, i, &mut out[at..]);
+        output::put_over(&text[i..e], &mut out[at..]);
         len += e - i;
         if e == text.len() {
             return Answer::Done {

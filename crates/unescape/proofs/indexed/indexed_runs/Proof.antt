@@ -7,6 +7,7 @@ use Prim.Native.Nat.{ℕ, _+_, _-_, _<_}
 use lib.ListN.{length}
 use borrow.Rule.Slice.PartMut.{putMid}
 use Rattle.entity.specs.Binding.{Bound, binding}
+use Rattle.runs.specs.RunEnds.{RunEnd, isAmp}
 use Rattle.tokens.proofs.Steps.{walked-length}
 use Rattle.unescape.proofs.Known.{Known}
 use Rattle.unescape.proofs.Turns.{Ran, ran-start, ran-length, ran-inside, ran-run, ran-near, ran-step, ran-refused, ran-end, amp-here}
@@ -22,45 +23,52 @@ abbrev μ-loop : tie.MeasureT-loop
 μ-loop text list pool index₀ out₀ i₀ len₀ index out i len = length text - i
 
 -- places: the turn and the entry, seen from the end of the run; that, seen from the end of the reference after it
-abbrev turn : tie.After-run-to-amp Inv-loop μ-loop → tie.At-loop Inv-loop μ-loop
-turn c = c .before .before .before
+abbrev turn : tie.After-put-over Inv-loop μ-loop → tie.At-loop Inv-loop μ-loop
+turn c = c .before .before .before .before .before
 
 abbrev entry : tie.At-loop Inv-loop μ-loop → tie.Start Inv-loop μ-loop
 entry c = c .before .before .before .before .before .before
 
-abbrev run : tie.After-indexed-step Inv-loop μ-loop → tie.After-run-to-amp Inv-loop μ-loop
+abbrev run : tie.After-indexed-step Inv-loop μ-loop → tie.After-put-over Inv-loop μ-loop
 run c = c .before .before .before .before .before .before .before
 
 -- the names' bindings
 abbrev bound : tie.Start Inv-loop μ-loop → List ℕ → Bound
 bound s = binding (s .args .list .now) (s .args .pool .now)
 
--- what the output holds after the run, and how long the value is
-abbrev held : tie.After-run-to-amp Inv-loop μ-loop → List ℕ
+-- where the run ends, what the output holds after it, and how long the value is
+abbrev ended : tie.After-put-over Inv-loop μ-loop → ℕ
+ended c = c .before .before .before .before .next-byte .result
+
+abbrev held : tie.After-put-over Inv-loop μ-loop → List ℕ
 held c =
     let out = turn c .loop .out in
-    let at = c .before .before .least .result in
-    putMid at (length out - at) out (c .run-to-amp .last .1 .1 .0)
+    let at = c .before .before .before .least .result in
+    putMid at (length out - at) out (c .put-over .last .1 .0)
 
-abbrev grown : tie.After-run-to-amp Inv-loop μ-loop → ℕ
-grown c = turn c .loop .len + (c .run-to-amp .result - turn c .loop .i)
+abbrev grown : tie.After-put-over Inv-loop μ-loop → ℕ
+grown c = turn c .loop .len + (ended c - turn c .loop .i)
 
-ran-on : (c : tie.After-run-to-amp Inv-loop μ-loop)
-    → Ran (bound (entry (turn c))) (entry (turn c) .args .text .now) (entry (turn c) .args .out .now) (held c) unkept (c .run-to-amp .result) (grown c)
-ran-on c = ran-run (turn c .loop .inv .ran) (c .before .before .least .ensures) (c .run-to-amp .ensures)
+run-ends : (c : tie.After-put-over Inv-loop μ-loop) → RunEnd isAmp (entry (turn c) .args .text .now) (turn c .loop .i) (ended c)
+run-ends c = c .before .before .before .before .next-byte .ensures
+
+ran-on : (c : tie.After-put-over Inv-loop μ-loop)
+    → Ran (bound (entry (turn c))) (entry (turn c) .args .text .now) (entry (turn c) .args .out .now) (held c) unkept (ended c) (grown c)
+ran-on c =
+    ran-run (turn c .loop .inv .ran) (c .before .before .before .least .ensures) (run-ends c, c .put-over .ensures)
 
 -- a reference stands at the end of the run
-here : (c : tie.After-indexed-step Inv-loop μ-loop) → run c .run-to-amp .result < length (entry (turn (run c)) .args .text .now)
-here c = amp-here (entry (turn (run c)) .args .text .now) (run c .run-to-amp .ensures .0) (c .before .before .before .before .if1 .left) .0
+here : (c : tie.After-indexed-step Inv-loop μ-loop) → ended (run c) < length (entry (turn (run c)) .args .text .now)
+here c = amp-here (entry (turn (run c)) .args .text .now) (run-ends (run c)) (c .before .before .before .before .if1 .left) .0
 
 -- the step after the run, which keeps nothing
 stepped : (c : tie.After-indexed-step Inv-loop μ-loop)
-    → Known (bound (entry (turn (run c)))) (entry (turn (run c)) .args .text .now) (run c .run-to-amp .result) (grown (run c)) unkept (held (run c)) unkept
+    → Known (bound (entry (turn (run c)))) (entry (turn (run c)) .args .text .now) (ended (run c)) (grown (run c)) unkept (held (run c)) unkept
     (putMid (c .before .before .before .least2 .result) (length (held (run c)) - c .before .before .before .least2 .result) (held (run c)) (c .indexed-step .last .1 .1 .1 .1 .1 .0))
     (c .indexed-step .result)
 stepped c =
     let r = run c in
-    known-indexed (bound (entry (turn r))) (entry (turn r) .args .text .now) (r .run-to-amp .result) (grown r) (held r)
+    known-indexed (bound (entry (turn r))) (entry (turn r) .args .text .now) (ended r) (grown r) (held r)
     (c .before .before .before .least2 .ensures) (c .indexed-step .ensures .0)
 
 loop-holds : tie.Need-loop-holds Inv-loop μ-loop
@@ -73,28 +81,40 @@ loop-holds c =
       size = refl;
     }
 
+next-byte-requires : tie.Need-next-byte-requires Inv-loop μ-loop
+next-byte-requires c κs = ran-inside (c .loop .inv .ran)
+
 least-requires : tie.Need-least-requires Inv-loop μ-loop
 least-requires c κs = tt
 
-sub-run-to-amp : tie.Need-sub-run-to-amp Inv-loop μ-loop
-sub-run-to-amp c = omega (arith, c .least .ensures)
+sub-put-over : tie.Need-sub-put-over Inv-loop μ-loop
+sub-put-over c = c .before .next-byte .ensures .run .from
 
-part-run-to-amp-start : tie.Need-part-run-to-amp-start Inv-loop μ-loop
-part-run-to-amp-start c = omega (arith, c .least .ensures)
+part-put-over-start : tie.Need-part-put-over-start Inv-loop μ-loop
+part-put-over-start c = c .before .next-byte .ensures .run .from
 
-part-run-to-amp-end : tie.Need-part-run-to-amp-end Inv-loop μ-loop
-part-run-to-amp-end c = search needs
+part-put-over-end : tie.Need-part-put-over-end Inv-loop μ-loop
+part-put-over-end c = c .before .next-byte .ensures .run .to
 
-run-to-amp-requires : tie.Need-run-to-amp-requires Inv-loop μ-loop
-run-to-amp-requires c κs = ran-inside (c .before .before .loop .inv .ran)
+sub-put-over-2 : tie.Need-sub-put-over-2 Inv-loop μ-loop
+sub-put-over-2 c = omega (arith, c .before .least .ensures)
+
+part-put-over-start-2 : tie.Need-part-put-over-start-2 Inv-loop μ-loop
+part-put-over-start-2 c = omega (arith, c .before .least .ensures)
+
+part-put-over-end-2 : tie.Need-part-put-over-end-2 Inv-loop μ-loop
+part-put-over-end-2 c = search needs
+
+put-over-requires : tie.Need-put-over-requires Inv-loop μ-loop
+put-over-requires c κs = search needs
 
 sub-len : tie.Need-sub-len Inv-loop μ-loop
-sub-len c = c .before .before .run-to-amp .ensures .0 .run .from
+sub-len c = run-ends (c .before .before) .run .from
 
 add-len : tie.Need-add-len Inv-loop μ-loop
 add-len c =
     let r = c .before .before in
-    omega (arith, ran-on r .short, r .run-to-amp .ensures .0 .run .to, entry (turn r) .pre .0)
+    omega (arith, ran-on r .short, run-ends r .run .to, entry (turn r) .pre .0)
 
 same-length : tie.Need-same-length Inv-loop μ-loop
 same-length c = turn (c .before .before .before) .loop .inv .size
@@ -124,7 +144,7 @@ indexed-step-requires c κs =
     let ended = c .before .before .before in
     let r = ended .before .before .before in
     let s = entry (turn r) in
-    (s .pre .0, (amp-here (s .args .text .now) (r .run-to-amp .ensures .0) (ended .if1 .left), (s .pre .1 .0, turn r .loop .inv .lent)))
+    (s .pre .0, (amp-here (s .args .text .now) (run-ends r) (ended .if1 .left), (s .pre .1 .0, turn r .loop .inv .lent)))
 
 enum-known-next : tie.Need-enum-known-next Inv-loop μ-loop
 enum-known-next c = search needs
@@ -135,14 +155,14 @@ add-len-2 c =
     let step = told .before .before .before .before .before .before in
     let r = run step in
     let n = ran-near (ran-on r) (stepped step) (told .next .given .1) in
-    omega (arith, ran-on r .short, n .2, r .run-to-amp .ensures .0 .run .to, entry (turn r) .pre .0)
+    omega (arith, ran-on r .short, n .2, run-ends r .run .to, entry (turn r) .pre .0)
 
 loop-less : tie.Need-loop-less Inv-loop μ-loop
 loop-less c =
     let told = c .before in
     let step = told .before .before .before .before .before .before in
     let n = ran-near (ran-on (run step)) (stepped step) (told .next .given .1) in
-    omega (arith, n .0, n .1, run step .run-to-amp .ensures .0 .run .from)
+    omega (arith, n .0, n .1, run-ends (run step) .run .from)
 
 loop-again : tie.Need-loop-again Inv-loop μ-loop
 loop-again c =
@@ -181,11 +201,15 @@ indexed-runs-spec =
     Inv-loop
     μ-loop
     loop-holds
+    next-byte-requires
     least-requires
-    sub-run-to-amp
-    part-run-to-amp-start
-    part-run-to-amp-end
-    run-to-amp-requires
+    sub-put-over
+    part-put-over-start
+    part-put-over-end
+    sub-put-over-2
+    part-put-over-start-2
+    part-put-over-end-2
+    put-over-requires
     sub-len
     add-len
     same-length

@@ -53,7 +53,7 @@ returns c =
     let given = entry first .args in
     let walked = first .indexed-runs .ensures .0 in
     let o = unescape (bound (entry first)) (given .text .now) in
-    ap (λ (l : List ℕ). callOf (first .indexed-runs .result) (l ∷ [])) (counted-none (given .out .now) walked)
+    ap (λ (l : List ℕ). callOf (first .indexed-runs .result) (l ∷ [])) (counted-none {o = o} (given .out .now) walked)
     ∙ ended-call o (given .out .now) (ended-refused 19 o (given .out .now) (c .enum-told .given .1) walked)
 
 same-length-3 : tie.Need-same-length-3
@@ -69,7 +69,7 @@ returns-2 c =
     let given = entry first .args in
     let walked = first .indexed-runs .ensures .0 in
     let o = unescape (bound (entry first)) (given .text .now) in
-    let q = counted-none (given .out .now) walked in
+    let q = counted-none {o = o} (given .out .now) walked in
     ap (λ (l : List ℕ). callOf (Refused 19 (counted .counted .given .0 .0) 0) (l ∷ [])) q
     ∙ ended-call o (given .out .now) (ended-short 19 o (given .out .now) (counted .counted .given .1) walked (omega (arith, c .if1 .taken, ap length q)))
 
@@ -91,7 +91,7 @@ returns-3 c =
     let given = entry first .args in
     let walked = first .indexed-runs .ensures .0 in
     let o = unescape (bound (entry first)) (given .text .now) in
-    let q = counted-none (given .out .now) walked in
+    let q = counted-none {o = o} (given .out .now) walked in
     ended-call o (given .out .now)
     (ended-written 19 o (given .out .now) (counted .counted .given .1) walked (omega (arith, fits .if1 .left, ap length q))
     (subst (λ (l : List ℕ). Walked o l (second .indexed-runs2 .last .1 .1 .1 .1 .0) (second .indexed-runs2 .result)) q (second .indexed-runs2 .ensures .0)))
