@@ -25,3 +25,5 @@ mod LeastDepthsMet
 pub mod DeclarationsRead
 pub mod Declarations
 mod DeclarationsMet
+pub mod Rehearsals
+pub mod RehearsalsMet

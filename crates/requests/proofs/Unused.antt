@@ -8,9 +8,11 @@ use Prim.Native.Nat.{ℕ, _≤_}
 use mathlib.Core.Bool.{Bool, true, false}
 use mathlib.Core.Option.{Option, some, none}
 use mathlib.Core.List.{List, [], _∷_, _++_, append-nil}
+use lib.ListN.{length, replicate}
 use Rattle.text.specs.Bytes.{pick, sameBytes}
+use Rattle.text.specs.Utf8.{wellFormed}
 use Rattle.text.specs.Version.{Rule, ruleOf}
-use Rattle.text.specs.Call.{Called, callOf, guarded, andThen, textCheck, argumentCheck}
+use Rattle.text.specs.Call.{Called, called, callOf, guarded, andThen, textCheck, argumentCheck}
 use Rattle.text.specs.declared.Answer.{Answer}
 use Rattle.text.specs.declared.Answer.the-variants.{Done, Refused}
 use Rattle.text.proofs.Bytes.{same-equal}
@@ -29,11 +31,15 @@ use Rattle.attribute.specs.Form.{formed}
 use Rattle.nmtokens.specs.Nmtokens.{collapsed}
 use Rattle.attribute.specs.LookedUp.{lookedUp}
 use Rattle.attribute.proofs.LookedUp.{unused-table}
+use Rattle.walk_rehearsal.specs.declared.Span.{Span}
+use Rattle.walk_rehearsal.specs.declared.Verdict.{Verdict}
+use Rattle.walk_rehearsal.specs.declared.Verdict.the-variants.{Fallen}
+use Rattle.walk_rehearsal.specs.Rehearsal.{spansCheck, bytesOf, verdict, verdictOf, counted, countedOver, report}
 use Rattle.walk_depths.specs.LeastDepth.{leastDepth}
 use Rattle.walk_depths.proofs.NamesByDepth.{names-down, least-same}
-use Rattle.govlezna.specs.Calls.{unescapeCall, normalizeAttributeValueCall, canonicalFormCall, normalizeAttributeValueStrictCall, canonicalFormStrictCall, normalizeNmtokensCall, leastDepthCall}
+use Rattle.govlezna.specs.Calls.{unescapeCall, normalizeAttributeValueCall, canonicalFormCall, normalizeAttributeValueStrictCall, canonicalFormStrictCall, normalizeNmtokensCall, leastDepthCall, rehearseCall}
 use Rattle.demands.proofs.CallDemands.{table-valid}
-use Rattle.requests.specs.Unused.{Reader, normalizing, forming, listing, unescaping, callWith, namesWith, Caller, reads, deepens, callBy, namesBy, BoundAlike, command1, command2, predefinedInBoth, unknownInBoth, BindAlike, OneMarking, Definition, definitionsIn, definitions, firstOf, Unused, Others}
+use Rattle.requests.specs.Unused.{Reader, normalizing, forming, listing, unescaping, callWith, namesWith, Caller, reads, deepens, rehearses, namesOver, callBy, namesBy, BoundAlike, command1, command2, predefinedInBoth, unknownInBoth, BindAlike, OneMarking, Definition, definitionsIn, definitions, firstOf, Unused, Others}
 
 -- ---- bound alike is bound to the same
 
@@ -115,18 +121,73 @@ module _ (list pool list′ pool′ : List ℕ) (m : OneMarking list pool list�
   reader-names (listing t version depth limit scratch out) e = value-same false t (ruleOf version) depth limit e .asks
   reader-names (unescaping t out) e = text-same t e .asks
 
+  -- K11: the checks of a job have those of its spans behind them
+  guarded-spans : (arguments spans : Answer) (buffers : List (List ℕ)) {c d : Called} → c ≡ d
+      → guarded (andThen (andThen arguments (tableCheck list pool)) spans) buffers c ≡ guarded (andThen (andThen arguments (tableCheck list′ pool′)) spans) buffers d
+  guarded-spans (Done first second) spans buffers e =
+      rw (table-valid list pool (m .accepted), table-valid list′ pool′ (m .accepted′)) (ap (guarded spans buffers) e)
+  guarded-spans (Refused number first second) spans buffers e = refl
+
+  each-parts : (P : List ℕ → Type 0) (xs ys : List (List ℕ)) → Each P (xs ++ ys) → Each P xs × Each P ys
+  each-parts P [] ys h = (tt, h)
+  each-parts P (x ∷ xs) ys h = let r = each-parts P xs ys (h .1) in ((h .0, r .0), r .1)
+
+  abbrev alikeAt : List ℕ → Type 0
+  alikeAt name = BoundAlike (binding list pool name) (binding list′ pool′ name)
+
+  -- the verdict on a value, and its names
+  verdict-same : (t : List ℕ) (r : Rule) (depth limit : ℕ) → Each alikeAt (pick (wellFormed t) (lookedUp (readingBy false r list pool limit) depth t) [])
+      → verdictOf (readingBy false r list pool limit) depth t ≡ verdictOf (readingBy false r list′ pool′ limit) depth t
+  unfolding verdictOf
+  verdict-same t r depth limit = go (wellFormed t)
+    where
+      go : (b : Bool) → Each alikeAt (pick b (lookedUp (readingBy false r list pool limit) depth t) [])
+          → pick b (verdict (normalize (readingBy false r list pool limit) depth t)) (Fallen 5) ≡ pick b (verdict (normalize (readingBy false r list′ pool′ limit) depth t)) (Fallen 5)
+      go true e = ap verdict (value-same false t r depth limit e .outcome)
+      go false e = refl
+
+  names-same : (t : List ℕ) (r : Rule) (depth limit : ℕ) (b : Bool) → Each alikeAt (pick b (lookedUp (readingBy false r list pool limit) depth t) [])
+      → pick b (lookedUp (readingBy false r list pool limit) depth t) [] ≡ pick b (lookedUp (readingBy false r list′ pool′ limit) depth t) []
+  names-same t r depth limit true e = value-same false t r depth limit e .asks
+  names-same t r depth limit false e = refl
+
+  over-same : (t : List ℕ) (r : Rule) (depth limit : ℕ) (xs : List Span) (words : List ℕ) → Each alikeAt (namesOver (readingBy false r list pool limit) depth t xs)
+      → countedOver (readingBy false r list pool limit) depth t xs words ≡ countedOver (readingBy false r list′ pool′ limit) depth t xs words
+  unfolding countedOver
+  over-same t r depth limit [] words e = refl
+  over-same t r depth limit (x ∷ xs) words e =
+      let s = readingBy false r list pool limit in
+      let own = each-parts alikeAt (pick (wellFormed (bytesOf t x)) (lookedUp s depth (bytesOf t x)) []) (namesOver s depth t xs) e in
+      over-same t r depth limit xs (counted (verdictOf s depth (bytesOf t x)) words) (own .1)
+      ∙ ap (λ (v : Verdict). countedOver (readingBy false r list′ pool′ limit) depth t xs (counted v words)) (verdict-same (bytesOf t x) r depth limit (own .0))
+
+  over-names : (t : List ℕ) (r : Rule) (depth limit : ℕ) (xs : List Span) → Each alikeAt (namesOver (readingBy false r list pool limit) depth t xs)
+      → namesOver (readingBy false r list pool limit) depth t xs ≡ namesOver (readingBy false r list′ pool′ limit) depth t xs
+  over-names t r depth limit [] e = refl
+  over-names t r depth limit (x ∷ xs) e =
+      let s = readingBy false r list pool limit in
+      let other = readingBy false r list′ pool′ limit in
+      let b = wellFormed (bytesOf t x) in
+      let own = each-parts alikeAt (pick b (lookedUp s depth (bytesOf t x)) []) (namesOver s depth t xs) e in
+      ap (λ (ns : List (List ℕ)). ns ++ namesOver s depth t xs) (names-same (bytesOf t x) r depth limit b (own .0))
+      ∙ ap (λ (ns : List (List ℕ)). pick b (lookedUp other depth (bytesOf t x)) [] ++ ns) (over-names t r depth limit xs (own .1))
+
   -- K13: "if two accepted tables of one marking bind each name that a reading looks up alike .., then text, openings, refusal and positions are
-  -- equal, under the same version, depth, limit and room": number, words and every byte of every buffer; K14's least depth too
+  -- equal, under the same version, depth, limit and room": number, words and every byte of every buffer; K14's least depth and K11's report too
   pub k13-unused : (caller : Caller) → BindAlike list pool list′ pool′ (namesBy caller list pool) → callBy caller list pool ≡ callBy caller list′ pool′
-  unfolding leastDepthCall readingBy
+  unfolding leastDepthCall rehearseCall report readingBy
   k13-unused (reads reader) e = reader-unused reader e
   k13-unused (deepens t version limit) e =
       guarded-same (argumentCheck t (settingsCheck version 128 limit)) [] (ap (λ (a : Answer). callOf a []) (depth-same t (ruleOf version) limit e))
+  k13-unused (rehearses t spans version depth limit words) e =
+      guarded-spans (argumentCheck t (settingsCheck version depth limit)) (spansCheck (length t) spans) (words ∷ [])
+      (ap (λ (w : List ℕ). called 0 (0 ∷ 0 ∷ []) (w ∷ [])) (over-same t (ruleOf version) depth limit spans (replicate 29 0) e))
 
   -- both look up the same names
   pub k13-names : (caller : Caller) → BindAlike list pool list′ pool′ (namesBy caller list pool) → namesBy caller list pool ≡ namesBy caller list′ pool′
   k13-names (reads reader) e = reader-names reader e
   k13-names (deepens t version limit) e = value-same false t (ruleOf version) 128 limit e .asks
+  k13-names (rehearses t spans version depth limit words) e = over-names t (ruleOf version) depth limit spans e
 
 -- K13 from the other side: the names that the reading with the second table looks up
 pub k13-symmetric : (list pool list′ pool′ : List ℕ) → OneMarking list pool list′ pool′ → (caller : Caller)

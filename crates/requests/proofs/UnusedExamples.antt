@@ -1,4 +1,4 @@
--- K13's premises are met by two tables that share nothing but what a value looks up (`edited-same`); and what they ask for is needed: `lt`
+-- K13's premises are met by two tables that share nothing but what a value looks up (`edited-same`), or a job (`job-same`); and what they ask for is needed: `lt`
 -- added to an empty table is no unused definition where `&lt;` is read (`lt-appended`), and the marking has a say (`marking-has-a-say`), by
 -- computation. Assumes nothing.
 use mathlib.Core.Path.{_≡_, refl}
@@ -9,8 +9,8 @@ use Prim.Native.Nat.{ℕ, _<_}
 use native.Mathlib.Omega.{arith}
 use lib.Dec.{lit<}
 use Rattle.text.specs.Call.{Called, called, lengthCheck, utf8Check}
-use Rattle.text.specs.Utf8.{utf8End}
-use Rattle.entity.specs.Table.{declarations, tableCheck, marked}
+use Rattle.text.specs.Utf8.{utf8End, wellFormed}
+use Rattle.entity.specs.Table.{part, declarations, tableCheck, marked}
 use Rattle.entity.specs.Binding.{binding}
 use Rattle.tokens.specs.Outcome.{finished}
 use Rattle.attribute.specs.Checks.{settingsCheck}
@@ -18,7 +18,7 @@ use Rattle.attribute.specs.Walk.{normalize, readingOf}
 use Rattle.attribute.specs.Strict.{readingBy}
 use Rattle.attribute.specs.LookedUp.{lookedUp}
 use Rattle.govlezna.specs.Calls.{checkTableCall, normalizeAttributeValueCall}
-use Rattle.requests.specs.Unused.{normalizing, callWith, Caller, reads, callBy, namesBy, command1, BindAlike, OneMarking}
+use Rattle.requests.specs.Unused.{normalizing, callWith, Caller, reads, rehearses, callBy, namesBy, command1, unknownInBoth, BindAlike, OneMarking}
 use Rattle.requests.proofs.Unused.{k13-unused}
 use Rattle.requests.proofs.UnusedBytes.{k13-grown}
 
@@ -59,6 +59,19 @@ alike = (command1 (38 ∷ 102 ∷ 59 ∷ []), (command1 (120 ∷ []), tt))
 
 edited-same : callBy reader list pool ≡ callBy reader edited editedPool
 edited-same = k13-unused list pool edited editedPool one-marking reader alike
+
+-- K11: `&e;`, `&q;` and the first byte of `é` as the values of one job: e, f and q are looked up
+abbrev job : Caller
+job =
+    rehearses (38 ∷ 101 ∷ 59 ∷ 38 ∷ 113 ∷ 59 ∷ 195 ∷ 169 ∷ [])
+    (record { start = 0; length = 3 } ∷ record { start = 3; length = 3 } ∷ record { start = 6; length = 1 } ∷ []) 0 2 2 (8 ∷ [])
+
+job-alike : BindAlike list pool edited editedPool (namesBy job list pool)
+unfolding lookedUp readingBy binding wellFormed part
+job-alike = (command1 (38 ∷ 102 ∷ 59 ∷ []), (command1 (120 ∷ []), (unknownInBoth, tt)))
+
+job-same : callBy job list pool ≡ callBy job edited editedPool
+job-same = k13-unused list pool edited editedPool one-marking job job-alike
 
 -- e = `&f;`; f = `x`, and h = `z` put behind them
 abbrev front : List ℕ

@@ -12,3 +12,4 @@ pub mod Refused
 pub mod Allowed
 pub mod LeastDepths
 pub mod Declarations
+pub mod Rehearsals

@@ -4,17 +4,21 @@ use mathlib.Core.Logic.{_≢_}
 use Prim.Native.Nat.{ℕ}
 use mathlib.Core.Bool.{Bool, true, false}
 use mathlib.Core.Option.{Option, some, none}
-use mathlib.Core.List.{List, [], _∷_}
+use mathlib.Core.List.{List, [], _∷_, _++_}
 use Rattle.text.specs.Bytes.{pick, sameBytes}
+use Rattle.text.specs.Utf8.{wellFormed}
 use Rattle.text.specs.Version.{ruleOf}
 use Rattle.text.specs.Call.{Called, called}
 use Rattle.entity.specs.Table.{Declaration, nameOf, declarations, marked}
 use Rattle.entity.specs.Binding.{Bound, text, predefined, external, unknown, bodyBound, binding}
 use Rattle.tokens.specs.Lookups.{Each}
 use Rattle.unescape.specs.LookedUpInText.{lookedUpInText}
+use Rattle.attribute.specs.Walk.{Settings}
 use Rattle.attribute.specs.Strict.{readingBy}
 use Rattle.attribute.specs.LookedUp.{lookedUp}
-use Rattle.govlezna.specs.Calls.{checkTableCall, unescapeCall, normalizeAttributeValueCall, canonicalFormCall, normalizeAttributeValueStrictCall, canonicalFormStrictCall, normalizeNmtokensCall, leastDepthCall}
+use Rattle.walk_rehearsal.specs.declared.Span.{Span}
+use Rattle.walk_rehearsal.specs.Rehearsal.{bytesOf}
+use Rattle.govlezna.specs.Calls.{checkTableCall, unescapeCall, normalizeAttributeValueCall, canonicalFormCall, normalizeAttributeValueStrictCall, canonicalFormStrictCall, normalizeNmtokensCall, leastDepthCall, rehearseCall}
 
 -- ---- readings
 
@@ -41,19 +45,27 @@ namesWith (forming strict t version depth limit scratch out) list pool = lookedU
 namesWith (listing t version depth limit scratch out) list pool = lookedUp (readingBy false (ruleOf version) list pool limit) depth t
 namesWith (unescaping t out) list pool = lookedUpInText (binding list pool) t
 
--- K13, K14: a reading, or the search for the depth that it needs
+-- K13, K11: the names of a job are those of its values, each by itself, where it is UTF-8
+abbrev pub namesOver : Settings → ℕ → List ℕ → List Span → List (List ℕ)
+namesOver s depth t [] = []
+namesOver s depth t (x ∷ xs) = pick (wellFormed (bytesOf t x)) (lookedUp s depth (bytesOf t x)) [] ++ namesOver s depth t xs
+
+-- K13, K14, K11: a reading, the search for the depth that it needs, or the rehearsal of a job
 pub data Caller : Type 0 where
   reads : Reader → Caller
   deepens : (t : List ℕ) (version limit : ℕ) → Caller
+  rehearses : (t : List ℕ) (spans : List Span) (version depth limit : ℕ) (report : List ℕ) → Caller
 
 abbrev pub callBy : Caller → List ℕ → List ℕ → Called
 callBy (reads reader) list pool = callWith reader list pool
 callBy (deepens t version limit) list pool = leastDepthCall t version limit list pool
+callBy (rehearses t spans version depth limit report) list pool = rehearseCall t spans version depth limit list pool report
 
 -- K13, K14: the names of the least depth are those of depth 128
 abbrev pub namesBy : Caller → List ℕ → List ℕ → List (List ℕ)
 namesBy (reads reader) list pool = namesWith reader list pool
 namesBy (deepens t version limit) list pool = lookedUp (readingBy false (ruleOf version) list pool limit) 128 t
+namesBy (rehearses t spans version depth limit report) list pool = namesOver (readingBy false (ruleOf version) list pool limit) depth t spans
 
 -- ---- two tables
 
