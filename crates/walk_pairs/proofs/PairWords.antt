@@ -18,14 +18,14 @@ use Rattle.tokens.proofs.Openings.{openingsOf}
 use Rattle.attribute.specs.Walk.{Settings, walk}
 use Rattle.memory.proofs.Levels.{Brief}
 use Rattle.walk_pairs.specs.Forecast.{Sum, sized, fails, summary, relimit, pairAt, firstWord, secondWord, bodyWords, rowFrom, allRows}
-use Rattle.walk_pairs.specs.PairSums.{fromWords, bodyAt}
+use Rattle.walk_pairs.specs.PairSums.{fromWords, nthBody}
 use Rattle.walk_pairs.proofs.HeldCounts.{Held, held-walk}
 
 -- ---- two words hold a pair
 
 abbrev Fits : Sum → Type 0
 Fits (sized l k) = (l < 9223372036854775808) × (k ≤ 1000000)
-Fits (fails why k) = (k ≤ 1000000) × (eqb why 17 ≡ true → k ≡ 1000000)
+Fits (fails why k) = (k ≤ 1000000) × (eqb why 17 ≡ true → k ≡ 1000000) × (why ≤ 27)
 
 -- a pair from its words, by the tests of `fromWords`
 abbrev told : ℕ → ℕ → Sum
@@ -68,7 +68,19 @@ second-small (fails why k) h = go (eqb why 17)
     go true = omega arith
     go false = omega (arith, h .0)
 
--- so no sum with the openings of a pair overflows
+first-small : (p : Sum) → Fits p → firstWord p ≤ 9223372036854775835
+unfolding firstWord
+first-small (sized l k) h = omega (arith, h .0)
+first-small (fails why k) h = go (eqb why 17)
+  where
+    go : (t : Bool) → pick t 0 (9223372036854775808 + why) ≤ 9223372036854775835
+    go true = omega arith
+    go false = omega (arith, h .2)
+
+-- so no number of a pair is too large for its word, nor a sum of openings with it
+pub pair-first : (s : Settings) → Brief (relimit s 1000000) → (depth : ℕ) (t : List ℕ) → length t ≤ 65535 → firstWord (pairAt s depth t) ≤ 9223372036854775835
+pair-first s brief depth t le = first-small (pairAt s depth t) (pair-fits s brief depth t le)
+
 pub pair-second : (s : Settings) → Brief (relimit s 1000000) → (depth : ℕ) (t : List ℕ) → length t ≤ 65535 → secondWord (pairAt s depth t) ≤ 1000001
 pair-second s brief depth t le = second-small (pairAt s depth t) (pair-fits s brief depth t le)
 
@@ -135,7 +147,7 @@ module _ (s : Settings) (pool : List ℕ) where
 
     -- K6: a definition's word at a depth, by its position
     pub rows-word : (ds : List Declaration) (n d k : ℕ) → n < length ds → d ≤ top → k < 2
-        → getD (allRows s pool top ds) (n * width + (2 * d + k)) 0 ≡ getD (bodyWords s pool d (bodyAt ds n)) k 0
+        → getD (allRows s pool top ds) (n * width + (2 * d + k)) 0 ≡ getD (bodyWords s pool d (nthBody ds n)) k 0
     unfolding allRows
     rows-word [] n d k l le h = absurd (omega (arith, l))
     rows-word (x ∷ ds) zero d k l le h =
@@ -155,7 +167,7 @@ module _ (s : Settings) (pool : List ℕ) where
     -- all words of a definition
     abbrev pub Words : List Declaration → List ℕ → Type 0
     Words ds w =
-        (n d k : ℕ) → n < length ds → d ≤ top → k < 2 → getD w (n * width + (2 * d + k)) 0 ≡ getD (bodyWords s pool d (bodyAt ds n)) k 0
+        (n d k : ℕ) → n < length ds → d ≤ top → k < 2 → getD w (n * width + (2 * d + k)) 0 ≡ getD (bodyWords s pool d (nthBody ds n)) k 0
 
     row-is : (b : Body) (w : List ℕ) → width ≤ length w → ((d k : ℕ) → d ≤ top → k < 2 → getD w (2 * d + k) 0 ≡ getD (bodyWords s pool d b) k 0)
         → take width w ≡ row b

@@ -18,7 +18,7 @@ unfoldable pub fromWords : ℕ → ℕ → Sum
 fromWords a b = pick (eqb b 1000001) (fails 17 1000000) (pick (leb 9223372036854775808 a) (fails (a - 9223372036854775808) b) (sized a b))
 
 -- what the definition with so many before it gives its name
-abbrev pub bodyAt : List Declaration → ℕ → Body
-bodyAt [] k = outside
-bodyAt (d ∷ ds) zero = d .body
-bodyAt (d ∷ ds) (suc k) = bodyAt ds k
+abbrev pub nthBody : List Declaration → ℕ → Body
+nthBody [] k = outside
+nthBody (d ∷ ds) zero = d .body
+nthBody (d ∷ ds) (suc k) = nthBody ds k
