@@ -33,9 +33,10 @@ const INDEX: Faults = &[
     ),
 ];
 
-/// An index is made in texts and for lists of so many bytes, where references have passed four times the list.
+/// An index is made in texts and for lists of so many bytes, where references have passed four times the list. Of the other families'
+/// tables those with duplicates are shorter.
 const LEAST_TEXT: usize = 1024;
-const LEAST_LIST: usize = 192;
+const LEAST_LIST: usize = 3072;
 const PATIENCE: usize = 4;
 /// A name may stand at its home or after it, in so many slots.
 const REACH: usize = 16;
