@@ -13,7 +13,7 @@ ghost use Rattle.charref.specs.CharRef.{encode};
 ghost use Rattle.eols.specs.Stops.{ruleFor};
 ghost use Rattle.canonical.specs.Canonical.{canonical};
 ghost use Rattle.legal.specs.FirstFault.{FirstFault};
-ghost use Rattle.halts.specs.Halts.{halts, HaltAt, blanksSpaced};
+ghost use Rattle.halts.specs.Halts.{halts, Smooth, HaltAt, blanksSpaced};
 ghost use Rattle.entity.specs.Table.{ValidTable};
 ghost use Rattle.attribute.specs.Steps.{headsBy, faultBy, Blank};
 ghost use Rattle.memory.specs.Slots.{shaped, Trusts};
@@ -231,7 +231,7 @@ fn read_reference(text: &[u8], at: usize, rule: u8) -> Meaning
             };
         }
     }
-    let end = tokens::name_end(text, from, false);
+    let end = name_ends::outer_end(text, from);
     if end == text.len() {
         return Meaning::Refused {
             number: refusals::UNTERMINATED_ENTITY,
@@ -264,6 +264,17 @@ pub fn run_fault(text: &[u8], from: usize, to: usize, guard: u8) -> usize
     legal::first_fault(text, from, to, guard - 1)
 }
 
+// Is there no halt in a text? Many texts of a table have 8 to 15 bytes, of which two words tell.
+fn is_smooth(text: &[u8], newer: bool) -> bool
+    ensures { λ r. ⌜ (r ≡ true → Smooth newer (now (text .entry)) 0 (length (now (text .entry)))) ⌝ }
+{
+    let n = text.len();
+    if (8 <= n) & (n < 16) & !newer {
+        return halts::clear_short(text);
+    }
+    halts::next_halt(text, 0, newer) == n
+}
+
 // Is it a short text without halts, in which every character may stand? It is copied where it is referred to, and needs no opening of
 // its own.
 fn is_leaf(text: &[u8], newer: bool, guard: u8) -> bool
@@ -273,7 +284,7 @@ fn is_leaf(text: &[u8], newer: bool, guard: u8) -> bool
     if 64 < n {
         return false;
     }
-    if halts::next_halt(text, 0, newer) != n {
+    if !is_smooth(text, newer) {
         return false;
     }
     run_fault(text, 0, n, guard) == n

@@ -341,7 +341,7 @@ fn clear_wide(text: &[u8]) -> usize
 }
 
 // Is there no halt in a text of 8 to 16 bytes? Its first and its last eight, which may overlap.
-fn clear_short(text: &[u8]) -> bool
+pub fn clear_short(text: &[u8]) -> bool
     requires { ⌜ (8 ≤ length (now text)) × (length (now text) ≤ 16) ⌝ }
     ensures { λ r. ⌜ (r ≡ true → Smooth false (now (text .entry)) 0 (length (now (text .entry)))) ⌝ }
 {

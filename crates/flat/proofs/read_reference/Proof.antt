@@ -10,23 +10,23 @@ use Rattle.flat.proofs.read_reference.Statement.{statement}
 use Rattle.flat.proofs.read_reference.Tie as tie
 
 -- places: the entry, seen from the name's end, and the name's end, seen from where the `;` is found
-abbrev entry : tie.After-name-end → tie.Start
+abbrev entry : tie.After-outer-end → tie.Start
 entry c = c .before .before .before .before
 
-abbrev ended : tie.After-shared-slice-known2 → tie.After-name-end
+abbrev ended : tie.After-shared-slice-known2 → tie.After-outer-end
 ended c = c .before .before
 
 -- the name ends at a `;`
-closed : (c : tie.After-shared-slice-known2) → ended c .name-end .result < length (entry (ended c) .args .text .now)
-closed c = omega (arith, ended c .name-end .ensures .to, c .before .if3 .left)
+closed : (c : tie.After-shared-slice-known2) → ended c .outer-end .result < length (entry (ended c) .args .text .now)
+closed c = omega (arith, ended c .outer-end .ensures .to, c .before .if3 .left)
 
 -- the digits start inside, when the name starts with `#`
 digits-inside : (c : tie.After-shared-slice-known2) → getD (entry (ended c) .args .text .now) (entry (ended c) .args .at + 1) 0 ≡ 35
-    → entry (ended c) .args .at + 1 + 1 ≤ ended c .name-end .result
+    → entry (ended c) .args .at + 1 + 1 ≤ ended c .outer-end .result
 digits-inside c hash =
     let end = ended c in
     let a = entry end .args in
-    past-hash (a .text .now) (a .at + 1) (end .name-end .result) (end .name-end .ensures) (closed c) hash
+    past-hash (a .text .now) (a .at + 1) (end .outer-end .result) (end .outer-end .ensures) (closed c) hash
 
 add-from : tie.Need-add-from
 add-from c = search needs
@@ -53,14 +53,14 @@ returns c =
     means-quick (start .args .rule) (start .args .text .now) (start .args .at) (start .pre .2) (quick .quick-reference .result) (found .1) (found .2)
     (rw (c .before .if2 .taken) at (asked .is-allowed .ensures))
 
-name-end-requires : tie.Need-name-end-requires
-name-end-requires c κs = search needs
+outer-end-requires : tie.Need-outer-end-requires
+outer-end-requires c κs = search needs
 
 returns-2 : tie.Need-returns-2
 returns-2 c =
     let end = c .before in
     let start = entry end in
-    means-none (start .args .rule) (start .args .text .now) (start .args .at) (start .pre .2) (end .name-end .ensures) (c .if3 .taken)
+    means-none (start .args .rule) (start .args .text .now) (start .args .at) (start .pre .2) (end .outer-end .ensures) (c .if3 .taken)
 
 shared-slice-read-if4 : tie.Need-shared-slice-read-if4
 shared-slice-read-if4 c = search needs
@@ -88,7 +88,7 @@ returns-3 c =
     let known = c .before .before .before in
     let end = ended known in
     let start = entry end in
-    means-number (start .args .rule) (start .args .text .now) (start .args .at) (start .pre .2) (end .name-end .ensures) (closed known) (c .before .before .if4 .taken)
+    means-number (start .args .rule) (start .args .text .now) (start .args .at) (start .pre .2) (end .outer-end .ensures) (closed known) (c .before .before .if4 .taken)
     (c .number-meaning .result) (c .number-meaning .ensures)
 
 sub-is-three : tie.Need-sub-is-three
@@ -111,7 +111,7 @@ returns-4 c =
     let known = c .before .before .before .before in
     let end = ended known in
     let start = entry end in
-    means-amp (start .args .rule) (start .args .text .now) (start .args .at) (start .pre .2) (end .name-end .ensures) (closed known) (c .before .before .before .if4 .left)
+    means-amp (start .args .rule) (start .args .text .now) (start .args .at) (start .pre .2) (end .outer-end .ensures) (closed known) (c .before .before .before .if4 .left)
     (sym (c .before .is-three .ensures) ∙ c .if5 .taken)
 
 returns-5 : tie.Need-returns-5
@@ -119,7 +119,7 @@ returns-5 c =
     let known = c .before .before .before .before in
     let end = ended known in
     let start = entry end in
-    means-name (start .args .rule) (start .args .text .now) (start .args .at) (start .pre .2) (end .name-end .ensures) (closed known) (c .before .before .before .if4 .left)
+    means-name (start .args .rule) (start .args .text .now) (start .args .at) (start .pre .2) (end .outer-end .ensures) (closed known) (c .before .before .before .if4 .left)
     (sym (c .before .is-three .ensures) ∙ c .if5 .left)
 
 pub read-reference-spec : {M : Type 1} → statement M
@@ -131,7 +131,7 @@ read-reference-spec =
     is-allowed-requires
     add-t10
     returns
-    name-end-requires
+    outer-end-requires
     returns-2
     shared-slice-read-if4
     add-number-meaning
