@@ -1,6 +1,7 @@
 -- K6's words: a pair is what its two words say (`words-give-back`); how many there are (`rows-length`), each by its position (`rows-word`), and
 -- a buffer that has each at its position is the buffer of the definition (`rows-laid`). Assumes nothing.
 use mathlib.Core.Path.{_≡_, refl, ap, ap₂, sym, _∙_, subst}
+use mathlib.Core.Logic.{_≢_}
 use Prim.Native.Nat.{ℕ, zero, suc, _+_, _-_, _*_, _≤_, _<_}
 use native.Mathlib.Omega.{arith}
 use native.Mathlib.Nat.{add-zero, zero-add, zero-mul, suc-mul}
@@ -9,7 +10,7 @@ use mathlib.Core.List.{List, [], _∷_, _++_}
 use lib.ListN.{length, getD, take, drop, length-append, length-take, length-drop, take-append-drop, List·getD-append}
 use lib.Seq.{ext-getD, getD-take, getD-drop, getD-append-add, length-take-le, take-add}
 use lib.Dec.{eqb, leb}
-use borrow.Author.Tests.{eqb-true, ne-eqb, le-leb, lt-leb}
+use borrow.Author.Tests.{eqb-true, eqb-false, ne-eqb, le-leb, lt-leb}
 use Rattle.text.specs.Bytes.{pick}
 use Rattle.text.specs.Call.{laid}
 use Rattle.entity.specs.Table.{Body, inside, outside, Declaration}
@@ -76,6 +77,19 @@ first-small (fails why k) h = go (eqb why 17)
     go : (t : Bool) → pick t 0 (9223372036854775808 + why) ≤ 9223372036854775835
     go true = omega arith
     go false = omega (arith, h .2)
+
+first-other : (p : Sum) → Fits p → firstWord p ≢ 9223372036854775825
+unfolding firstWord
+first-other (sized l k) h = λ e. omega (arith, h .0, e)
+first-other (fails why k) h = go (eqb why 17) refl
+  where
+    go : (t : Bool) → eqb why 17 ≡ t → pick t 0 (9223372036854775808 + why) ≢ 9223372036854775825
+    go true q = λ e. omega (arith, e)
+    go false q = λ e. eqb-false why 17 q (omega (arith, e))
+
+-- 17 is no refusal of a pair
+pub pair-other : (s : Settings) → Brief (relimit s 1000000) → (depth : ℕ) (t : List ℕ) → length t ≤ 65535 → firstWord (pairAt s depth t) ≢ 9223372036854775825
+pair-other s brief depth t le = first-other (pairAt s depth t) (pair-fits s brief depth t le)
 
 -- so no number of a pair is too large for its word, nor a sum of openings with it
 pub pair-first : (s : Settings) → Brief (relimit s 1000000) → (depth : ℕ) (t : List ℕ) → length t ≤ 65535 → firstWord (pairAt s depth t) ≤ 9223372036854775835

@@ -1,0 +1,4 @@
+pub mod Standing
+pub mod Seeking
+pub mod Adding
+pub mod Surveying
