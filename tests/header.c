@@ -95,7 +95,7 @@ static void least_depths(void)
 }
 
 /* The text `a&e;&b;` with these spans, and a report that held other numbers. */
-static uint32_t rehearse(const struct govlezna_span *spans, size_t count, uint64_t limit, uint64_t report[29])
+static uint32_t rehearse_job(const struct govlezna_span *spans, size_t count, uint64_t limit, uint64_t report[29])
 {
     for (size_t i = 0; i < 29; i++)
         report[i] = UNTOUCHED;
@@ -118,17 +118,17 @@ static void rehearsals(void)
     static const struct govlezna_span wrapped[] = { { 1, UINT64_MAX }, { 8, 0 } };
     static struct govlezna_span many[65537];
     uint64_t report[29];
-    expect(__LINE__, rehearse(job, 3, 10, report), 0, 0, 0);
+    expect(__LINE__, rehearse_job(job, 3, 10, report), 0, 0, 0);
     expect_report(__LINE__, report, 2, 1, 5, 0);
-    expect(__LINE__, rehearse(NULL, 0, 10, report), 0, 0, 0);
+    expect(__LINE__, rehearse_job(NULL, 0, 10, report), 0, 0, 0);
     expect_report(__LINE__, report, 0, 0, 0, 0);
-    expect(__LINE__, rehearse(many, 65536, 10, report), 0, 0, 0);
+    expect(__LINE__, rehearse_job(many, 65536, 10, report), 0, 0, 0);
     expect_report(__LINE__, report, 65536, 0, 0, 0);
-    expect(__LINE__, rehearse(outside, 3, 10, report), GOVLEZNA_SPAN_OUTSIDE, 2, 0);
-    expect(__LINE__, rehearse(wrapped, 2, 10, report), GOVLEZNA_SPAN_OUTSIDE, 0, 0);
+    expect(__LINE__, rehearse_job(outside, 3, 10, report), GOVLEZNA_SPAN_OUTSIDE, 2, 0);
+    expect(__LINE__, rehearse_job(wrapped, 2, 10, report), GOVLEZNA_SPAN_OUTSIDE, 0, 0);
     many[0].start = 8;
-    expect(__LINE__, rehearse(many, 65537, 10, report), GOVLEZNA_SPAN_OUTSIDE, 65536, 0);
-    expect(__LINE__, rehearse(outside, 3, 1000001, report), GOVLEZNA_LIMIT_TOO_LARGE, 0, 0);
+    expect(__LINE__, rehearse_job(many, 65537, 10, report), GOVLEZNA_SPAN_OUTSIDE, 65536, 0);
+    expect(__LINE__, rehearse_job(outside, 3, 1000001, report), GOVLEZNA_LIMIT_TOO_LARGE, 0, 0);
     expect_report(__LINE__, report, UNTOUCHED, UNTOUCHED, UNTOUCHED, UNTOUCHED);
 }
 
