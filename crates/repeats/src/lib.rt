@@ -1,6 +1,7 @@
 // Does a form of a register repeat? A table of fingerprints is asked for each form, and takes it up. Where it has a form's fingerprint, or no
 // place for it, the bytes before the form are looked through: so a full table, a crowded place and equal hashes cost time and nothing else.
 // Big registers are looked through once for each class of hashes, so that the table has room for the forms of a class.
+#![tactic(auto)]
 ghost use Rattle.std.specs.Prelude.{◌≡◌, ◌+◌, ◌-◌, ◌/◌, ◌<◌, ◌≤◌, not, length, take};
 ghost use Rattle.register.specs.Entries.{absent, distinct};
 ghost use Rattle.register.specs.Stored.{u32_at};

@@ -2,6 +2,7 @@
 // One result to a line, as `check_utf8 TEXT = NUMBER FIRST SECOND`: the call, its arguments, and
 // what was answered. Fields stand between single spaces, bytes in lower-case hexadecimal, `-` for
 // none, and numbers in decimal. An empty line, or one that starts with `#`, is passed over.
+#![tactic(auto)]
 mod answers;
 mod calls;
 mod cdata;

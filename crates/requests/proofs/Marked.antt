@@ -14,7 +14,7 @@ use Rattle.text.proofs.Bytes.{or_left, or_right}
 use Rattle.entity.specs.Table.{marked, table_check}
 use Rattle.entity.specs.Binding.{Bound, text, external, predefined, unknown}
 use Rattle.legal.specs.Legal.{Place, in_value}
-use Rattle.tokens.specs.Tokens.{Stop, named, stop, copy, Token, Head, Heads, token_of, skip_of, tokens}
+use Rattle.tokens.specs.Tokens.{Stop, named, stop, copy, barred, Token, Head, Heads, token_of, skip_of, tokens}
 use Rattle.tokens.specs.Outcome.{Outcome, done, refused, prepend, followed, run, produced, finished}
 use Rattle.halts.specs.Halts.{any_stop, stop_byte}
 use Rattle.halts.proofs.Smooth.{none_plain}
@@ -71,6 +71,7 @@ stop_run : (x : Token) (ts : List Token) (n : ℕ) → IsStop x → Exhausts (ru
 unfolding run exhausted
 stop_run (copy b) ts n p = absurd p
 stop_run (stop x) ts n p = record { before = []; is = refl }
+stop_run (barred x) ts n p = elim p [ ]
 
 exhausted_run : (u : List ℕ) (offset n : ℕ) → any_stop (stop_byte false) u ≡ true → Exhausts (run exhausted (tokens past_head offset 0 u) n) n
 unfolding run tokens

@@ -1,6 +1,7 @@
 // The least depth of a value (K14), and with it what is known of a text at every depth: the least depth that is enough for it, its length and
 // its openings. `least_depth` calls itself on a replacement text, a part of the pool, the allowance falling. Between two openings it is the
 // walk's own code (`normalize_flat`), which passes by itself what the depth so far is enough for.
+#![tactic(auto)]
 ghost use Rattle.std.specs.Prelude.{◌≡◌, true, List, ℕ, ◌+◌, ◌≤◌, ◌<◌, max, eqb, length};
 ghost use Rattle.text.specs.Version.{rule_of};
 ghost use Rattle.text.specs.Simple.{Simple};
