@@ -11,7 +11,7 @@ use text::load;
 
 // What a name refers to: a command 1 of the table with its text's start and end in the pool, a predefined byte, an external entity,
 // or nothing.
-#[derive(Drop)]
+#[derive(Clone, Copy)]
 pub enum Referent {
     Text {
         command: usize,

@@ -11,7 +11,7 @@ ghost use Rattle.escape.specs.Scan.{escaped_by, reference_by, tab_added, added_b
 use text::{Answer, refusals};
 
 // The characters that are escaped besides `<`, `&` and CR: LF and TAB, `'`, `"`, `>`; and whether TAB, LF and CR get hexadecimal numbers.
-#[derive(Drop)]
+#[derive(Clone, Copy)]
 pub struct EscapeChars {
     pub blanks: bool,
     pub apos: bool,

@@ -19,7 +19,7 @@ use entity::{Binding, Referent};
 // which characters may stand in it and in these (0 all, else the rule of that number less one of crate legal), what is written of its value
 // (0 the value itself, 1 its canonical form under XML 1.0, 2 under XML 1.1), its depth, the opening limit, and where what is written starts
 // in all that the call writes. The bytes stand together: every level has copies of it on the stack.
-#[derive(Drop)]
+#[derive(Clone, Copy)]
 pub struct Reading {
     pub how: u8,
     pub inner: u8,

@@ -11,7 +11,7 @@ use text::{Answer, refusals, simple, validate};
 
 // Where a value stands in the text of a job.
 #[repr(C)]
-#[derive(Drop)]
+#[derive(Clone, Copy)]
 pub struct Span {
     pub start: u64,
     pub length: u64,
