@@ -32,7 +32,7 @@ pub struct Reading {
 }
 
 // Where a level stands: the offset in its text, the length of its value so far, and the openings that the whole walk has made.
-#[derive(Drop)]
+#[derive(Clone, Copy)]
 pub struct Place {
     pub at: usize,
     pub len: usize,

@@ -16,7 +16,7 @@ pub struct Part {
 // Where the next piece starts, and whether the last one was handed over: any number but 0 says so.
 // Two words, so that no byte of a cursor is padding, which a store would write and no equation name.
 #[repr(C)]
-#[derive(Drop)]
+#[derive(Clone, Copy)]
 pub struct Cursor {
     pub offset: u64,
     pub finished: u64,
