@@ -1,0 +1,17 @@
+-- `any_changed_16` tests 16 bytes with no branch (`Missed`): where nothing hit, none of them is changed. Assumes nothing.
+use Prim.Native.Nat.{ℕ, ◌+◌, ◌-◌}
+use lib.ListN.{get_or}
+use Rattle.text.proofs.Missed.{Missed, missed_start, missed_more, missed_all}
+use Rattle.output.proofs.Runs.{plain_of}
+use Rattle.canonical.specs.Runs.{changed_by}
+use borrow.Author.Rules.{rules}
+use Rattle.canonical.proofs.any_changed_16.Goals as goal
+
+pub loop-k-init : goal.loop-k-init
+loop-k-init c = missed_start _ 16
+
+pub loop-k-preserved : goal.loop-k-preserved
+loop-k-preserved c = missed_more _ c.loop-k.invariant c.loop-k-test.true c.is_changed-any.ensures
+
+pub returns : goal.returns
+returns c = λ e. plain_of _ _ _ 16 c.requires (missed_all _ c.loop-k.invariant c.loop-k-test.false e)

@@ -1,0 +1,13 @@
+use Prim.Native.Nat.{ℕ, ◌+◌, ◌-◌}
+use lib.ListN.{get_or}
+use Rattle.text.proofs.Missed.{Missed, missed_start, missed_more, missed_all}
+use Rattle.output.proofs.Runs.{plain_of}
+use Rattle.canonical.specs.Runs.{changed_by}
+use borrow.Author.Rules.{rules}
+use Rattle.canonical.proofs.any_changed_16.Given as goal
+
+abbrev pub invariant-loop-k : goal.invariant-loop-k
+invariant-loop-k l = Missed (λ (m : ℕ). changed_by l.newer (get_or l.run (l.i + m) 0)) 16 l.any l.k
+
+abbrev pub decreases-loop-k : goal.decreases-loop-k
+decreases-loop-k l = 16 - l.k

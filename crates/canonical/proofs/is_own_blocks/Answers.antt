@@ -1,0 +1,40 @@
+-- `is_own_blocks`: no byte before i is changed; the last block starts before i where the run is no multiple of 16. Assumes nothing.
+use mathlib.Core.Path.{sym}
+use mathlib.Core.Bool.{true≢false}
+use Prim.Native.Nat.{◌-◌, zero-le}
+use native.Mathlib.Omega.{arith}
+use lib.ListN.{length}
+use Rattle.output.specs.Runs.{Plain}
+use Rattle.output.proofs.Runs.{plain_none}
+use Rattle.canonical.specs.Runs.{changed_by}
+use Rattle.canonical.proofs.Own.{block_more, block_last}
+use Rattle.canonical.proofs.is_own_blocks.Goals as goal
+
+pub overflow_sub-last : goal.overflow_sub-last
+overflow_sub-last c = c.requires
+
+pub loop-newer-init : goal.loop-newer-init
+loop-newer-init c = plain_none _ _ 0 zero-le
+
+pub least-requires : goal.least-requires
+least-requires c = tt
+
+pub any_changed_16-requires : goal.any_changed_16-requires
+any_changed_16-requires c = omega (arith, c.least.ensures, c.requires)
+
+pub returns-then-any_changed_16 : goal.returns-then-any_changed_16
+returns-then-any_changed_16 c = λ e. absurd (true≢false (sym e))
+
+pub returns-then-last-i : goal.returns-then-last-i
+returns-then-last-i c =
+    λ e. block_last 16 c.loop-newer.invariant c.least.ensures (c.any_changed_16.ensures c.if-any_changed_16.false) c.if-last-i.true
+
+pub overflow_add-i : goal.overflow_add-i
+overflow_add-i c = omega (arith, c.if-last-i.false)
+
+pub loop-newer-smaller : goal.loop-newer-smaller
+loop-newer-smaller c = omega (arith, c.if-last-i.false)
+
+pub loop-newer-preserved : goal.loop-newer-preserved
+loop-newer-preserved c =
+    block_more 16 c.loop-newer.invariant c.least.ensures (c.any_changed_16.ensures c.if-any_changed_16.false) c.if-last-i.false

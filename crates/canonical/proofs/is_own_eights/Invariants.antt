@@ -1,0 +1,16 @@
+use mathlib.Core.Path.{sym}
+use mathlib.Core.Bool.{true≢false}
+use Prim.Native.Nat.{◌-◌, zero-le}
+use native.Mathlib.Omega.{arith}
+use lib.ListN.{length}
+use Rattle.output.specs.Runs.{Plain}
+use Rattle.output.proofs.Runs.{plain_none}
+use Rattle.canonical.specs.Runs.{changed_by}
+use Rattle.canonical.proofs.Own.{block_more, block_last}
+use Rattle.canonical.proofs.is_own_eights.Given as goal
+
+abbrev pub invariant-loop-newer : goal.invariant-loop-newer
+invariant-loop-newer l = Plain (changed_by l.newer) l.run 0 l.i
+
+abbrev pub decreases-loop-newer : goal.decreases-loop-newer
+decreases-loop-newer l = length l.run - l.i

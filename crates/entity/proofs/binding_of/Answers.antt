@@ -1,0 +1,16 @@
+-- `binding_of` is a referent without the command, case by case (`refers_resolved`).
+use Rattle.entity.proofs.Referents.{refers_resolved}
+use borrow.Author.Rules.{rules}
+use Rattle.entity.proofs.binding_of.Goals as goal
+
+pub returns-in-Text : goal.returns-in-Text
+returns-in-Text c = λ list pool name k. refers_resolved list pool name c.args.referent k c.in-Text.is
+
+pub returns-in-Predefined : goal.returns-in-Predefined
+returns-in-Predefined c = λ list pool name k. refers_resolved list pool name c.args.referent k c.in-Predefined.is
+
+pub returns-in-External : goal.returns-in-External
+returns-in-External c = λ list pool name k. refers_resolved list pool name c.args.referent k c.in-External.is
+
+pub returns-in-Unknown : goal.returns-in-Unknown
+returns-in-Unknown c = λ list pool name k. refers_resolved list pool name c.args.referent k c.in-Unknown.is

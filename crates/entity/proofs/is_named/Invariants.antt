@@ -1,0 +1,15 @@
+use mathlib.Core.Path.{◌≡◌, sym}
+use native.Mathlib.Omega.{arith}
+use borrow.Author.Rules.{rules}
+use lib.ListN.{length}
+use Prim.Native.Nat.{◌+◌, ◌-◌, ◌≤◌}
+use Rattle.entity.specs.Table.{little_endian}
+use Rattle.entity.specs.Steps.{Agree}
+use Rattle.entity.proofs.Lookup.{agree_more, same_all, differ_length, differ_at, same_part}
+use Rattle.entity.proofs.is_named.Given as goal
+
+abbrev pub invariant-loop-i : goal.invariant-loop-i
+invariant-loop-i l = Agree l.pool l.start l.name l.i
+
+abbrev pub decreases-loop-i : goal.decreases-loop-i
+decreases-loop-i l = length l.name - l.i

@@ -1,0 +1,27 @@
+-- `added_part` meets its contract: after k turns the sum is that of k bytes, each at most 5. Assumes nothing.
+use Rattle.escape.proofs.Levels.{added_most, count_next}
+use mathlib.Core.Path.{◌≡◌}
+use Prim.Native.Nat.{◌+◌, ◌*◌, ◌-◌, ◌≤◌}
+use native.Mathlib.Omega.{arith}
+use lib.ListN.{length, take, drop, get_or}
+use Rattle.escape.specs.Escape.{write}
+use Rattle.escape.specs.Scan.{chars_set}
+use borrow.Author.Rules.{rules}
+use Rattle.escape.proofs.added_part.Goals as goal
+
+pub overflow_add-n : goal.overflow_add-n
+overflow_add-n c =
+    let given = c.args in
+    omega (arith, c.added-n.ensures, added_most given.chars (get_or given.text.now (given.i + c.loop-k.k) 0))
+
+pub loop-k-preserved : goal.loop-k-preserved
+loop-k-preserved c =
+    let a = c.args in
+    (
+      omega arith,
+      count_next a.chars a.text.now a.i c.loop-k.k c.loop-k.n c.added-n.result (omega arith) c.loop-k.invariant.1 c.added-n.ensures,
+      omega (arith, c.added-n.ensures, added_most a.chars (get_or a.text.now (a.i + c.loop-k.k) 0)),
+    )
+
+pub returns : goal.returns
+returns c = let q : c.loop-k.k ≡ c.args.count = omega arith in rw q at c.loop-k.invariant.1

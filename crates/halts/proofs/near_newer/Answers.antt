@@ -1,0 +1,65 @@
+-- `near_newer`: the first k bytes have no suspect. `&` and CR are halts; at a byte above ASCII, and past the 16, the search goes on by blocks.
+-- Assumes nothing.
+use mathlib.Core.Path.{◌≡◌, sym}
+use mathlib.Core.Bool.{true}
+use native.Mathlib.Omega.{arith}
+use Prim.Native.Nat.{◌+◌, ◌-◌}
+use lib.ListN.{get_or}
+use mathlib.Core.Logic.{⊎_elim}
+use Rattle.halts.specs.Halts.{suspect_byte}
+use Rattle.halts.proofs.Smooth.{InBlock, in_block_none, in_block_next, suspects_smooth, halt_join, newer_amp_cr, ascii_unsuspected, middle_unsuspected}
+use Rattle.halts.proofs.near_newer.Goals as goal
+
+pub loop-k-init : goal.loop-k-init
+loop-k-init c = in_block_none (suspect_byte true) c.args.text.now c.args.from c.requires
+
+pub overflow_add-b : goal.overflow_add-b
+overflow_add-b c = omega (arith, c.requires, c.loop-k-test.true)
+
+pub bounds-text-from : goal.bounds-text-from
+bounds-text-from c = omega (arith, c.requires, c.loop-k-test.true)
+
+pub overflow_add-result : goal.overflow_add-result
+overflow_add-result c = omega (arith, c.requires, c.loop-k-test.true)
+
+pub returns-then-b-2 : goal.returns-then-b-2
+returns-then-b-2 c =
+    let given = c.args in
+    record {
+      smooth = suspects_smooth true c.loop-k.invariant.run;
+      ends = λ h. sym (newer_amp_cr given.text.now (given.from + c.loop-k.k) h c.if-b-2.true);
+    }
+
+pub overflow_add-from : goal.overflow_add-from
+overflow_add-from c = omega (arith, c.requires, c.loop-k-test.true)
+
+pub newer_halt-requires : goal.newer_halt-requires
+newer_halt-requires c = omega (arith, c.requires, c.loop-k-test.true)
+
+pub returns-then-b-gt127 : goal.returns-then-b-gt127
+returns-then-b-gt127 c =
+    halt_join (c.args.from + c.loop-k.k) (suspects_smooth true c.loop-k.invariant.run) c.newer_halt.ensures
+
+pub overflow_step-k : goal.overflow_step-k
+overflow_step-k c = omega (arith, c.loop-k-test.true)
+
+pub loop-k-smaller : goal.loop-k-smaller
+loop-k-smaller c = omega (arith, c.loop-k-test.true)
+
+pub loop-k-preserved : goal.loop-k-preserved
+loop-k-preserved c =
+    let t = c.args.text.now in
+    let b = get_or t (c.args.from + c.loop-k.k) 0 in
+    in_block_next (suspect_byte true) t c.args.from c.requires c.loop-k-test.true c.loop-k.invariant
+    (⊎_elim (λ w. ascii_unsuspected b w.1.left w.2.left) (λ w. middle_unsuspected b w.left) c.if-b.branch)
+
+pub overflow_add-from-2 : goal.overflow_add-from-2
+overflow_add-from-2 c = omega (arith, c.requires)
+
+pub newer_halt-requires-2 : goal.newer_halt-requires-2
+newer_halt-requires-2 c = c.requires
+
+pub returns : goal.returns
+returns c =
+    let all : c.loop-k.k ≡ 16 = omega (arith, c.loop-k.invariant.within, c.loop-k-test.false) in
+    halt_join (c.args.from + 16) (suspects_smooth true (rw all at c.loop-k.invariant.run)) c.newer_halt-2.ensures

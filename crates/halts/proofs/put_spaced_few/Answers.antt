@@ -1,0 +1,48 @@
+-- `put_spaced_few`: after k turns the first k bytes are laid, or all where there are fewer. Assumes nothing.
+use mathlib.Core.Logic.{⊎_elim}
+use native.Mathlib.Omega.{arith}
+use Prim.Native.Nat.{◌-◌, ◌≤◌, zero-le}
+use Rattle.halts.specs.Halts.{Laying}
+use Rattle.halts.proofs.Spaces.{laying_none, laying_next, laying_past, laying_all}
+use borrow.Author.Rules.{rules}
+use Rattle.halts.proofs.put_spaced_few.Goals as goal
+
+pub loop-k-init : goal.loop-k-init
+loop-k-init c =
+    let given = c.args in
+    (zero-le, laying_none given.src.now given.out.now)
+
+pub spaced_byte-requires : goal.spaced_byte-requires
+spaced_byte-requires c = tt
+
+pub bounds-out-k : goal.bounds-out-k
+bounds-out-k c =
+    omega
+    (arith, c.loop-k.invariant.1.size, c.if-k-n.true, c.requires.1)
+
+pub overflow_step-k : goal.overflow_step-k
+overflow_step-k c = omega (arith, c.loop-k-test.true)
+
+pub loop-k-smaller : goal.loop-k-smaller
+loop-k-smaller c = omega (arith, c.loop-k-test.true)
+
+pub loop-k-preserved : goal.loop-k-preserved
+loop-k-preserved c =
+    let given = c.args in
+    let src = given.src.now in
+    let old = given.out.now in
+    (
+      omega (arith, c.loop-k-test.true),
+      ⊎_elim
+          (λ w. rw w.3 (laying_next src old c.loop-k.invariant.1 (omega (arith, c.loop-k.invariant.1.size, c.requires.1)) w.0.taken w.2.ensures))
+          (λ w. rw w.1 (laying_past src old c.loop-k.invariant.1 w.0.left))
+          c.if-k-n.branch,
+    )
+
+pub shape_of-out : goal.shape_of-out
+shape_of-out c = c.loop-k.invariant.1.size
+
+pub returns : goal.returns
+returns c =
+    let given = c.args in
+    laying_all given.src.now given.out.now c.loop-k.invariant.1 (omega (arith, c.loop-k-test.false, c.requires.0))

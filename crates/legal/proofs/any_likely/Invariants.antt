@@ -1,0 +1,11 @@
+use mathlib.Core.Bool.{◌||◌}
+use native.Mathlib.Omega.{arith}
+use Prim.Native.Nat.{◌+◌, ◌-◌}
+use Rattle.legal.proofs.Clean.{Looked, looked_none, looked_four, looked_all, likely_none}
+use Rattle.legal.proofs.any_likely.Given as goal
+
+abbrev pub invariant-loop-k : goal.invariant-loop-k
+invariant-loop-k l = Looked l.text l.i (l.low || l.delete || l.two || l.three) l.k
+
+abbrev pub decreases-loop-k : goal.decreases-loop-k
+decreases-loop-k l = 16 - l.k

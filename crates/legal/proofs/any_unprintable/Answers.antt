@@ -1,0 +1,31 @@
+-- `any_unprintable`: where `hit` is not set, no byte passed begins a fault of any rule (`unprintable_none`). Assumes nothing.
+use native.Mathlib.Omega.{arith}
+use Prim.Native.Nat.{◌+◌, ◌-◌}
+use Rattle.legal.proofs.Clean.{Looked, looked_none, looked_one, looked_all, unprintable_none}
+use Rattle.legal.proofs.any_unprintable.Goals as goal
+
+pub loop-k-init : goal.loop-k-init
+loop-k-init c = looked_none c.args.text.now c.args.i c.requires
+
+pub overflow_add-b : goal.overflow_add-b
+overflow_add-b c = omega (arith, c.requires, c.loop-k-test.true)
+
+pub bounds-text-i : goal.bounds-text-i
+bounds-text-i c = omega (arith, c.requires, c.loop-k-test.true)
+
+pub overflow_step-k : goal.overflow_step-k
+overflow_step-k c = omega (arith, c.loop-k-test.true)
+
+pub loop-k-smaller : goal.loop-k-smaller
+loop-k-smaller c = omega (arith, c.loop-k-test.true)
+
+pub loop-k-preserved : goal.loop-k-preserved
+loop-k-preserved c =
+    let t = c.args.text.now in
+    let i = c.args.i in
+    let turn = c.loop-k-test.true in
+    looked_one t i c.requires c.loop-k.k turn c.loop-k.hit _
+    (unprintable_none t (i + c.loop-k.k) (omega (arith, c.requires, turn))) c.loop-k.invariant
+
+pub returns : goal.returns
+returns c = looked_all c.args.text.now c.args.i c.requires c.loop-k.invariant c.loop-k-test.false

@@ -1,0 +1,15 @@
+use Prim.Native.Nat.{◌-◌}
+use native.Mathlib.Omega.{arith}
+use lib.ListN.{length}
+use borrow.Author.Tests.{eq-eqb, ne_eqb}
+use borrow.Author.Rules.{rules}
+use Rattle.output.specs.Runs.{Plain}
+use Rattle.output.proofs.Runs.{plain_none, plain_byte, plain_join}
+use Rattle.name_ends.specs.OneByte.{is_byte}
+use Rattle.name_ends.proofs.bytes_to.Given as goal
+
+abbrev pub invariant-loop-i : goal.invariant-loop-i
+invariant-loop-i l = Plain (is_byte l.b) l.text l.from l.i
+
+abbrev pub decreases-loop-i : goal.decreases-loop-i
+decreases-loop-i l = length l.text - l.i

@@ -1,0 +1,16 @@
+use Prim.Native.Nat.{◌+◌, ◌-◌, ◌≤◌}
+use native.Mathlib.Omega.{arith}
+use mathlib.Core.Path.{◌≡◌}
+use borrow.Author.Tests.{eq-eqb, ne_eqb}
+use borrow.Author.Rules.{rules}
+use Rattle.output.specs.Runs.{Plain}
+use Rattle.output.proofs.Runs.{plain_none}
+use Rattle.name_ends.specs.OneByte.{is_byte}
+use Rattle.runs.proofs.Search.{plain_next, within_here, within_none}
+use Rattle.name_ends.proofs.near_byte.Given as goal
+
+abbrev pub invariant-loop-k : goal.invariant-loop-k
+invariant-loop-k l = (l.k ≤ 16) × Plain (is_byte l.b) l.text l.from (l.from + l.k)
+
+abbrev pub decreases-loop-k : goal.decreases-loop-k
+decreases-loop-k l = 16 - l.k

@@ -1,0 +1,20 @@
+-- `form_spaced` ends as the writer of runs says: the form is laid where it fits (`form_laid`), else the output is left (`form_left_lem`).
+use native.Mathlib.Omega.{arith}
+use Rattle.eols.specs.Stops.{rule_for}
+use Rattle.canonical.specs.Canonical.{canonical}
+use Rattle.halts.specs.Halts.{blanks_spaced}
+use Rattle.normalize.proofs.Texts.{form_left_lem, form_laid}
+use borrow.Author.Rules.{rules}
+use Rattle.normalize.proofs.form_spaced.Lts as lts
+use Rattle.normalize.proofs.form_spaced.Goals as goal
+
+pub returns-then-out-length : goal.returns-then-out-length
+returns-then-out-length c =
+    let a = c.args in
+    form_left_lem a.short (canonical (rule_for a.newer) (blanks_spaced a.text.now)) a.out.now c.write_form-length.ensures.writes c.write_form-length.ensures.out_unchanged
+    (omega (arith, c.if-out-length.true, c.write_form-length.ensures.writes.1.buffer))
+
+pub returns : goal.returns
+returns c =
+    let a = c.args in
+    form_laid a.short (canonical (rule_for a.newer) (blanks_spaced a.text.now)) a.out.now c.write_form-length.ensures.writes (omega (arith, c.if-out-length.false, c.write_form-length.ensures.writes.1.buffer))

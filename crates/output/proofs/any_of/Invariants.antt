@@ -1,0 +1,14 @@
+use mathlib.Core.Path.{refl}
+use Prim.Native.Nat.{ℕ, ◌+◌, ◌-◌}
+use lib.ListN.{get_or}
+use Rattle.text.proofs.Missed.{Missed, missed_start, missed_more, missed_all}
+use Rattle.output.specs.Runs.{either_byte}
+use Rattle.output.proofs.Runs.{plain_of}
+use borrow.Author.Rules.{rules}
+use Rattle.output.proofs.any_of.Given as goal
+
+abbrev pub invariant-loop-k : goal.invariant-loop-k
+invariant-loop-k l = Missed (λ (m : ℕ). either_byte l.a l.b (get_or l.text (l.i + m) 0)) l.size l.hit l.k
+
+abbrev pub decreases-loop-k : goal.decreases-loop-k
+decreases-loop-k l = l.size - l.k

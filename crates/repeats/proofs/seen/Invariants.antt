@@ -1,0 +1,10 @@
+use Rattle.std.proofs.Common.{◌≡◌, ℕ, ◌+◌, ◌-◌, true, false, List, length, get_or, set, sym, refl, ap, ◌∙◌, subst, arith, length-set}
+use Rattle.repeats.specs.Filter.{Seen}
+use Rattle.repeats.proofs.Filtering.{Scanned, scanned_none, scanned_on, scanned_there, scanned_full, scanned_free}
+use Rattle.repeats.proofs.seen.Given as goal
+
+abbrev pub invariant-loop-k : goal.invariant-loop-k
+invariant-loop-k l = (l.table ≡ l.initial.table) × Scanned l.initial.table l.home l.fingerprint l.k
+
+abbrev pub decreases-loop-k : goal.decreases-loop-k
+decreases-loop-k l = l.home + 128 - l.k

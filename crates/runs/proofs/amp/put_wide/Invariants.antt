@@ -1,0 +1,13 @@
+use native.Mathlib.Omega.{arith}
+use mathlib.Core.Path.{refl}
+use Prim.Native.Nat.{◌-◌}
+use borrow.Author.Rules.{rules}
+use Rattle.runs.specs.RunEnds.{is_amp}
+use Rattle.runs.proofs.Blockwise.{Blockwise, blockwise_start, blockwise_laid, blockwise_done, blockwise_length, block_inside, block_fits}
+use Rattle.runs.proofs.amp.put_wide.Given as goal
+
+abbrev pub invariant-loop-k : goal.invariant-loop-k
+invariant-loop-k l = Blockwise is_amp l.text l.from l.room l.initial.out 0 l.out l.k
+
+abbrev pub decreases-loop-k : goal.decreases-loop-k
+decreases-loop-k l = l.room - l.k

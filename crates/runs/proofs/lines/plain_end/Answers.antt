@@ -1,0 +1,25 @@
+-- `plain_end`: behind the blocks, byte by byte, what is passed stays a run (`plain_join`).
+use mathlib.Core.Path.{sym, ◌∙◌}
+use Prim.Native.Nat.{◌-◌}
+use lib.ListN.{length}
+use Rattle.runs.specs.RunEnds.{line_stop}
+use Rattle.output.specs.Runs.{Plain}
+use Rattle.output.proofs.Runs.{plain_byte, plain_join}
+use borrow.Author.Rules.{rules}
+use Rattle.runs.proofs.lines.plain_end.Goals as goal
+
+pub plain_blocks-i-requires : goal.plain_blocks-i-requires
+plain_blocks-i-requires c = c.requires
+
+pub loop-i-init : goal.loop-i-init
+loop-i-init c = c.plain_blocks-i.ensures
+
+pub returns-then-is_stop : goal.returns-then-is_stop
+returns-then-is_stop c = c.loop-i.invariant
+
+pub loop-i-preserved : goal.loop-i-preserved
+loop-i-preserved c =
+    plain_join _ _ _ c.loop-i.i _ c.loop-i.invariant (plain_byte _ _ _ c.loop-i-test.true (sym c.is_stop.ensures ∙ c.if-is_stop.false))
+
+pub returns : goal.returns
+returns c = c.loop-i.invariant

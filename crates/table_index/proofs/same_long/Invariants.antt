@@ -1,0 +1,11 @@
+use Rattle.std.proofs.Common.{◌+◌, ◌-◌, ◌≤◌, length, sym, refl, le_refl, arith}
+use Rattle.entity.specs.Steps.{Agree}
+use Rattle.entity.proofs.Lookup.{agree_none, same_all}
+use Rattle.table_index.proofs.NameBlocks.{agree_block, differ_block}
+use Rattle.table_index.proofs.same_long.Given as goal
+
+abbrev pub invariant-loop-i : goal.invariant-loop-i
+invariant-loop-i l = Agree l.pool l.start l.name l.i
+
+abbrev pub decreases-loop-i : goal.decreases-loop-i
+decreases-loop-i l = length l.name - l.i

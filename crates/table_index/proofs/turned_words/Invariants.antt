@@ -1,0 +1,10 @@
+use Rattle.std.proofs.Common.{◌≡◌, ℕ, ◌+◌, ◌-◌, ◌/◌, ◌<◌, length, sym, ap, ◌∙◌, ap₂, arith}
+use Rattle.table_index.specs.NameHash.{turned, turned_from, turned_words}
+use Rattle.table_index.proofs.NameHashing.{rest, turned_on, turned_all}
+use Rattle.table_index.proofs.turned_words.Given as goal
+
+abbrev pub invariant-loop-i : goal.invariant-loop-i
+invariant-loop-i l = (l.i < length l.name) × (turned_from (rest l.name l.i) l.name l.i l.sum ≡ turned_words l.name)
+
+abbrev pub decreases-loop-i : goal.decreases-loop-i
+decreases-loop-i l = length l.name - l.i

@@ -1,0 +1,67 @@
+-- `check_later` keeps `Standing`, as `check_commands` does, over commands of both kinds.
+use mathlib.Core.Path.{◌≡◌, sym, ◌∙◌}
+use mathlib.Core.Logic.{⊎_elim}
+use mathlib.Core.Bool.{true}
+use native.Mathlib.Omega.{arith}
+use borrow.Author.Rules.{rules}
+use lib.ListN.{length, get_or}
+use Prim.Native.Nat.{◌-◌}
+use Rattle.entity.specs.Table.{declares}
+use Rattle.tables.specs.Steps.{Standing}
+use Rattle.entity.proofs.Commands.{size_some}
+use Rattle.tables.proofs.Commands.{declares_by, finish, refuses, goes_on}
+use Rattle.tables.proofs.check_later.Goals as goal
+use Rattle.tables.proofs.check_later.Goals.{After-check_command-checked}
+
+-- the command's byte declares
+is : (c : After-check_command-checked) → declares (get_or c.args.list.now c.loop-at.at 0) ≡ true
+is c = declares_by _ _ _ c.if-list-at.true (omega arith) (omega arith)
+
+pub loop-at-init : goal.loop-at-init
+loop-at-init c = c.requires.standing
+
+pub bounds-list-at : goal.bounds-list-at
+bounds-list-at c = c.loop-at-test.true
+
+pub bounds-list-at-in-loop-at : goal.bounds-list-at-in-loop-at
+bounds-list-at-in-loop-at c = c.loop-at-test.true
+
+pub check_command-checked-requires : goal.check_command-checked-requires
+check_command-checked-requires c =
+    record { at_in_bounds = (c.loop-at-test.true, declares_by _ _ _ c.if-list-at.true (omega arith) (omega arith)); ascii = c.requires.ascii }
+
+-- a command that is refused
+pub returns-in_default : goal.returns-in_default
+returns-in_default c =
+    let asked = c.args in
+    c.check_command-checked.ensures ∙ refuses asked.list.now asked.pool.now c.loop-at.at c.loop-at.count c.loop-at.invariant c.loop-at-test.true (is (goal.at.returns-in_default c).After-check_command-checked) (sym c.check_command-checked.ensures ∙ c.in_default.is)
+
+-- one that is not
+pub bounds-list-at-in-loop-at-2 : goal.bounds-list-at-in-loop-at-2
+bounds-list-at-in-loop-at-2 c = c.loop-at-test.true
+
+pub overflow_add-at : goal.overflow_add-at
+overflow_add-at c = let s = c.loop-at.invariant in omega (arith, s.fits, s.short, c.command_size-at.ensures.1)
+
+pub overflow_add-count : goal.overflow_add-count
+overflow_add-count c = let s = c.loop-at.invariant in omega (arith, s.fits, s.few, s.short)
+
+pub loop-at-smaller : goal.loop-at-smaller
+loop-at-smaller c =
+    omega (arith, c.loop-at-test.true, c.command_size-at.ensures.0, size_some (get_or c.args.list.now c.loop-at.at 0))
+
+pub loop-at-preserved : goal.loop-at-preserved
+loop-at-preserved c =
+    let asked = c.args in
+    goes_on asked.list.now asked.pool.now c.loop-at.at c.loop-at.count c.loop-at.invariant c.loop-at-test.true (is (goal.at.loop-at-preserved c).After-check_command-checked)
+    (sym c.check_command-checked.ensures ∙ c.in-Done.is) c.command_size-at.ensures.0
+
+pub check_end-requires : goal.check_end-requires
+check_end-requires c = c.loop-at.invariant.fits
+
+pub returns : goal.returns
+returns c =
+    let asked = c.args in
+    c.check_end.ensures
+    ∙ finish asked.list.now asked.pool.now c.loop-at.at c.loop-at.count c.loop-at.invariant
+    (λ h. ⊎_elim (λ w. declares_by _ _ _ w.3.left (omega arith) (omega arith)) (λ w. absurd (omega (arith, w.left, h))) c.loop-at-test.branch)

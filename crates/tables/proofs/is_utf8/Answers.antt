@@ -1,0 +1,6 @@
+use Rattle.tables.proofs.Parts.{utf8_tested}
+use borrow.Author.Rules.{rules}
+use Rattle.tables.proofs.is_utf8.Goals as goal
+
+pub returns : goal.returns
+returns c = utf8_tested c.args.text.now c.utf8_end.ensures

@@ -1,0 +1,12 @@
+use Rattle.text.proofs.Blocks.{misfit3_at, fits3_at}
+use Prim.Native.Nat.{◌-◌}
+use native.Mathlib.Omega.{arith}
+use Rattle.text.proofs.Missed.{Missed, missed_start, missed_more, missed_all}
+use borrow.Author.Rules.{rules}
+use Rattle.text.proofs.validate.any_misplaced3.Given as goal
+
+abbrev pub invariant-loop-k : goal.invariant-loop-k
+invariant-loop-k l = Missed (misfit3_at l.text l.j) 32 l.hit l.k
+
+abbrev pub decreases-loop-k : goal.decreases-loop-k
+decreases-loop-k l = 32 - l.k

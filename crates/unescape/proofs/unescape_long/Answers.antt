@@ -1,0 +1,45 @@
+-- `unescape_long`: a walk that is lent no output counts, and leaves the output (`counted_none`); a second one writes.
+use native.Mathlib.Omega.{arith}
+use mathlib.Core.Path.{subst, ap, ◌∙◌}
+use mathlib.Core.List.{List, [], ◌∷◌}
+use Prim.Native.Nat.{ℕ}
+use lib.ListN.{length}
+use Rattle.text.specs.Call.{call_of}
+use Rattle.text.specs.declared.Answer.TheVariants.{Refused}
+use Rattle.entity.specs.Binding.{Bound, binding}
+use Rattle.tokens.specs.Walking.{Walked}
+use Rattle.tokens.proofs.Finished.{ended_call, ended_refused, ended_short, ended_written}
+use Rattle.unescape.specs.Unescape.{unescape}
+use Rattle.unescape.proofs.Turns.{counted_none}
+use borrow.Author.Rules.{rules}
+use Rattle.unescape.proofs.unescape_long.Goals as goal
+use Rattle.unescape.proofs.unescape_long.Goals.{Start}
+
+-- the names' bindings
+abbrev bound : Start → List ℕ → Bound
+bound s = binding s.args.list.now s.args.pool.now
+
+pub returns-in_default : goal.returns-in_default
+returns-in_default c =
+    let given = c.args in
+    let o = unescape (bound (goal.at.returns-in_default c).Start) given.text.now in
+    ap (λ (l : List ℕ). call_of c.unescape_runs-counted.result (l ∷ [])) (counted_none given.out.now c.unescape_runs-counted.ensures)
+    ∙ ended_call o given.out.now (ended_refused 19 o given.out.now c.in_default.is c.unescape_runs-counted.ensures)
+
+pub returns-then-out-needed : goal.returns-then-out-needed
+returns-then-out-needed c =
+    let given = c.args in
+    let o = unescape (bound (goal.at.returns-then-out-needed c).Start) given.text.now in
+    let q = counted_none given.out.now c.unescape_runs-counted.ensures in
+    ap (λ (l : List ℕ). call_of (Refused 19 c.in-Done.needed 0) (l ∷ [])) q
+    ∙ ended_call o given.out.now (ended_short 19 o given.out.now c.in-Done.is c.unescape_runs-counted.ensures (omega (arith, c.if-out-needed.true, ap length q)))
+
+pub returns : goal.returns
+returns c =
+    let given = c.args in
+    let o = unescape (bound (goal.at.returns c).Start) given.text.now in
+    let q = counted_none given.out.now c.unescape_runs-counted.ensures in
+    ended_call o given.out.now
+    (ended_written 19 o given.out.now c.in-Done.is c.unescape_runs-counted.ensures
+    (omega (arith, c.if-out-needed.false, ap length q))
+    (subst (λ (l : List ℕ). Walked o l c.unescape_runs.new.out c.unescape_runs.result) q c.unescape_runs.ensures))
