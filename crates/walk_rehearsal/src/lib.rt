@@ -18,7 +18,7 @@ pub struct Span {
 }
 
 // What a job is set to, how many of its spans are to be read, and its answer: a refused job has none to read.
-#[derive(Drop)]
+#[derive(Clone, Copy)]
 pub struct Job {
     pub version: u8,
     pub depth: u64,
