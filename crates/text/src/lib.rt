@@ -13,7 +13,7 @@ pub mod validate;
 pub const LONGEST_TEXT: usize = 16777216;
 
 // What a call answers: on success its first and second, else document 01's refusal number with first and second.
-#[derive(Drop)]
+#[derive(Clone, Copy)]
 pub enum Answer {
     Done {
         first: u64,
