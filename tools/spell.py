@@ -2,6 +2,7 @@
 """Brings this repository's own definitions and lemmas to the spelling of today's library: words in snake case.
 
 usage: python3 tools/spell.py [--list]        at the top of the repository, once, right after the kit's port.py
+       python3 tools/spell.py --answers CRATE..   later: the lemmas beside the answers of these crates' functions
 
 It renames what specs/ and proofs/ declare (camel case and dashes become `_`) wherever a file of this repository names it: in .antt files, in
 ghost lines and clauses of .rt files, in must-fail edits, and, between backticks, in comments and pages. Types, modules, functions of src/, exported C
@@ -121,7 +122,28 @@ def turned(path, text, names):
     return in_ticks(text, names)
 
 
+def answers(crates):
+    """Respells what an Answers.antt or Invariants.antt declares beside its goals, in that file."""
+    for path in files("Answers.antt", "Invariants.antt"):
+        if path.split(os.sep)[2] not in crates:
+            continue
+        text = read(path)
+        names = re.findall(r"(?m)^(?:(?:pub|abbrev|unfoldable) )*(%s) :(?! goal\.)(?= )" % WORD, text)
+        new = {it: respelled(it) for it in names if "-" in it}
+        taken = set(re.findall(WORD, text))
+        if any(it in taken for it in new.values()):
+            print("falls together:", path, [it for it in new.values() if it in taken])
+            continue
+        now = re.sub(r"--[^\n]*|(?<![^\s(){}\[\],;])" + WORD, lambda it: in_ticks(it[0], new) if it[0].startswith("--") else new.get(it[0], it[0]), text)
+        if now != text:
+            with open(path, "w", encoding="utf-8", newline="") as it:
+                it.write(now)
+            print(path)
+
+
 def main():
+    if "--answers" in sys.argv:
+        return answers(sys.argv[2:])
     crates = {it.split(":")[0].split()[0] for it in read("crates.txt").split("\n") if ":" in it and not it.startswith("#")}
     names, all_names = table()
     if "--list" in sys.argv:
