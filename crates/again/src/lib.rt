@@ -1,5 +1,6 @@
 // The calls of demands 2 and 3, one after the other: what the second leaves is what the demand says (demands/specs/Again.antt).
 #![tactic(auto)]
+
 ghost use Rattle.std.specs.Prelude.{◌≡◌, [], ◌∷◌};
 ghost use Rattle.text.specs.Call.{called};
 ghost use Rattle.demands.specs.Again.{escaped_back, canonical_twice};

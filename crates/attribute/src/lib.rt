@@ -1,6 +1,7 @@
 // What a walk over attribute values is set to. The walk's definitions are in specs/, its laws in proofs/; the code is in the crates halts,
 // memory, flat and normalize, which stand on these.
 #![tactic(auto)]
+
 ghost use Rattle.std.specs.Prelude.{◌≡◌};
 ghost use Rattle.attribute.specs.Checks.{settings_check};
 

@@ -1,5 +1,6 @@
 // The writers of Canonical XML: the escaping of W3C Canonical XML 1.0, 2.3, for attribute values and for text, by the writer of the levels.
 #![tactic(auto)]
+
 ghost use Rattle.std.specs.Prelude.{◌≡◌, [], ◌∷◌};
 ghost use Rattle.text.specs.Call.{call_of, guarded, text_check, finish};
 ghost use Rattle.escape.specs.Escape.{write};

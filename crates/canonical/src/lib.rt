@@ -1,6 +1,7 @@
 // The canonical form of a normalized value: level 3, and under XML 1.1 also U+0085 and U+2028 as references. Runs between
 // those two go to the writer of level 3.
 #![tactic(auto)]
+
 ghost use Rattle.std.specs.Prelude.{◌≡◌, true, false, List, [], ◌∷◌, ◌++◌, ℕ, ◌+◌, ◌≤◌, ◌<◌, length, drop};
 ghost use Rattle.text.specs.Version.{Rule, xml11};
 ghost use Rattle.text.specs.Utf8.{WellFormed};

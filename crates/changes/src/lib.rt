@@ -1,6 +1,7 @@
 // The changes of a register that sits in its buffer (document 02, K10): one more of a form, one less. The answer's second word is the used
 // length after an accepted change.
 #![tactic(auto)]
+
 ghost use Rattle.std.specs.Prelude.{◌≡◌, ◌+◌, ◌%◌, ◌<◌, ◌≤◌, length, drop, replicate};
 ghost use Rattle.text.specs.Call.{laid};
 ghost use Rattle.register.specs.Entries.{entry, add, withdraw};

@@ -1,5 +1,6 @@
 // Character numbers, the text after `#` of a reference, and the UTF-8 of a character.
 #![tactic(auto)]
+
 ghost use Rattle.std.specs.Prelude.{◌≡◌, ◌≢◌, ℕ, ◌≤◌, ◌++◌, length, drop};
 ghost use Rattle.text.specs.Bytes.{pick};
 ghost use Rattle.text.specs.Version.{xml10, xml11};

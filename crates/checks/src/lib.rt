@@ -1,5 +1,6 @@
 // The checks of a call's arguments in document 01's order, what the calls answer that write no buffer, and the answer as C sees it.
 #![tactic(auto)]
+
 ghost use Rattle.std.specs.Prelude.{◌≡◌, true, List, [], ◌∷◌, ℕ, length};
 ghost use Rattle.text.specs.Call.{called, call_of, and_then, text_check, argument_check, version_check};
 ghost use Rattle.text.specs.Simple.{Simple};

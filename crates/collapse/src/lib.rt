@@ -1,6 +1,7 @@
 // The second stage of XML 1.0, 3.3.3, over a value, and the tokens between spaces (document 02, K5). Most lists have one space between
 // two tokens: runs in which no space goes are found by blocks and copied whole.
 #![tactic(auto)]
+
 ghost use Rattle.std.specs.Prelude.{◌≡◌, false, [], ◌∷◌, ◌+◌, ◌≤◌, length, drop};
 ghost use Rattle.text.specs.Call.{call_of, finish};
 ghost use Rattle.output.specs.Over.{over};

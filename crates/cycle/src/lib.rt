@@ -1,6 +1,7 @@
 // The cycle of the walk over attribute values: a walker over a text, and the single step that opens a text of the table and has it
 // walked. All else that stops a walk is answered between two openings (crate flat), by functions that call neither.
 #![tactic(auto)]
+
 ghost use Rattle.std.specs.Prelude.{◌≡◌, ◌≤◌, length};
 ghost use Rattle.entity.specs.Table.{ValidTable};
 ghost use Rattle.entity.specs.Commands.{Defines};

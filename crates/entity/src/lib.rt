@@ -1,5 +1,6 @@
 // The entity table: its numbers, and the lookup of a name.
 #![tactic(auto)]
+
 ghost use Rattle.std.specs.Prelude.{◌≡◌, ℕ, ◌+◌, ◌<◌, ◌≤◌, true, false, List, [], ◌∷◌, length, get_or};
 ghost use Rattle.text.specs.Bytes.{same_bytes};
 ghost use Rattle.entity.specs.Table.{little_endian, part, marked, mark_size, ValidTable};

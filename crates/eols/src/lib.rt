@@ -1,5 +1,6 @@
 // Line ends of XML 1.0 and 1.1: every one becomes LF. One code path for both versions; `newer` says that it is 1.1.
 #![tactic(auto)]
+
 ghost use Rattle.std.specs.Prelude.{◌≡◌, ◌+◌, ◌<◌, ◌≤◌, false, [], ◌∷◌, length, get_or, drop};
 ghost use Rattle.text.specs.Call.{call_of, finish, laid};
 ghost use Rattle.text.specs.Version.{rule_of, xml11};

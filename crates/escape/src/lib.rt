@@ -1,6 +1,7 @@
 // The writer of the four escape levels and of Canonical XML's two sets: runs of copied bytes and replacements are written in turn, after
 // a count where the output may be too short.
 #![tactic(auto)]
+
 ghost use Rattle.std.specs.Prelude.{◌≡◌, false, [], ◌∷◌, ◌+◌, ◌≤◌, ◌<◌, length, take, drop};
 ghost use Rattle.text.specs.Bytes.{pick};
 ghost use Rattle.text.specs.Call.{laid, finish, call_of, longest_text};

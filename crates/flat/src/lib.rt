@@ -3,6 +3,7 @@
 // what becomes of that. Where the canonical form is wanted, that of each piece is written: pieces are whole characters. What fits in the
 // output is written, else nothing: a walk that counts lends a short one.
 #![tactic(auto)]
+
 ghost use Rattle.std.specs.Prelude.{◌≡◌, ◌≢◌, true, List, [], ◌∷◌, ℕ, ◌+◌, ◌-◌, ◌≤◌, ◌<◌, eqb, length, get_or, take, drop};
 ghost use Rattle.charref.specs.CharRef.{encode};
 ghost use Rattle.eols.specs.Stops.{rule_for};

@@ -1,5 +1,6 @@
 // The calls that C sees: integers, byte slices and references to numbers, no `requires`. Each promise is one equation.
 #![tactic(auto)]
+
 ghost use Rattle.std.specs.Prelude.{◌≡◌, [], ◌∷◌};
 ghost use Rattle.text.specs.Call.{called};
 ghost use Rattle.govlezna.specs.Calls.{check_utf8_call, parse_number_call, escape_call, normalize_eols_call, trim_call, cursor_left, cdata_next_call, check_table_call, unescape_call, normalize_attribute_value_call, canonical_form_call, normalize_attribute_value_strict_call, canonical_form_strict_call, register_add_call, register_withdraw_call, register_count_call, normalize_nmtokens_call, next_nmtoken_call, c14n_attribute_call, c14n_text_call};

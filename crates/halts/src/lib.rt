@@ -2,6 +2,7 @@
 // U+2028; all before it is written byte by byte, TAB and LF as spaces. Every search is proved to find what `HaltAt` says, every copy to
 // lay what `blanks_spaced` says (specs/Halts.antt). All goes by blocks of 16 bytes that run on vectors.
 #![tactic(auto)]
+
 ghost use Rattle.std.specs.Prelude.{◌≡◌, true, false, ◌+◌, ◌≤◌, ◌<◌, eqb, length, take, drop};
 ghost use Rattle.text.specs.Bytes.{pick};
 ghost use Rattle.text.specs.Call.{laid};

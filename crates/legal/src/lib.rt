@@ -2,6 +2,7 @@
 // (specs/FirstFault.antt). All goes by blocks of 16 bytes that run on vectors; which rule is asked (0, 1 or 2, see `may_by`) matters only where a
 // block may have a fault.
 #![tactic(auto)]
+
 ghost use Rattle.std.specs.Prelude.{◌≡◌, true, false, not, ℕ, ◌+◌, ◌≤◌, ◌<◌, length, drop, get_or};
 ghost use Rattle.legal.specs.FirstFault.{may_by, faults_by, Part, CleanByAny, FirstFault};
 

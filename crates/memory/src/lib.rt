@@ -6,6 +6,7 @@
 // length, its openings. After these 80, four words: the table is known not to define lt, gt, apos, quot. An index of the table's names
 // (crate table_index) may lie behind them. What the words say is `Memory` (specs/Slots.antt); no definition of a call knows of it.
 #![tactic(auto)]
+
 ghost use Rattle.std.specs.Prelude.{◌≡◌, ◌≢◌, true, false, List, [], ◌∷◌, ℕ, ◌+◌, ◌≤◌, ◌<◌, length};
 ghost use Rattle.text.specs.Bytes.{same_bytes};
 ghost use Rattle.entity.specs.Table.{ValidTable};

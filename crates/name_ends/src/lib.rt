@@ -1,6 +1,7 @@
 // The search for one byte: near ones are looked for byte by byte, far ones by blocks that run on vectors. And the end of a reference's name
 // by it: `;` alone is looked for, and whether a `&` stands before it is asked of the name that was found.
 #![tactic(auto)]
+
 ghost use Rattle.std.specs.Prelude.{◌≡◌, true, false, ◌+◌, ◌≤◌, length};
 ghost use Rattle.output.specs.Runs.{Plain};
 ghost use Rattle.runs.specs.RunEnds.{RunEnd, Within};

@@ -1,6 +1,7 @@
 // Attributes of type NMTOKENS (document 02, K5): a value is normalized into a scratch, and the second stage of XML 1.0, 3.3.3, goes from
 // there to the output. One code path for both versions, marked and unmarked lists.
 #![tactic(auto)]
+
 ghost use Rattle.std.specs.Prelude.{◌≡◌, [], ◌∷◌, ◌≤◌, length};
 ghost use Rattle.text.specs.Call.{call_of};
 ghost use Rattle.text.specs.Utf8.{WellFormed};

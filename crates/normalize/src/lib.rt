@@ -1,6 +1,7 @@
 // The calls over attribute values, above the cycle of walker and step (crate cycle). Normalization and the canonical form have one code
 // path for both versions.
 #![tactic(auto)]
+
 ghost use Rattle.std.specs.Prelude.{◌≡◌, ◌≢◌, true, false, List, [], ◌∷◌, ℕ, ◌≤◌, eqb, ltb, length};
 ghost use Rattle.text.specs.Bytes.{pick};
 ghost use Rattle.text.specs.Call.{call_of, laid};

@@ -1,6 +1,7 @@
 // What every writer shares: a run of bytes, written at the start of the output that is lent. A writer that clips writes as much as
 // there is room for, so that a walk over an output of no bytes counts.
 #![tactic(auto)]
+
 ghost use Rattle.std.specs.Prelude.{◌≡◌, ◌+◌, ◌≤◌, min, false, length, set};
 ghost use Rattle.text.specs.Call.{laid};
 ghost use Rattle.output.specs.Over.{over};

@@ -1,6 +1,7 @@
 // The register of canonical forms in a lent buffer: an entry is its form's length and its count, u32 little-endian, and then the form.
 // Here it is read: its entries are checked one by one, and a form's entry is found.
 #![tactic(auto)]
+
 ghost use Rattle.std.specs.Prelude.{◌≡◌, ◌+◌, ◌<◌, ◌≤◌, length};
 ghost use Rattle.text.specs.Bytes.{same_bytes};
 ghost use Rattle.text.specs.Utf8.{well_formed};

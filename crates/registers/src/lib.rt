@@ -1,6 +1,7 @@
 // The three calls on a register of canonical forms (document 02, K10): add one, withdraw one, count one. Form, buffer and used length come
 // by value, and `changes::used_after` gives the used length after a call.
 #![tactic(auto)]
+
 ghost use Rattle.std.specs.Prelude.{◌≡◌, []};
 ghost use Rattle.text.specs.Call.{call_of};
 ghost use Rattle.register.specs.Entries.{count_in};

@@ -2,6 +2,7 @@
 // place for it, the bytes before the form are looked through: so a full table, a crowded place and equal hashes cost time and nothing else.
 // Big registers are looked through once for each class of hashes, so that the table has room for the forms of a class.
 #![tactic(auto)]
+
 ghost use Rattle.std.specs.Prelude.{◌≡◌, ◌+◌, ◌-◌, ◌/◌, ◌<◌, ◌≤◌, not, length, take};
 ghost use Rattle.register.specs.Entries.{absent, distinct};
 ghost use Rattle.register.specs.Stored.{u32_at};

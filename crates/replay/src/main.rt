@@ -3,6 +3,7 @@
 // what was answered. Fields stand between single spaces, bytes in lower-case hexadecimal, `-` for
 // none, and numbers in decimal. An empty line, or one that starts with `#`, is passed over.
 #![tactic(auto)]
+
 mod answers;
 mod calls;
 mod cdata;

@@ -1,5 +1,6 @@
 // Where a run of bytes that are copied as they stand ends, and copies made while that is searched: a file for each set of stops.
 #![tactic(auto)]
+
 ghost use Rattle.std.specs.Prelude.{◌≡◌, ◌≤◌, length};
 ghost use Rattle.text.specs.Call.{laid};
 

@@ -1,6 +1,7 @@
 // Declarations of general entities, `<!ENTITY name "value">`, read into a table (document 02, K3). Places are those of the text as it is handed
 // over; only the answer counts them after line ends. Every reader writes as far as there is room, so that one that is lent nothing counts.
 #![tactic(auto)]
+
 ghost use Rattle.std.specs.Prelude.{◌≡◌, List, [], ◌∷◌, ℕ, ◌+◌, ◌*◌, ◌-◌, ◌≤◌, ◌<◌, length, get_or, drop, Bool};
 ghost use Rattle.text.specs.Call.{call_of, laid, longest_text};
 ghost use Rattle.text.specs.Version.{rule_of};

@@ -4,6 +4,7 @@
 // 16 bits each: the offset of a command and 1, or 0. A name's slots are the 16 from its home on; its commands stand there in the list's
 // order, so that the first that has the name binds. Where all 16 are taken and none has it, the plain lookup answers.
 #![tactic(auto)]
+
 ghost use Rattle.std.specs.Prelude.{◌≡◌, ℕ, ◌+◌, ◌-◌, ◌*◌, ◌<◌, ◌≤◌, true, false, ◌≢◌, List, length, slice_index};
 ghost use Rattle.text.specs.Bytes.{same_bytes};
 ghost use Rattle.entity.specs.Table.{little_endian, part, ValidTable};

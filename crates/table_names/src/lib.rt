@@ -1,5 +1,6 @@
 // Names of XML 1.0, fifth edition: the width of the name character at a place, and where a name ends. What is no UTF-8 is no name.
 #![tactic(auto)]
+
 ghost use Rattle.std.specs.Prelude.{◌≡◌, Bool, ℕ, ◌+◌, ◌≤◌, ◌<◌, length, drop, get_or};
 ghost use Rattle.text.specs.Bytes.{pick, within};
 ghost use Rattle.table_names.specs.NameChars.{is_name_start, is_name_char, char_width, name_chars, name_length};

@@ -1,6 +1,7 @@
 // [9] EntityValue: runs of bytes that stand for themselves, line ends, and references. What goes into the pool is written as far as there is
 // room, so that a reader that is lent no pool counts.
 #![tactic(auto)]
+
 ghost use Rattle.std.specs.Prelude.{◌≡◌, ◌≢◌, true, false, List, [], ◌∷◌, ℕ, ◌+◌, ◌≤◌, ◌<◌, length, get_or};
 ghost use Rattle.text.specs.Call.{longest_text};
 ghost use Rattle.output.specs.Runs.{Plain};

@@ -1,5 +1,6 @@
 // The check of an entity table.
 #![tactic(auto)]
+
 ghost use Rattle.std.specs.Prelude.{◌≡◌, ◌<◌, ◌≤◌, true, ◌||◌, not, eqb, length, get_or, drop};
 ghost use Rattle.text.specs.Utf8.{well_formed};
 ghost use Rattle.text.specs.Call.{passed};

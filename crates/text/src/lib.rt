@@ -1,5 +1,6 @@
 // Argument checks that all calls share: the text's length (refusal 1), the version byte (4), UTF-8 (5).
 #![tactic(auto)]
+
 ghost use Rattle.std.specs.Prelude.{◌≡◌};
 ghost use Rattle.text.specs.Call.{length_check, version_check, utf8_check, text_check, argument_check};
 

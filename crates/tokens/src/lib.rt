@@ -1,5 +1,6 @@
 // What the walks over a text's tokens share: a single step's answer, the end of a reference's name, and a character reference.
 #![tactic(auto)]
+
 ghost use Rattle.std.specs.Prelude.{◌≡◌, ◌≢◌, List, ◌++◌, ℕ, ◌+◌, ◌≤◌, ◌<◌, length, get_or, take, drop};
 ghost use Rattle.output.specs.Over.{over};
 ghost use Rattle.charref.specs.CharRef.{any_character, encode};

@@ -1,5 +1,6 @@
 // Unescaping: references become the characters and the texts that they stand for.
 #![tactic(auto)]
+
 ghost use Rattle.std.specs.Prelude.{◌≡◌, List, [], ◌∷◌, ℕ, ◌+◌, ◌-◌, ◌≤◌, ◌<◌, length, get_or};
 ghost use Rattle.text.specs.Call.{call_of, longest_text};
 ghost use Rattle.entity.specs.Table.{ValidTable};

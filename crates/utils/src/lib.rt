@@ -1,5 +1,6 @@
 // White space at the ends of a text, and the pieces of a text for CDATA sections.
 #![tactic(auto)]
+
 ghost use Rattle.std.specs.Prelude.{◌≡◌, ◌+◌, ◌-◌, ◌<◌, ◌≤◌, true, false, length, drop};
 ghost use Rattle.utils.specs.Trim.{is_whitespace, trim_start, trim_end, trim_spaces};
 ghost use Rattle.utils.specs.CData.{first_cut, outside, cdata_step, piece_answer};

@@ -1,6 +1,7 @@
 // The forecast (K6): length and openings of a value's normalization, by a pair of words for each definition at each depth. So far what a survey of
 // a text needs where it comes to a reference: the number of the definition that binds the name, and what its pair adds.
 #![tactic(auto)]
+
 ghost use Rattle.std.specs.Prelude.{◌≡◌, ℕ, ◌+◌, get_or};
 ghost use Rattle.entity.specs.Table.{ValidTable};
 ghost use Rattle.entity.specs.Commands.{Defines};

@@ -2,6 +2,7 @@
 // its openings. `least_depth` calls itself on a replacement text, a part of the pool, the allowance falling. Between two openings it is the
 // walk's own code (`normalize_flat`), which passes by itself what the depth so far is enough for.
 #![tactic(auto)]
+
 ghost use Rattle.std.specs.Prelude.{◌≡◌, true, List, ℕ, ◌+◌, ◌≤◌, ◌<◌, max, eqb, length};
 ghost use Rattle.text.specs.Version.{rule_of};
 ghost use Rattle.text.specs.Simple.{Simple};

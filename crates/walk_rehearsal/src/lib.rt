@@ -1,6 +1,7 @@
 // The rehearsal of a job (document 02, K11): how the values that lent spans of one text name fare under some settings. The spans are read by
 // two thin functions, `leaving` and the exported call (crate govlezna); all else is by value.
 #![tactic(auto)]
+
 ghost use Rattle.std.specs.Prelude.{◌≡◌, true, List, [], ◌∷◌, ℕ, suc, ◌+◌, ◌≤◌, ◌<◌, length, get_or, replicate};
 ghost use Rattle.entity.specs.Table.{ValidTable};
 ghost use Rattle.walk_rehearsal.specs.Rehearsal.{leaves_text, inside, spans_by, counted};

@@ -18,7 +18,7 @@ use borrow.Author.Rules.{rules}
 use Rattle.canonical.proofs.form_length.Given as goal
 
 abbrev pub invariant-loop-chars : goal.invariant-loop-chars
-invariant-loop-chars l =     (l.i ≤ length l.text)
+invariant-loop-chars l = (l.i ≤ length l.text)
     × (l.n ≤ 6 * l.i)
     × (length (canonical (rule_for l.newer) (shown l.spaces l.text)) ≡ l.n + length (canonical_from (rule_for l.newer) 0 (drop l.i (shown l.spaces l.text))))
 

@@ -24,9 +24,12 @@ special_width-requires c = c.loop-i-test.true
 
 pub returns-then-special_width-ne0 : goal.returns-then-special_width-ne0
 returns-then-special_width-ne0 c =
-    let given = c.args in 
-    record { common = common_newer given.newer _ _ _ c.if-not-newer.false c.loop-i.invariant; nonzero = λ h. newer_special given.newer (drop c.loop-i.i given.value.now)
-          c.if-not-newer.false (omega (arith, c.special_width.ensures, c.if-special_width-ne0.true)) }
+    let given = c.args in
+    record {
+      common = common_newer given.newer _ _ _ c.if-not-newer.false c.loop-i.invariant;
+      nonzero = λ h. newer_special given.newer (drop c.loop-i.i given.value.now)
+          c.if-not-newer.false (omega (arith, c.special_width.ensures, c.if-special_width-ne0.true));
+    }
 
 pub overflow_add-i : goal.overflow_add-i
 overflow_add-i c =

@@ -19,7 +19,7 @@ use borrow.Author.Rules.{rules}
 use Rattle.canonical.proofs.write_form.Given as goal
 
 abbrev pub invariant-loop-chars : goal.invariant-loop-chars
-invariant-loop-chars l =     (l.i ≤ length l.text)
+invariant-loop-chars l = (l.i ≤ length l.text)
     × Written (canonical (rule_for l.newer) (shown l.spaces l.text)) (canonical_from (rule_for l.newer) 0 (drop l.i (shown l.spaces l.text))) l.initial.out l.out l.at
 
 abbrev pub decreases-loop-chars : goal.decreases-loop-chars

@@ -1,7 +1,6 @@
 -- `charref::answer_of` gives the number and values of documents 01 and 02, case by case. Assumes nothing.
 use Rattle.charref.specs.CharRef.{number_answer}
 use mathlib.Core.Path.{sym, ap}
-use borrow.Author.Rules.{rules}
 use Rattle.charref.proofs.answer_of.Goals as goal
 
 pub returns-in-Char : goal.returns-in-Char

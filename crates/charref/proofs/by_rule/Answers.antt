@@ -1,5 +1,4 @@
 use mathlib.Core.Path.{sym}
-use borrow.Author.Rules.{rules}
 use Rattle.charref.proofs.by_rule.Goals as goal
 
 pub returns-then-is_allowed : goal.returns-then-is_allowed

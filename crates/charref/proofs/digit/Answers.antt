@@ -2,7 +2,6 @@
 use Rattle.charref.specs.CharRef.{digit_value}
 use Rattle.text.proofs.Bytes.{inside, above, below}
 use native.Mathlib.Omega.{arith}
-use borrow.Author.Rules.{rules}
 use Rattle.charref.proofs.digit.Goals as goal
 
 pub returns-then-b-lt48 : goal.returns-then-b-lt48

@@ -1,11 +1,10 @@
 -- `charref::digits` reads the number. The invariant: with the value so far, what is left writes the whole text's number. Assumes nothing.
 use Rattle.charref.proofs.Numbers.{at_digit, at_none, at_end, too_large, product}
-use lib.ListN.{length, drop}
-use Prim.Native.Nat.{◌+◌, ◌*◌, ◌≤◌, ◌-◌}
+use lib.ListN.{drop}
+use Prim.Native.Nat.{◌+◌, ◌*◌}
 use native.Mathlib.Omega.{arith}
-use mathlib.Core.Path.{◌≡◌, sym, ◌∙◌, ap}
-use Rattle.charref.specs.CharRef.{number_from, small}
-use borrow.Author.Rules.{rules}
+use mathlib.Core.Path.{sym, ◌∙◌, ap}
+use Rattle.charref.specs.CharRef.{small}
 use Rattle.charref.proofs.digits.Goals as goal
 
 pub loop-i-init : goal.loop-i-init
@@ -33,8 +32,7 @@ returns-then-value-gt4294967295 c =
 
 pub loop-i-preserved : goal.loop-i-preserved
 loop-i-preserved c =
-    let given = c.args in
-    (
+    let given = c.args in (
       omega arith,
       omega arith,
       ap small (sym (at_digit given.base c.loop-i.value c.loop-i.i given.text.now (omega arith) c.digit-d.result c.digit-d.ensures (omega arith)))

@@ -1,10 +1,7 @@
-use Rattle.charref.proofs.Numbers.{at_digit, at_none, at_end, too_large, product}
 use lib.ListN.{length, drop}
-use Prim.Native.Nat.{◌+◌, ◌*◌, ◌≤◌, ◌-◌}
-use native.Mathlib.Omega.{arith}
-use mathlib.Core.Path.{◌≡◌, sym, ◌∙◌, ap}
+use Prim.Native.Nat.{◌≤◌, ◌-◌}
+use mathlib.Core.Path.{◌≡◌}
 use Rattle.charref.specs.CharRef.{number_from, small}
-use borrow.Author.Rules.{rules}
 use Rattle.charref.proofs.digits.Given as goal
 
 abbrev pub invariant-loop-i : goal.invariant-loop-i

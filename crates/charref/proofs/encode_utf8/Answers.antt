@@ -3,7 +3,6 @@ use mathlib.Core.List.{[], ◌∷◌}
 use Prim.Native.Nat.{◌+◌, ◌/◌, ◌%◌}
 use native.Mathlib.Omega.{arith}
 use Rattle.charref.proofs.Encoding.{encode_1, encode_2, encode_3, encode_4, encode_at_least, least_2, least_3, least_4, room, written}
-use borrow.Author.Rules.{rules}
 use Rattle.charref.proofs.encode_utf8.Goals as goal
 
 pub bounds-out-0 : goal.bounds-out-0

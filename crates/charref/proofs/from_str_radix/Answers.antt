@@ -1,7 +1,6 @@
 -- `charref::from_str_radix` meets its contract: the three cases of `in_base`. Assumes nothing.
 use Rattle.charref.proofs.Numbers.{base_none, base_sign, base_digits}
 use mathlib.Core.Path.{◌∙◌}
-use borrow.Author.Rules.{rules}
 use Rattle.charref.proofs.from_str_radix.Goals as goal
 
 pub returns-then-text-eq0 : goal.returns-then-text-eq0

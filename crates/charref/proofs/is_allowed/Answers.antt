@@ -1,7 +1,5 @@
 -- The rule by its number (`rule_judged`): 1 is XML 1.0, those above it XML 1.1.
-use mathlib.Core.Path.{refl}
 use Rattle.charref.proofs.Rules.{rule_lenient, rule_judged}
-use borrow.Author.Rules.{rules}
 use Rattle.charref.proofs.is_allowed.Goals as goal
 
 pub returns-then-rule-eq0 : goal.returns-then-rule-eq0

@@ -2,7 +2,6 @@
 use Rattle.charref.specs.CharRef.{judge}
 use Rattle.charref.specs.Reading.{legal_by}
 use mathlib.Core.Path.{sym, ◌∙◌, ap}
-use borrow.Author.Rules.{rules}
 use Rattle.charref.proofs.judge.Goals as goal
 
 pub returns-in-Value : goal.returns-in-Value

@@ -1,15 +1,14 @@
 -- `charref::judge_value` judges a value: in each branch the tests of `judge` are decided by those that led there. Assumes nothing.
 use mathlib.Core.Path.{◌≡◌, ◌∙◌}
 use mathlib.Core.Bool.{false, ◌||◌}
-use mathlib.Core.Logic.{⊎_elim}
 use lib.Dec.{ltb}
 use Rattle.charref.specs.CharRef.{judge}
 use Rattle.text.specs.Bytes.{within}
 use Rattle.text.proofs.Bytes.{inside, above, below}
 use borrow.Author.Tests.{eq-eqb, ne_eqb, lt-ltb, le-ltb}
 use native.Mathlib.Omega.{arith}
-use borrow.Author.Rules.{rules}
 use Rattle.charref.proofs.judge_value.Goals as goal
+use Rattle.charref.proofs.judge_value.Goals.{then-n-ge55296+else-n-le57343+else-n-gt1114111, else-n-ge55296}
 
 pub returns-then-n-eq0 : goal.returns-then-n-eq0
 unfolding judge
@@ -28,6 +27,8 @@ unfolding judge
 returns c =
     let n = c.args.n in
     let passes : within 0xD800 0xDFFF n || ltb 1114111 n ≡ false =
-    ⊎_elim (λ w. rw (above 0xD800 0xDFFF n (omega (arith, w.1.left)), le-ltb 1114111 n (omega (arith, w.2.left))))
-    (λ w. rw (below 0xD800 0xDFFF n (omega (arith, w.left)), le-ltb 1114111 n (omega (arith, w.left)))) c.if-n-ge55296.branch in
+    elim c.if-n-ge55296.branch [
+      | then-n-ge55296+else-n-le57343+else-n-gt1114111 w ↦ rw (above 0xD800 0xDFFF n (omega arith), le-ltb 1114111 n (omega arith))
+      | else-n-ge55296 w ↦ rw (below 0xD800 0xDFFF n (omega arith), le-ltb 1114111 n (omega arith))
+    ] in
     c.by_rule.ensures ∙ rw (ne_eqb n 0 c.if-n-eq0.false, passes)

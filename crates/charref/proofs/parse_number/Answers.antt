@@ -3,7 +3,6 @@ use Rattle.charref.proofs.Numbers.{char_none, char_hex, char_decimal}
 use Rattle.charref.specs.CharRef.{judge}
 use Rattle.charref.specs.Reading.{legal_by}
 use mathlib.Core.Path.{◌∙◌, ap}
-use borrow.Author.Rules.{rules}
 use Rattle.charref.proofs.parse_number.Goals as goal
 
 pub returns-then-text-eq0 : goal.returns-then-text-eq0

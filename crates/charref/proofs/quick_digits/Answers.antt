@@ -1,11 +1,8 @@
 -- `charref::quick_digits` reads the number up to the `;`. The invariant: the bytes passed are digits, and write the value so far. Assumes nothing.
-use lib.ListN.{length}
-use Prim.Native.Nat.{◌-◌}
 use native.Mathlib.Omega.{arith}
 use mathlib.Core.Path.{refl}
 use Rattle.charref.proofs.Numbers.{product}
-use Rattle.charref.proofs.Reading.{Read, read_start, read_digit, read_end}
-use borrow.Author.Rules.{rules}
+use Rattle.charref.proofs.Reading.{read_start, read_digit, read_end}
 use Rattle.charref.proofs.quick_digits.Goals as goal
 
 pub loop-i-init : goal.loop-i-init

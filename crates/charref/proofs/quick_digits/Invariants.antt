@@ -1,10 +1,6 @@
 use lib.ListN.{length}
 use Prim.Native.Nat.{◌-◌}
-use native.Mathlib.Omega.{arith}
-use mathlib.Core.Path.{refl}
-use Rattle.charref.proofs.Numbers.{product}
-use Rattle.charref.proofs.Reading.{Read, read_start, read_digit, read_end}
-use borrow.Author.Rules.{rules}
+use Rattle.charref.proofs.Reading.{Read}
 use Rattle.charref.proofs.quick_digits.Given as goal
 
 abbrev pub invariant-loop-i : goal.invariant-loop-i

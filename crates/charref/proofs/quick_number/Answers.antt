@@ -1,6 +1,5 @@
 -- `charref::quick_number` meets its contract: after x the digits of base 16, else those of base 10. Assumes nothing.
 use Rattle.charref.proofs.Reading.{found_hex, found_decimal}
-use borrow.Author.Rules.{rules}
 use Rattle.charref.proofs.quick_number.Goals as goal
 
 pub returns-then-text-from-eq120 : goal.returns-then-text-from-eq120

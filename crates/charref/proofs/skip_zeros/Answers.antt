@@ -1,11 +1,7 @@
 -- `charref::skip_zeros` passes zeros only. The invariant: what is left writes the same number in every base. Assumes nothing.
 use native.Mathlib.Omega.{arith}
-use lib.ListN.{length, drop}
-use Prim.Native.Nat.{ℕ, ◌≤◌, ◌-◌}
-use mathlib.Core.Path.{◌≡◌, ◌∙◌}
-use Rattle.charref.specs.CharRef.{number_from}
+use mathlib.Core.Path.{◌∙◌}
 use Rattle.charref.proofs.Numbers.{at_zero}
-use borrow.Author.Rules.{rules}
 use Rattle.charref.proofs.skip_zeros.Goals as goal
 
 pub loop-i-preserved : goal.loop-i-preserved

@@ -1,10 +1,7 @@
-use native.Mathlib.Omega.{arith}
 use lib.ListN.{length, drop}
 use Prim.Native.Nat.{ℕ, ◌≤◌, ◌-◌}
-use mathlib.Core.Path.{◌≡◌, ◌∙◌}
+use mathlib.Core.Path.{◌≡◌}
 use Rattle.charref.specs.CharRef.{number_from}
-use Rattle.charref.proofs.Numbers.{at_zero}
-use borrow.Author.Rules.{rules}
 use Rattle.charref.proofs.skip_zeros.Given as goal
 
 abbrev pub invariant-loop-i : goal.invariant-loop-i

@@ -126,7 +126,7 @@ returns-then-list-at-eq2 c =
 -- no command has the name
 pub returns-else-list-at-eq2 : goal.returns-else-list-at-eq2
 returns-else-list-at-eq2 c =
-    let pool = c.args.pool.now in 
+    let pool = c.args.pool.now in
     record { result_value = c.resolve_xml_entity.ensures.by_index pool ∙ over c.commands.invariant (other_declares c.if-list-at-ne1.true (λ e. omega (arith, e, c.if-list-at-eq2.false))); lies = c.resolve_xml_entity.ensures.by_index_2 pool }
 
 -- this command has it

@@ -2,7 +2,6 @@
 use mathlib.Core.Path.{sym, ◌∙◌}
 use Prim.Native.Nat.{◌+◌}
 use lib.ListN.{get_or, drop}
-use borrow.Author.Rules.{rules}
 use Rattle.eols.proofs.LineEnds.{width_at, cr_lf, cr_nel, cr_alone10, cr_alone11}
 use Rattle.eols.proofs.cr_width.Goals as goal
 

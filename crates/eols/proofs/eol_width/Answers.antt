@@ -1,5 +1,4 @@
 -- `eol_width`: CR and the line ends of XML 1.1 by their own functions, LF and no line end by a law (`lf_alone`, `none10`).
-use borrow.Author.Rules.{rules}
 use Rattle.eols.proofs.LineEnds.{width_at, lf_alone, none10}
 use Rattle.eols.proofs.eol_width.Goals as goal
 

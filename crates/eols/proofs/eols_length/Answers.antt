@@ -1,10 +1,8 @@
 -- `eols_length`: n is what the first i bytes give; a run adds its own length (`run_counts`), a step one byte (`step_length`).
-use mathlib.Core.Path.{◌≡◌, sym, ap, ◌∙◌}
-use Prim.Native.Nat.{◌+◌, ◌-◌, ◌≤◌}
+use mathlib.Core.Path.{sym, ap, ◌∙◌}
 use native.Mathlib.Omega.{arith}
-use lib.ListN.{length, drop}
-use Rattle.eols.specs.LineEnds.{eols_from, eols}
-use Rattle.eols.specs.Stops.{rule_for}
+use lib.ListN.{length}
+use Rattle.eols.specs.LineEnds.{eols}
 use Rattle.eols.proofs.Writing.{eols_over, run_counts, step_length}
 use Rattle.eols.proofs.eols_length.Goals as goal
 

@@ -1,10 +1,8 @@
-use mathlib.Core.Path.{◌≡◌, sym, ap, ◌∙◌}
+use mathlib.Core.Path.{◌≡◌}
 use Prim.Native.Nat.{◌+◌, ◌-◌, ◌≤◌}
-use native.Mathlib.Omega.{arith}
 use lib.ListN.{length, drop}
 use Rattle.eols.specs.LineEnds.{eols_from, eols}
 use Rattle.eols.specs.Stops.{rule_for}
-use Rattle.eols.proofs.Writing.{eols_over, run_counts, step_length}
 use Rattle.eols.proofs.eols_length.Given as goal
 
 abbrev pub invariant-loop-i : goal.invariant-loop-i

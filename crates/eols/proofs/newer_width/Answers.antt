@@ -1,6 +1,5 @@
 -- `newer_width`: a law for each return (`nel`, `not_nel`, `ls`, `not_ls`, `none11`), at an index by `width_at`.
 use mathlib.Core.Path.{sym, ◌∙◌}
-use borrow.Author.Rules.{rules}
 use Rattle.eols.proofs.LineEnds.{width_at, nel, not_nel, ls, not_ls, none11}
 use Rattle.eols.proofs.newer_width.Goals as goal
 

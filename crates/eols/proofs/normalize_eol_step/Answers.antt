@@ -1,6 +1,5 @@
 use mathlib.Core.Path.{sym, ◌∙◌}
 use Rattle.eols.proofs.LineEnds.{step_copies, step_ends}
-use borrow.Author.Rules.{rules}
 use Rattle.eols.proofs.normalize_eol_step.Goals as goal
 
 pub returns-then-width-eq0 : goal.returns-then-width-eq0

@@ -1,11 +1,10 @@
 -- `write_eols`: at each turn what is written of the first i bytes lies in the output (`Written`), then the run that is copied (`put`), then
--- a byte. The loop starts behind the run that `put_wide` has copied, so what the output was before is any `old` over which it was copied.
+-- a byte. The loop starts behind the run that `put_wide` has copied.
 use mathlib.Core.List.{List}
 use Prim.Native.Nat.{ℕ, ◌+◌, ◌-◌, ◌≤◌}
 use native.Mathlib.Omega.{arith}
 use lib.ListN.{length, drop}
 use borrow.Rule.Slice.PartMut.{put_mid}
-use Rattle.output.specs.Runs.{Copied}
 use Rattle.runs.specs.RunEnds.{line_stop}
 use Rattle.eols.specs.LineEnds.{eols_from, eols}
 use Rattle.eols.specs.Stops.{rule_for}
@@ -13,41 +12,29 @@ use Rattle.eols.proofs.Writing.{eols_over, start_room, start_written}
 use Rattle.eols.proofs.LineEnds.{plain_run_lem}
 use Rattle.output.proofs.Writers.{rest_room, rest_run, run_written}
 use Rattle.output.proofs.Written.{Written, written_as, written_byte, written_all, written_end, to_come, same_length as same, byte_room}
-use borrow.Author.Rules.{rules}
 use Rattle.eols.proofs.write_eols.Goals as goal
-use Rattle.eols.proofs.write_eols.Goals.{After-put_plain-count, At-loop-i, Start}
+use Rattle.eols.proofs.write_eols.Goals.{After-put_plain-count}
 
--- what is to be written, whole and from an index on
-abbrev whole : Start → List ℕ
-whole s = eols (rule_for s.args.newer) s.args.text.now
-
-abbrev rest : Start → ℕ → List ℕ
-rest s i = eols_from (rule_for s.args.newer) 0 (drop i s.args.text.now)
+-- what is to be written, from an index on
+abbrev rest : After-put_plain-count → ℕ → List ℕ
+rest c i = eols_from (rule_for c.args.newer) 0 (drop i c.args.text.now)
 
 -- where the run ends, and what lies in the output then
 abbrev end : After-put_plain-count → ℕ
 end c = c.loop-i.i + c.put_plain-count.result
 
 abbrev held : After-put_plain-count → List ℕ
-held c =
-    put_mid c.loop-i.at (length c.loop-i.out - c.loop-i.at) c.loop-i.out c.put_plain-count.new.out
+held c = put_mid c.loop-i.at (length c.loop-i.out - c.loop-i.at) c.loop-i.out c.put_plain-count.new.out
 
-so_far : (c : At-loop-i) → Written (eols (rule_for c.args.newer) c.args.text.now) (rest c.PLACE_Start c.loop-i.i) c.args.out.now c.loop-i.out c.loop-i.at
-so_far c = c.loop-i.invariant.1 c.args.out.now c.put_wide-start.ensures c.requires
-
-run-put : (c : After-put_plain-count) {old : List ℕ} → Written (whole (start (turn c))) (rest (start (turn c)) (turn c).loop.i) old (turn c).loop.out (turn c).loop.at → Written (whole (start (turn c))) (rest (start (turn c)) (end c)) old (held c) ((turn c).loop.at + c.put-plain.result)
-run-put c w =
-    let a = (start (turn c)).args in
-    let l = (turn c).loop in
-    run_written (line_stop a.newer) (eols_from (rule_for a.newer) 0) (plain_run_lem a.newer) a.text.now l.i w l.inv.0 c.put-plain.ensures
-
-put : (c : After-put_plain-count) → Written (eols (rule_for c.args.newer) c.args.text.now) (rest c.PLACE_Start (end c)) c.args.out.now (held c) (c.loop-i.at + c.put_plain-count.result)
-put c = run-put c (c.loop-i.invariant.1 c.args.out.now c.put_wide-start.ensures c.requires)
+put : (c : After-put_plain-count) → Written (eols (rule_for c.args.newer) c.args.text.now) (rest c (end c)) c.args.out.now (held c) (c.loop-i.at + c.put_plain-count.result)
+put c =
+    let a = c.args in
+    run_written (line_stop a.newer) (eols_from (rule_for a.newer) 0) (plain_run_lem a.newer) a.text.now c.loop-i.i c.loop-i.invariant.written c.loop-i.invariant.inside c.put_plain-count.ensures
 
 inside : (c : After-put_plain-count) → end c ≤ length c.args.text.now
 inside c =
     let a = c.args in
-    (rest_run (line_stop a.newer) (eols_from (rule_for a.newer) 0) (plain_run_lem a.newer) a.text.now c.loop-i.i (c.loop-i.invariant.1 c.args.out.now c.put_wide-start.ensures c.requires) c.loop-i.invariant.0 c.put_plain-count.ensures).to
+    (rest_run (line_stop a.newer) (eols_from (rule_for a.newer) 0) (plain_run_lem a.newer) a.text.now c.loop-i.i c.loop-i.invariant.written c.loop-i.invariant.inside c.put_plain-count.ensures).to
 
 pub put_wide-start-requires : goal.put_wide-start-requires
 put_wide-start-requires c =
@@ -55,27 +42,26 @@ put_wide-start-requires c =
 
 pub loop-i-init : goal.loop-i-init
 loop-i-init c =
-    let a = c.args in
-    (c.put_wide-start.ensures.run.to, λ old d h. start_written a.newer a.text.now d)
+    record { inside = c.put_wide-start.ensures.run.to; written = start_written c.args.newer c.args.text.now c.put_wide-start.ensures }
 
 pub slice_bounds-put_plain-count : goal.slice_bounds-put_plain-count
-slice_bounds-put_plain-count c = c.loop-i.invariant.0
+slice_bounds-put_plain-count c = c.loop-i.invariant.inside
 
 pub slice_bounds-put_plain-start : goal.slice_bounds-put_plain-start
-slice_bounds-put_plain-start c = c.loop-i.invariant.0
+slice_bounds-put_plain-start c = c.loop-i.invariant.inside
 
 pub slice_bounds-put_plain-count-in-loop-i : goal.slice_bounds-put_plain-count-in-loop-i
 slice_bounds-put_plain-count-in-loop-i c =
-    omega (arith, to_come (so_far (goal.at.slice_bounds-put_plain-count-in-loop-i c).At-loop-i), same (so_far (goal.at.slice_bounds-put_plain-count-in-loop-i c).At-loop-i) c.requires, c.requires)
+    omega (arith, to_come c.loop-i.invariant.written, same c.loop-i.invariant.written c.requires, c.requires)
 
 pub slice_bounds-put_plain-start-in-loop-i : goal.slice_bounds-put_plain-start-in-loop-i
 slice_bounds-put_plain-start-in-loop-i c =
-    omega (arith, to_come (so_far (goal.at.slice_bounds-put_plain-start-in-loop-i c).At-loop-i), same (so_far (goal.at.slice_bounds-put_plain-start-in-loop-i c).At-loop-i) c.requires, c.requires)
+    omega (arith, to_come c.loop-i.invariant.written, same c.loop-i.invariant.written c.requires, c.requires)
 
 pub put_plain-count-requires : goal.put_plain-count-requires
 put_plain-count-requires c =
     let a = c.args in
-    rest_room (line_stop a.newer) (eols_from (rule_for a.newer) 0) (plain_run_lem a.newer) a.text.now c.loop-i.i (so_far (goal.at.put_plain-count-requires c).At-loop-i) c.requires
+    rest_room (line_stop a.newer) (eols_from (rule_for a.newer) 0) (plain_run_lem a.newer) a.text.now c.loop-i.i c.loop-i.invariant.written c.requires
 
 pub overflow_add-e : goal.overflow_add-e
 overflow_add-e c = omega (arith, inside (goal.at.overflow_add-e c).After-put_plain-count)
@@ -111,14 +97,16 @@ loop-i-smaller c =
     omega (arith, c.normalize_eol_step-step.ensures.some, c.normalize_eol_step-step.ensures.inside)
 
 pub loop-i-preserved : goal.loop-i-preserved
-loop-i-preserved c =
-    (c.normalize_eol_step-step.ensures.inside, λ old d h. written_byte _ (written_as c.normalize_eol_step-step.ensures.rest (run-put c (c.loop-i.invariant.1 old d h))) h)
+loop-i-preserved c = record {
+  inside = c.normalize_eol_step-step.ensures.inside;
+  written = written_byte _ (written_as c.normalize_eol_step-step.ensures.rest (put (goal.at.loop-i-preserved c).After-put_plain-count)) c.requires;
+}
 
 pub shape_of-out : goal.shape_of-out
-shape_of-out c = same (so_far (goal.at.shape_of-out c).At-loop-i) c.requires
+shape_of-out c = same c.loop-i.invariant.written c.requires
 
 pub returns : goal.returns
 returns c =
     let a = c.args in
-    let w = written_as (eols_over a.newer a.text.now c.loop-i.i c.loop-i-test.false) (so_far (goal.at.returns c).At-loop-i) in
+    let w = written_as (eols_over a.newer a.text.now c.loop-i.i c.loop-i-test.false) c.loop-i.invariant.written in
     (written_all w, written_end w)

@@ -16,8 +16,7 @@ overflow_add-n c =
 
 pub loop-k-preserved : goal.loop-k-preserved
 loop-k-preserved c =
-    let a = c.args in
-    (
+    let a = c.args in (
       omega arith,
       count_next a.chars a.text.now a.i c.loop-k.k c.loop-k.n c.added_one.result (omega arith) c.loop-k.invariant.1 c.added_one.ensures,
       omega (arith, c.added_one.ensures, added_most a.chars (get_or a.text.now (a.i + c.loop-k.k) 0)),

@@ -61,7 +61,7 @@ pub put_shown-requires : goal.put_shown-requires
 put_shown-requires c =
     let given = c.args in
     let q : c.loop-i.i + 16 - c.loop-i.i ≡ 16 = omega arith in
-    let part : length (mid_of c.loop-i.i 16 given.text.now) ≡ 16 = mid_length c.loop-i.i 16 given.text.now (plain (goal.at.put_shown-requires c).Else-any_escaped).to in 
+    let part : length (mid_of c.loop-i.i 16 given.text.now) ≡ 16 = mid_length c.loop-i.i 16 given.text.now (plain (goal.at.put_shown-requires c).Else-any_escaped).to in
     record { src_len = rw q part; in_bounds = rw q at (part_room _ _ _ c.loop-i.invariant.0 c.loop-i.invariant.1 (plain-shown (goal.at.put_shown-requires c).Else-any_escaped)) }
 
 pub overflow_add-i-in-loop-i : goal.overflow_add-i-in-loop-i

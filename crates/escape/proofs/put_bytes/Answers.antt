@@ -49,5 +49,5 @@ shape_of-out c = copied_length _ _ _ c.loop-i.invariant.0 c.loop-i.invariant.1
 
 pub returns : goal.returns
 returns c =
-    let given = c.args in 
+    let given = c.args in
     record { copied = c.loop-i.invariant.0; ends = λ h. absurd (omega (arith, h, c.loop-i-test.false, shown_length given.spaces given.text.now)) }

@@ -52,5 +52,5 @@ pub returns : goal.returns
 returns c =
     let given = c.args in
     let copy = rw (rest-shown (goal.at.returns c).After-put_blocks-near) at c.put_bytes.ensures.copied in
-    let ends = rw (rest-shown (goal.at.returns c).After-put_blocks-near) at c.put_bytes.ensures.ends in 
+    let ends = rw (rest-shown (goal.at.returns c).After-put_blocks-near) at c.put_bytes.ensures.ends in
     record { copied = copied_rest _ _ _ c.put_blocks-near.ensures c.requires.room copy; ends = ends_shift (escaped_by given.chars) (whole (goal.at.returns c).After-put_blocks-near) c.put_blocks-near.result c.put_bytes.result c.put_blocks-near.ensures.run.to ends }

@@ -30,8 +30,7 @@ pub loop-k-preserved : goal.loop-k-preserved
 loop-k-preserved c =
     let given = c.args in
     let src = given.src.now in
-    let old = given.out.now in
-    (
+    let old = given.out.now in (
       omega (arith, c.loop-k-test.true),
       ⊎_elim
           (λ w. rw w.3 (laying_next src old c.loop-k.invariant.1 (omega (arith, c.loop-k.invariant.1.size, c.requires.1)) w.0.taken w.2.ensures))

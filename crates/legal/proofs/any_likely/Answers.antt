@@ -1,8 +1,7 @@
 -- `any_likely`: where no accumulator is set, no byte passed begins a fault of any rule (`likely_none`). Assumes nothing.
-use mathlib.Core.Bool.{◌||◌}
 use native.Mathlib.Omega.{arith}
-use Prim.Native.Nat.{◌+◌, ◌-◌}
-use Rattle.legal.proofs.Clean.{Looked, looked_none, looked_four, looked_all, likely_none}
+use Prim.Native.Nat.{◌+◌}
+use Rattle.legal.proofs.Clean.{looked_none, looked_four, looked_all, likely_none}
 use Rattle.legal.proofs.any_likely.Goals as goal
 
 pub loop-k-init : goal.loop-k-init

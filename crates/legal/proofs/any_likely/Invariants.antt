@@ -1,7 +1,6 @@
 use mathlib.Core.Bool.{◌||◌}
-use native.Mathlib.Omega.{arith}
-use Prim.Native.Nat.{◌+◌, ◌-◌}
-use Rattle.legal.proofs.Clean.{Looked, looked_none, looked_four, looked_all, likely_none}
+use Prim.Native.Nat.{◌-◌}
+use Rattle.legal.proofs.Clean.{Looked}
 use Rattle.legal.proofs.any_likely.Given as goal
 
 abbrev pub invariant-loop-k : goal.invariant-loop-k

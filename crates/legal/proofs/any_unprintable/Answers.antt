@@ -1,7 +1,7 @@
 -- `any_unprintable`: where `hit` is not set, no byte passed begins a fault of any rule (`unprintable_none`). Assumes nothing.
 use native.Mathlib.Omega.{arith}
-use Prim.Native.Nat.{◌+◌, ◌-◌}
-use Rattle.legal.proofs.Clean.{Looked, looked_none, looked_one, looked_all, unprintable_none}
+use Prim.Native.Nat.{◌+◌}
+use Rattle.legal.proofs.Clean.{looked_none, looked_one, looked_all, unprintable_none}
 use Rattle.legal.proofs.any_unprintable.Goals as goal
 
 pub loop-k-init : goal.loop-k-init

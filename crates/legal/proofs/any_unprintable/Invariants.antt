@@ -1,6 +1,5 @@
-use native.Mathlib.Omega.{arith}
-use Prim.Native.Nat.{◌+◌, ◌-◌}
-use Rattle.legal.proofs.Clean.{Looked, looked_none, looked_one, looked_all, unprintable_none}
+use Prim.Native.Nat.{◌-◌}
+use Rattle.legal.proofs.Clean.{Looked}
 use Rattle.legal.proofs.any_unprintable.Given as goal
 
 abbrev pub invariant-loop-k : goal.invariant-loop-k

@@ -3,7 +3,6 @@ use mathlib.Core.Path.{◌≡◌, sym, ap, ◌∙◌}
 use Prim.Native.Nat.{ℕ}
 use lib.Dec.{eqb}
 use lib.ListN.{drop, get_or}
-use borrow.Author.Rules.{rules}
 use borrow.Author.Tests.{eqb-true}
 use Rattle.text.proofs.Bytes.{and_left, and_right}
 use Rattle.legal.specs.FirstFault.{faults_by}
@@ -23,8 +22,8 @@ pub returns-then-b-2 : goal.returns-then-b-2
 returns-then-b-2 c = c.noncharacter_at.ensures c.args.rule
 
 -- the byte is C2, and the rule is that of a value under 1.1
-is-c2 : (c : Then-b-rule) → get_or c.args.text.now c.args.i 0 ≡ 0xC2
-is-c2 c =
+is_c2 : (c : Then-b-rule) → get_or c.args.text.now c.args.i 0 ≡ 0xC2
+is_c2 c =
     let b = get_or c.args.text.now c.args.i 0 in
     eqb-true b 0xC2 (and_left (eqb b 0xC2) (eqb c.args.rule 1) c.if-b-rule.true)
 
@@ -34,7 +33,7 @@ is_one c =
     eqb-true c.args.rule 1 (and_right (eqb b 0xC2) (eqb c.args.rule 1) c.if-b-rule.true)
 
 pub restricted_at-requires : goal.restricted_at-requires
-restricted_at-requires c = record { i_in_bounds = c.requires; i_value = is-c2 c }
+restricted_at-requires c = record { i_in_bounds = c.requires; i_value = is_c2 c }
 
 pub returns-then-b-rule : goal.returns-then-b-rule
 returns-then-b-rule c =

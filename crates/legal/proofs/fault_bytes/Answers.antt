@@ -1,9 +1,9 @@
 -- `fault_bytes`: at no place before i a fault begins; the first that `fault_at` finds is answered. Assumes nothing.
 use mathlib.Core.Path.{sym, ◌∙◌}
 use native.Mathlib.Omega.{arith}
-use Prim.Native.Nat.{◌+◌, ◌-◌}
+use Prim.Native.Nat.{◌+◌}
 use Rattle.legal.specs.FirstFault.{faults_by}
-use Rattle.legal.proofs.Clean.{Searched, searched_none, searched_more, searched_all, clean_byte, first_here}
+use Rattle.legal.proofs.Clean.{searched_none, searched_more, searched_all, clean_byte, first_here}
 use Rattle.legal.proofs.fault_bytes.Goals as goal
 
 pub loop-i-init : goal.loop-i-init

@@ -1,8 +1,6 @@
-use mathlib.Core.Path.{sym, ◌∙◌}
-use native.Mathlib.Omega.{arith}
-use Prim.Native.Nat.{◌+◌, ◌-◌}
+use Prim.Native.Nat.{◌-◌}
 use Rattle.legal.specs.FirstFault.{faults_by}
-use Rattle.legal.proofs.Clean.{Searched, searched_none, searched_more, searched_all, clean_byte, first_here}
+use Rattle.legal.proofs.Clean.{Searched}
 use Rattle.legal.proofs.fault_bytes.Given as goal
 
 abbrev pub invariant-loop-i : goal.invariant-loop-i

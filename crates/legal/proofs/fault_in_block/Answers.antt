@@ -1,6 +1,4 @@
 -- `fault_in_block`: no fault is likely in the block, or each byte is asked. Assumes nothing.
-use borrow.Author.Rules.{rules}
-use borrow.Author.Tests.{not-true}
 use Rattle.legal.specs.FirstFault.{faults_by}
 use Rattle.legal.proofs.Clean.{first_over}
 use Rattle.legal.proofs.fault_in_block.Goals as goal

@@ -4,8 +4,7 @@ use mathlib.Core.Bool.{true, ◌&&◌}
 use native.Mathlib.Omega.{arith}
 use Prim.Native.Nat.{ℕ, ◌-◌, ◌≤◌}
 use lib.Dec.{leb}
-use borrow.Author.Rules.{rules}
-use borrow.Author.Tests.{not-true, leb-true}
+use borrow.Author.Tests.{leb-true}
 use Rattle.text.proofs.Bytes.{and_right}
 use Rattle.legal.specs.FirstFault.{faults_by}
 use Rattle.legal.proofs.Clean.{first_over, clean_last}

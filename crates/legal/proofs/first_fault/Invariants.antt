@@ -1,8 +1,6 @@
-use mathlib.Core.Logic.{⊎_elim}
-use native.Mathlib.Omega.{arith}
-use Prim.Native.Nat.{◌+◌, ◌-◌}
+use Prim.Native.Nat.{◌-◌}
 use Rattle.legal.specs.FirstFault.{faults_by}
-use Rattle.legal.proofs.Clean.{Searched, searched_none, searched_more, first_join, first_longer, first_none}
+use Rattle.legal.proofs.Clean.{Searched}
 use Rattle.legal.proofs.first_fault.Given as goal
 
 abbrev pub invariant-loop-i : goal.invariant-loop-i

@@ -1,6 +1,5 @@
 -- `noncharacter_at`: fewer than two bytes follow (`ef_end`), or the two after EF tell (`ef_at`). Assumes nothing.
 use native.Mathlib.Omega.{arith}
-use borrow.Author.Rules.{rules}
 use Rattle.legal.proofs.Clean.{ef_at, ef_end}
 use Rattle.legal.proofs.noncharacter_at.Goals as goal
 

@@ -1,6 +1,5 @@
 -- `restricted_at`: nothing follows (`c2_end`), or the byte after C2 tells (`c2_at`). Assumes nothing.
 use native.Mathlib.Omega.{arith}
-use borrow.Author.Rules.{rules}
 use Rattle.legal.proofs.Clean.{c2_at, c2_end}
 use Rattle.legal.proofs.restricted_at.Goals as goal
 

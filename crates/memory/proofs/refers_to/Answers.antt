@@ -74,7 +74,7 @@ bounds-seen-slot c =
 
 pub is_named-requires : goal.is_named-requires
 is_named-requires c =
-    let d = slot_defines c.requires.trusts c.requires.slot_bound.0 c.if-known-ne0.true in 
+    let d = slot_defines c.requires.trusts c.requires.slot_bound.0 c.if-known-ne0.true in
     record { at_in_bounds = omega (arith, d.fits); at_in_bounds_2 = d.name }
 
 pub text_start-start-requires : goal.text_start-start-requires
@@ -87,9 +87,12 @@ text_length-requires c =
 
 pub returns-then-is_named : goal.returns-then-is_named
 returns-then-is_named c =
-    record { refers = let named = sym c.is_named.ensures ∙ c.if-is_named.true in
+    record {
+      refers = let named = sym c.is_named.ensures ∙ c.if-is_named.true in
           refers_known c.args.name.now c.requires.trusts c.requires.slot_bound.0 (less_one c.if-known-ne0.true) named
-          c.text_start-start.ensures.0 c.text_length.ensures.0; indexed = index_same c.requires.trusts }
+          c.text_start-start.ensures.0 c.text_length.ensures.0;
+      indexed = index_same c.requires.trusts;
+    }
 
 pub offset_bounds-seen-plain_word : goal.offset_bounds-seen-plain_word
 offset_bounds-seen-plain_word c =
@@ -101,8 +104,11 @@ bounds-seen-plain_word c =
 
 pub returns-then-seen-plain_word-ne0 : goal.returns-then-seen-plain_word-ne0
 returns-then-seen-plain_word-ne0 c =
-    record { refers = refers_trusted c.args.name.now c.requires.trusts c.requires.slot_bound.1 c.resolve_xml_entity.result c.resolve_xml_entity.ensures.by_index c.resolve_xml_entity.ensures.by_index_2
-          c.in-Predefined.is (λ z. c.if-seen-plain_word-ne0.true (ap (λ (n : ℕ). get_or c.args.seen.now n 0) c.plain_word.ensures ∙ z)); indexed = index_same c.requires.trusts }
+    record {
+      refers = refers_trusted c.args.name.now c.requires.trusts c.requires.slot_bound.1 c.resolve_xml_entity.result c.resolve_xml_entity.ensures.by_index c.resolve_xml_entity.ensures.by_index_2
+          c.in-Predefined.is (λ z. c.if-seen-plain_word-ne0.true (ap (λ (n : ℕ). get_or c.args.seen.now n 0) c.plain_word.ensures ∙ z));
+      indexed = index_same c.requires.trusts;
+    }
 
 pub slice_bounds-find_entity-end : goal.slice_bounds-find_entity-end
 slice_bounds-find_entity-end c = ap length (sym (whole c.args.list.now))
@@ -119,7 +125,7 @@ find_entity-requires c =
 
 pub returns-then-seen-le84 : goal.returns-then-seen-le84
 returns-then-seen-le84 c =
-    let a = c.args in 
+    let a = c.args in
     record { refers = rw (whole a.list.now, whole a.pool.now, whole a.name.now) at c.find_entity.ensures; indexed = index_same c.requires.trusts }
 
 pub slice_bounds-find-end-2 : goal.slice_bounds-find-end-2

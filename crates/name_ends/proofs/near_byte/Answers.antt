@@ -22,8 +22,7 @@ returns-then-text-from c =
 
 pub loop-k-preserved : goal.loop-k-preserved
 loop-k-preserved c =
-    let given = c.args in
-    (
+    let given = c.args in (
       search rules,
       plain_next (is_byte given.b) given.text.now given.from c.loop-k.k (omega (arith, c.requires, c.loop-k-test.true))
           c.loop-k.invariant.1 (ne_eqb _ _ c.if-text-from.false),

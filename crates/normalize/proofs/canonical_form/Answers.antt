@@ -52,7 +52,7 @@ slice_bounds-put_last-end-2 c =
 
 pub put_last-requires : goal.put_last-requires
 put_last-requires c =
-    let made = form-made (goal.at.put_last-requires c).In-Done-2 in 
+    let made = form-made (goal.at.put_last-requires c).In-Done-2 in
     record { in_bounds = made.enough; form_of = made_form made (value-utf8 (goal.at.put_last-requires c).In-Done-2) }
 
 pub returns : goal.returns

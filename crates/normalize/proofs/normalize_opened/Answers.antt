@@ -6,7 +6,7 @@ use Rattle.normalize.proofs.normalize_opened.Goals as goal
 
 pub normalize_attr_steps-requires : goal.normalize_attr_steps-requires
 normalize_attr_steps-requires c =
-    let a = c.args in 
+    let a = c.args in
     record { valid_table = c.requires.valid_table; walkable = c.requires.base_value.1; in_bounds = omega arith; lent = opened_lent a.reading a.list.now a.pool.now a.text.now c.requires.base_value.0 a.begun c.requires.lent }
 
 pub returns : goal.returns

@@ -5,19 +5,19 @@ use Rattle.normalize.proofs.normalize_text.Goals as goal
 
 pub normalize_flat-requires : goal.normalize_flat-requires
 normalize_flat-requires c =
-    let a = c.args in 
+    let a = c.args in
     record { valid_table = c.requires.valid_table; depth_nonzero = (c.requires.base_value.1.deep, c.requires.base_value.1.most, c.requires.base_value.1.short); halt_at = c.requires.halt_at; lent = start_lent a.reading a.list.now a.pool.now a.text.now c.requires.base_value.0 c.requires.well_formed c.requires.base_value.1.short a.out.now }
 
 pub normalize_opened-requires : goal.normalize_opened-requires
 normalize_opened-requires c =
     let a = c.args in
-    let came = text_opens a.reading a.list.now a.pool.now a.text.now c.requires.base_value.0 c.requires.well_formed c.normalize_flat.ensures c.in-Opening.is in 
+    let came = text_opens a.reading a.list.now a.pool.now a.text.now c.requires.base_value.0 c.requires.well_formed c.normalize_flat.ensures c.in-Opening.is in
     record { valid_table = c.requires.valid_table; base_value = c.requires.base_value; lent = on_lent a.reading a.list.now a.pool.now a.text.now c.requires.base_value.0 c.requires.well_formed c.normalize_flat.ensures came c.requires.base_value.1.short }
 
 pub normalize_opened-requires-in-Paused : goal.normalize_opened-requires-in-Paused
 normalize_opened-requires-in-Paused c =
     let a = c.args in
-    let came = text_pauses a.reading a.list.now a.pool.now a.text.now c.requires.base_value.0 c.requires.well_formed c.normalize_flat.ensures c.in-Paused.is in 
+    let came = text_pauses a.reading a.list.now a.pool.now a.text.now c.requires.base_value.0 c.requires.well_formed c.normalize_flat.ensures c.in-Paused.is in
     record { valid_table = c.requires.valid_table; base_value = c.requires.base_value; lent = on_lent a.reading a.list.now a.pool.now a.text.now c.requires.base_value.0 c.requires.well_formed c.normalize_flat.ensures came c.requires.base_value.1.short }
 
 pub returns-in-End : goal.returns-in-End

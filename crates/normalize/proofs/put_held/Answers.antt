@@ -82,7 +82,7 @@ slice_bounds-put_block-end-3 c = omega arith
 
 pub put_block-requires-2 : goal.put_block-requires-2
 put_block-requires-2 c =
-    let n = length c.args.src.now in 
+    let n = length c.args.src.now in
     record { src_len = holding_block c.loop-i.invariant c.requires (n - 16) n (omega (arith, c.loop-i.invariant.ends)) (omega arith); in_bounds = holding_room c.loop-i.invariant c.requires (n - 16) (omega (arith, c.loop-i.invariant.ends)) }
 
 pub shape_of-out : goal.shape_of-out

@@ -8,5 +8,5 @@ use Rattle.normalize.proofs.walk_long.Goals as goal
 
 pub walk_into-requires : goal.walk_into-requires
 walk_into-requires c =
-    let a = c.args in 
+    let a = c.args in
     record { valid_table = c.requires.valid_table; base_value = c.requires.base_value; well_formed = c.requires.well_formed; in_bounds = (omega (arith, length-replicate {A = ℕ} 2133 0), room_new a.list.now a.pool.now 2049 (omega arith) (omega arith)) }

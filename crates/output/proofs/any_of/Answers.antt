@@ -1,11 +1,7 @@
 -- `any_of` tests `size` bytes with no branch (`Missed`): where nothing hit, none of them is a or b.
 use mathlib.Core.Path.{refl}
-use Prim.Native.Nat.{ℕ, ◌+◌, ◌-◌}
-use lib.ListN.{get_or}
-use Rattle.text.proofs.Missed.{Missed, missed_start, missed_more, missed_all}
-use Rattle.output.specs.Runs.{either_byte}
+use Rattle.text.proofs.Missed.{missed_start, missed_more, missed_all}
 use Rattle.output.proofs.Runs.{plain_of}
-use borrow.Author.Rules.{rules}
 use Rattle.output.proofs.any_of.Goals as goal
 
 pub loop-k-init : goal.loop-k-init

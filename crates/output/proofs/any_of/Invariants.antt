@@ -1,10 +1,7 @@
-use mathlib.Core.Path.{refl}
 use Prim.Native.Nat.{ℕ, ◌+◌, ◌-◌}
 use lib.ListN.{get_or}
-use Rattle.text.proofs.Missed.{Missed, missed_start, missed_more, missed_all}
+use Rattle.text.proofs.Missed.{Missed}
 use Rattle.output.specs.Runs.{either_byte}
-use Rattle.output.proofs.Runs.{plain_of}
-use borrow.Author.Rules.{rules}
 use Rattle.output.proofs.any_of.Given as goal
 
 abbrev pub invariant-loop-k : goal.invariant-loop-k

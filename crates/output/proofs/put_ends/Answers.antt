@@ -5,7 +5,6 @@ use lib.ListN.{length, take}
 use lib.Seq.{length-take-le}
 use native.Mathlib.Omega.{arith}
 use Rattle.output.proofs.Laid.{laid_ends}
-use borrow.Author.Rules.{rules}
 use Rattle.output.proofs.put_ends.Goals as goal
 use Rattle.output.proofs.put_ends.Goals.{Start}
 

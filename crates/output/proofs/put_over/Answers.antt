@@ -3,7 +3,6 @@ use native.Mathlib.Omega.{arith}
 use lib.ListN.{length-take}
 use lib.Seq.{length-take-le}
 use Rattle.output.proofs.Clip.{over_clipped}
-use borrow.Author.Rules.{rules}
 use Rattle.output.proofs.put_over.Goals as goal
 
 pub slice_bounds-put_part-end : goal.slice_bounds-put_part-end

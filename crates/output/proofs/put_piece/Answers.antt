@@ -5,7 +5,6 @@ use Prim.Native.Nat.{ℕ}
 use lib.ListN.{length}
 use Rattle.text.specs.Call.{laid}
 use Rattle.output.proofs.Laid.{laid_front}
-use borrow.Author.Rules.{rules}
 use Rattle.output.proofs.put_piece.Goals as goal
 
 pub slice_bounds-put_run-end-2 : goal.slice_bounds-put_run-end-2

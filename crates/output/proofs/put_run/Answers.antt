@@ -1,8 +1,6 @@
 -- `put_run` keeps: the first i bytes of the run are laid over the output (`Laying`). Assumes nothing.
-use Prim.Native.Nat.{◌-◌}
 use native.Mathlib.Omega.{arith}
-use lib.ListN.{length}
-use Rattle.output.proofs.Laid.{Laying, laying_none, laying_next, laying_all}
+use Rattle.output.proofs.Laid.{laying_none, laying_next, laying_all}
 use Rattle.output.proofs.put_run.Goals as goal
 
 pub loop-i-init : goal.loop-i-init

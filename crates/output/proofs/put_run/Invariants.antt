@@ -1,7 +1,6 @@
 use Prim.Native.Nat.{◌-◌}
-use native.Mathlib.Omega.{arith}
 use lib.ListN.{length}
-use Rattle.output.proofs.Laid.{Laying, laying_none, laying_next, laying_all}
+use Rattle.output.proofs.Laid.{Laying}
 use Rattle.output.proofs.put_run.Given as goal
 
 abbrev pub invariant-loop-i : goal.invariant-loop-i

@@ -23,7 +23,7 @@ end_at-end-requires c = turn_whole (filled (goal.at.end_at-end-requires c).At-lo
 pub sift_entry-requires : goal.sift_entry-requires
 sift_entry-requires c =
     let n = c.loop-at.invariant.0 in
-    let place = c.loop-at.invariant.1.looking.place in 
+    let place = c.loop-at.invariant.1.looking.place in
     record { whole = turn_whole (filled (goal.at.sift_entry-requires c).At-loop-at) place (one (goal.at.sift_entry-requires c).In-loop-at); filled = (front_filled (filled (goal.at.sift_entry-requires c).At-loop-at) place).1; end_value = c.end_at-end.ensures; in_bounds = (omega (arith, c.requires.in_bounds, n), omega (arith, c.requires.in_bounds, n), c.requires.in_bounds.2) }
 
 pub shape_of-table-then-sift_entry : goal.shape_of-table-then-sift_entry

@@ -4,7 +4,6 @@ use native.Mathlib.Omega.{arith}
 use lib.ListN.{length, take}
 use lib.Seq.{length-take-le}
 use Rattle.output.proofs.Laid.{laid_ends}
-use borrow.Author.Rules.{rules}
 use Rattle.runs.proofs.put_two_blocks.Goals as goal
 use Rattle.runs.proofs.put_two_blocks.Goals.{Start}
 

@@ -30,9 +30,12 @@ returns-then-list-length c =
 
 pub write_all-requires : goal.write_all-requires
 write_all-requires c =
-    record { text_len_bound = c.requires; counted = answer_ready _ _ c.args.text.now (version_rule c.args.version _ refl)
+    record {
+      text_len_bound = c.requires;
+      counted = answer_ready _ _ c.args.text.now (version_rule c.args.version _ refl)
           (all_told c.in-Read.is c.read_all-counted.ensures) (c.read_all-counted.new.list ++ c.args.list.now)
-          (c.read_all-counted.new.pool ++ c.args.pool.now) c.if-list-length.false }
+          (c.read_all-counted.new.pool ++ c.args.pool.now) c.if-list-length.false;
+    }
 
 pub step_answer-requires : goal.step_answer-requires
 step_answer-requires c = broken_inside _ (all_told c.in-Stopped.is c.read_all-counted.ensures)

@@ -27,7 +27,7 @@ insert-requires c =
     let b = c.loop-at.invariant.0 in
     let d = building_declared _ _ b c.loop-at-test.true in
     let list = c.args.list.now in
-    let fits : c.loop-at.at + 6 ≤ length list = omega (arith, d.fits, size_some (get_or list c.loop-at.at 0)) in 
+    let fits : c.loop-at.at + 6 ≤ length list = omega (arith, d.fits, size_some (get_or list c.loop-at.at 0)) in
     record { at_bound = (omega (arith, building_short _ _ b), b.sized); at_in_bounds = fits; at_in_bounds_2 = d.name }
 
 pub overflow_add-vain : goal.overflow_add-vain

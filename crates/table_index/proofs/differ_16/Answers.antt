@@ -34,5 +34,5 @@ pub returns : goal.returns
 returns c =
     let given = c.args in
     let all : c.loop-k.k ≡ 16 = omega (arith, c.loop-k.invariant.0, c.loop-k-test.false) in
-    let d = subst (λ (n : ℕ). Differing given.pool.now given.start given.name.now given.i n c.loop-k.differ) all c.loop-k.invariant.1 in 
+    let d = subst (λ (n : ℕ). Differing given.pool.now given.start given.name.now given.i n c.loop-k.differ) all c.loop-k.invariant.1 in
     record { k_value = d.same; fact = d.other }

@@ -12,5 +12,5 @@ overflow_add-index-3 c =
 pub returns : goal.returns
 returns c =
     let given = c.args in
-    let words = given.index.now in 
+    let words = given.index.now in
     record { filled_at = slot_filled words given.s given.at c.requires.s_bound.0 c.requires.at_bound.0 c.requires.at_bound.1.is refl refl; index_len_unchanged = length-set words _ _ }

@@ -26,11 +26,11 @@ pub look_up-requires : goal.look_up-requires
 look_up-requires c =
     let a = c.args in
     let Asked : List ℕ → List ℕ → List ℕ → Type 0 = λ l p w. ValidTable l p × Ready l p w × (state_of w ≡ built_state) in
-    let built = as_parts Asked a.list.now a.pool.now a.index.now (c.requires.valid_table, c.requires.index_nonzero.1, c.if-index-eq-BUILT.true) in 
+    let built = as_parts Asked a.list.now a.pool.now a.index.now (c.requires.valid_table, c.requires.index_nonzero.1, c.if-index-eq-BUILT.true) in
     record { valid_table = built.0; ready = (built.1, built.2) }
 
 pub returns-then-index-eq-BUILT : goal.returns-then-index-eq-BUILT
 returns-then-index-eq-BUILT c =
     let a = c.args in
-    let Answered : List ℕ → List ℕ → List ℕ → Type 0 = λ l p n. Refers l p n c.look_up.result in 
+    let Answered : List ℕ → List ℕ → List ℕ → Type 0 = λ l p n. Refers l p n c.look_up.result in
     record { refers = of_parts Answered a.list.now a.pool.now a.name.now c.look_up.ensures; ready = (c.requires.index_nonzero.1, refl) }

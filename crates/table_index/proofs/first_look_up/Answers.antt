@@ -55,7 +55,7 @@ bounds-index-0-4 c = omega (arith, c.requires.index_nonzero.0, length-set (words
 
 pub build-requires : goal.build-requires
 build-requires c =
-    let all = set_sized c.args.list.now c.args.pool.now (words (goal.at.build-requires c).After-passed_by) (state (goal.at.build-requires c).After-passed_by) (sized (goal.at.build-requires c).After-passed_by) in 
+    let all = set_sized c.args.list.now c.args.pool.now (words (goal.at.build-requires c).After-passed_by) (state (goal.at.build-requires c).After-passed_by) (sized (goal.at.build-requires c).After-passed_by) in
     record { valid_table = c.requires.valid_table; sized = (all, λ i. slot_state (words (goal.at.build-requires c).After-passed_by) (state (goal.at.build-requires c).After-passed_by) i ∙ empty (goal.at.build-requires c).After-passed_by i) }
 
 pub shape_of-index-then-list-index : goal.shape_of-index-then-list-index
@@ -73,5 +73,5 @@ returns-else-list-index c =
     let list = c.args.list.now in
     let pool = c.args.pool.now in
     let low : state (goal.at.returns-else-list-index c).After-passed_by < built_state = omega (arith, set_state list pool (words (goal.at.returns-else-list-index c).After-passed_by) (state (goal.at.returns-else-list-index c).After-passed_by) (sized (goal.at.returns-else-list-index c).After-passed_by), c.if-list-index.false, short (goal.at.returns-else-list-index c).Start) in
-    let ready = ready_counted list pool (words (goal.at.returns-else-list-index c).After-passed_by) (state (goal.at.returns-else-list-index c).After-passed_by) (sized (goal.at.returns-else-list-index c).After-passed_by) low (empty (goal.at.returns-else-list-index c).After-passed_by) in 
+    let ready = ready_counted list pool (words (goal.at.returns-else-list-index c).After-passed_by) (state (goal.at.returns-else-list-index c).After-passed_by) (sized (goal.at.returns-else-list-index c).After-passed_by) low (empty (goal.at.returns-else-list-index c).After-passed_by) in
     record { refers = c.find_entity-found.ensures; built = record { size = length-set (words (goal.at.returns-else-list-index c).After-passed_by) 0 (state (goal.at.returns-else-list-index c).After-passed_by); ready = ready } }

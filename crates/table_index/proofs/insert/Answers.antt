@@ -20,7 +20,7 @@ returns-then-k-eq-REACH c =
 
 pub fill-requires : goal.fill-requires
 fill-requires c =
-    let other = c.if-k-eq-REACH.false in 
+    let other = c.if-k-eq-REACH.false in
     record { s_bound = (omega (arith, c.home-from.ensures.1, c.empty_slot-k.ensures.within, other), c.requires.at_bound.1.large); at_bound = (c.requires.at_bound.0, first_vacant c.empty_slot-k.ensures other (omega arith)) }
 
 pub returns : goal.returns

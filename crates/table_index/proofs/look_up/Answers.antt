@@ -75,7 +75,7 @@ overflow_sub-s c = omega (arith, c.if-s-eq0.false)
 
 pub is_name-requires : goal.is_name-requires
 is_name-requires c =
-    let d = declared c in 
+    let d = declared c in
     record { at_in_bounds = omega (arith, d.fits, size_some (get_or c.args.list.now (c.slot_at-s.result - 1) 0)); at_in_bounds_2 = d.name }
 
 pub overflow_sub-s-then-is_name : goal.overflow_sub-s-then-is_name

@@ -19,16 +19,15 @@ pub name_char_width-width-requires : goal.name_char_width-width-requires
 name_char_width-width-requires c = c.loop-i-test.true
 
 pub returns-then-width-eq0 : goal.returns-then-width-eq0
-returns-then-width-eq0 c =
-    (
-      c.loop-i.invariant.0,
-      omega (
-        arith,
-        c.loop-i.invariant.1,
-        chars_stop xml10 c.args.text.now c.loop-i.i c.loop-i-test.true
-            c.name_char_width-width.ensures c.if-width-eq0.true,
-      ),
-    )
+returns-then-width-eq0 c = (
+  c.loop-i.invariant.0,
+  omega (
+    arith,
+    c.loop-i.invariant.1,
+    chars_stop xml10 c.args.text.now c.loop-i.i c.loop-i-test.true
+        c.name_char_width-width.ensures c.if-width-eq0.true,
+  ),
+)
 
 on : (c : Else-width-eq0) → On xml10 c.args.text.now c.loop-i.i c.loop-i-test.true (name_chars 0 (drop c.loop-i.i c.args.text.now)) c.name_char_width-width.result
 on c =

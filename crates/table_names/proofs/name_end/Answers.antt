@@ -13,15 +13,14 @@ pub returns-then-from-text : goal.returns-then-from-text
 returns-then-from-text c = (c.requires, omega (arith, length_over c.args.text.now c.args.from (omega (arith, c.if-from-text.true))))
 
 pub returns-then-width-eq0 : goal.returns-then-width-eq0
-returns-then-width-eq0 c =
-    (
-      c.requires,
-      omega (
-        arith,
-        length_stop xml10 c.args.text.now c.args.from (omega (arith, c.requires, c.if-from-text.false))
-            c.name_start_width-width.ensures c.if-width-eq0.true,
-      ),
-    )
+returns-then-width-eq0 c = (
+  c.requires,
+  omega (
+    arith,
+    length_stop xml10 c.args.text.now c.args.from (omega (arith, c.requires, c.if-from-text.false))
+        c.name_start_width-width.ensures c.if-width-eq0.true,
+  ),
+)
 
 pub overflow_add-from : goal.overflow_add-from
 overflow_add-from c =
@@ -40,8 +39,7 @@ name_chars_end-requires c =
 
 pub returns : goal.returns
 returns c =
-    let given = c.args in
-    (
+    let given = c.args in (
       c.name_chars_end.ensures.0,
       omega (
         arith,

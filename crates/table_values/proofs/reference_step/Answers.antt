@@ -17,16 +17,15 @@ use Rattle.text.proofs.pattern.byte_at.Reads as byte-at-reads
 use Rattle.table_values.proofs.reference_step.Goals as goal
 
 pub number_step-requires : goal.number_step-requires
-number_step-requires c =
-    (
-      omega (
-        arith,
-        stands_inside c.args.newer c.args.text.now (c.args.i + 1) 35 [] (omega arith) (omega arith)
-            (sym c.byte_at.ensures ∙ c.if-byte_at.true),
-      ),
-      c.requires.2,
-      c.requires.3,
-    )
+number_step-requires c = (
+  omega (
+    arith,
+    stands_inside c.args.newer c.args.text.now (c.args.i + 1) 35 [] (omega arith) (omega arith)
+        (sym c.byte_at.ensures ∙ c.if-byte_at.true),
+  ),
+  c.requires.2,
+  c.requires.3,
+)
 
 pub returns-then-byte_at : goal.returns-then-byte_at
 returns-then-byte_at c =

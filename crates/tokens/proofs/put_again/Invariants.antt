@@ -10,7 +10,7 @@ use Rattle.output.specs.Over.{over}
 use Rattle.tokens.proofs.put_again.Given as goal
 
 abbrev pub invariant-loop-k : goal.invariant-loop-k
-invariant-loop-k l =     (l.k ≤ l.count) × (length l.out ≡ length l.initial.out)
+invariant-loop-k l = (l.k ≤ l.count) × (length l.out ≡ length l.initial.out)
     × ((value whole : List ℕ) → l.initial.out ≡ over value whole → length value ≡ l.at → l.out ≡ over (value ++ take l.k (drop l.from value)) whole)
 
 abbrev pub decreases-loop-k : goal.decreases-loop-k

@@ -35,7 +35,7 @@ overflow_sub-next c =
 
 pub remember-requires : goal.remember-requires
 remember-requires c =
-    let n = (referred_as (bound (goal.at.remember-requires c).Start) c.args.text.now c.in-Next.is c.unescape_step-step.ensures).near in 
+    let n = (referred_as (bound (goal.at.remember-requires c).Start) c.args.text.now c.in-Next.is c.unescape_step-step.ensures).near in
     record { le_width = (omega (arith, n.0), omega (arith, n.0, n.1)); seen_len = (c.requires.len_bound.1.size, c.requires.len_bound.2) }
 
 pub returns : goal.returns

@@ -47,7 +47,7 @@ pub is_named-requires : goal.is_named-requires
 is_named-requires c =
     let a = c.args in
     let b = lent_bound a.list.now a.pool.now a.command c.requires.defines c.u32_at-start.ensures.0 c.wide.ensures.0 in
-    let named = seeking_named c.loop-command.invariant b in 
+    let named = seeking_named c.loop-command.invariant b in
     record { at_in_bounds = omega (arith, named.fits, size_some (get_or a.list.now c.loop-command.at 0)); at_in_bounds_2 = named.name }
 
 pub returns-then-is_named : goal.returns-then-is_named

@@ -37,7 +37,7 @@ pub need_of-requires : goal.need_of-requires
 need_of-requires c =
     let a = c.args in
     let small : Small c.allowed_for.result a.text.now =
-    subst (λ (x : Reading). Small x a.text.now) (sym c.allowed_for.ensures) (record { most = c.requires.limit_bound; short = c.requires.text_len_bound; deep = omega arith }) in 
+    subst (λ (x : Reading). Small x a.text.now) (sym c.allowed_for.ensures) (record { most = c.requires.limit_bound; short = c.requires.text_len_bound; deep = omega arith }) in
     record { valid_table = c.requires.valid_table; base_value = (ap (λ (x : Reading). x.base) c.allowed_for.ensures, omega arith, small); well_formed = c.requires.well_formed }
 
 pub returns : goal.returns

@@ -15,5 +15,5 @@ returns c =
     let n = length c.args.field.now / 2 in
     let room : n ≤ length c.decode_pairs.new.out = omega arith in
     let some : 0 < length (take n c.decode_pairs.new.out) = omega (arith, length-take-le n c.decode_pairs.new.out room) in
-    let right : c.decode_pairs.result ≡ true = not-false c.decode_pairs.result c.if-not-decode_pairs.false in 
+    let right : c.decode_pairs.result ≡ true = not-false c.decode_pairs.result c.if-not-decode_pairs.false in
     record { prefix_len = prefix_len_of_le n c.decode_pairs.new.out room; decodes = field_of_some_lem (take n c.decode_pairs.new.out) some ∙ rw right at c.decode_pairs.ensures }

@@ -11,8 +11,7 @@ loop-i-init c = (omega arith, refl, refl)
 
 pub loop-i-preserved : goal.loop-i-preserved
 loop-i-preserved c =
-    let field = c.args.field.now in
-    (
+    let field = c.args.field.now in (
       omega arith,
       simp length-set c.loop-i.invariant.1,
       more_hex field c.loop-i.out c.loop-i.i c.hex_value-high.result c.hex_value-low.result (omega arith) (omega arith) (omega arith) (omega arith)

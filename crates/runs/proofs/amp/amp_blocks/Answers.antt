@@ -1,8 +1,5 @@
 -- `amp_blocks`: block by block, what is passed stays a run (`plain_join`).
-use Prim.Native.Nat.{◌-◌}
 use native.Mathlib.Omega.{arith}
-use lib.ListN.{length}
-use Rattle.output.specs.Runs.{Plain}
 use Rattle.output.proofs.Runs.{plain_none, plain_join}
 use Rattle.runs.specs.RunEnds.{is_amp}
 use Rattle.runs.proofs.amp.amp_blocks.Goals as goal

@@ -1,8 +1,6 @@
 use Prim.Native.Nat.{◌-◌}
-use native.Mathlib.Omega.{arith}
 use lib.ListN.{length}
 use Rattle.output.specs.Runs.{Plain}
-use Rattle.output.proofs.Runs.{plain_none, plain_join}
 use Rattle.runs.specs.RunEnds.{is_amp}
 use Rattle.runs.proofs.amp.amp_blocks.Given as goal
 

@@ -1,16 +1,12 @@
 -- `amp_end`: what the wide blocks or the near bytes passed is a run, and the loop goes on with it block by block. It ends at the `&` that is
 -- found in a block, or byte by byte (`end_after`).
-use mathlib.Core.Logic.{⊎_elim}
-use mathlib.Core.Path.{sym, subst}
 use native.Mathlib.Omega.{arith}
-use Prim.Native.Nat.{ℕ, ◌+◌, ◌-◌}
-use lib.ListN.{length}
-use Rattle.output.specs.Runs.{Plain}
+use Prim.Native.Nat.{◌+◌}
 use Rattle.output.proofs.Runs.{plain_none, plain_join}
 use Rattle.runs.specs.RunEnds.{is_amp}
 use Rattle.runs.proofs.Search.{within_all, end_near, end_after}
-use borrow.Author.Rules.{rules}
 use Rattle.runs.proofs.amp.amp_end.Goals as goal
+use Rattle.runs.proofs.amp.amp_end.Goals.{then-last-ge16, else-last-ge16+then-text-from-ge12+else-i-from, else-last-ge16+else-text-from-ge12, then-any_amp+else-near-i, else-any_amp}
 
 pub amp_blocks-i-requires : goal.amp_blocks-i-requires
 amp_blocks-i-requires c = (c.requires, omega arith)
@@ -28,18 +24,11 @@ returns-then-i-from c =
 
 pub loop-i-init : goal.loop-i-init
 loop-i-init c =
-    let given = c.args in
-    let text = given.text.now in
-    let from = given.from in
-    ⊎_elim
-    {C = Plain is_amp text from c.if-last-ge16.i}
-    (λ w. subst (λ (e : ℕ). Plain is_amp text from e) (sym w.2) w.1.ensures)
-    (λ z. ⊎_elim
-    {C = Plain is_amp text from c.if-last-ge16.i}
-    (λ w. subst (λ (e : ℕ). Plain is_amp text from e) (sym w.4) w.2.ensures.run)
-    (λ w. subst (λ (e : ℕ). Plain is_amp text from e) (sym w.2) (plain_none is_amp text from c.requires))
-    z)
-    c.if-last-ge16.branch
+    elim c.if-last-ge16.branch [
+      | then-last-ge16 w ↦ rw w.i-is w.amp_blocks-i.ensures
+      | else-last-ge16+then-text-from-ge12+else-i-from w ↦ rw w.i-is w.near_amp-i.ensures.run
+      | else-last-ge16+else-text-from-ge12 w ↦ rw w.i-is (plain_none is_amp _ _ c.requires)
+    ]
 
 pub overflow_sub-text-in-loop-i : goal.overflow_sub-text-in-loop-i
 overflow_sub-text-in-loop-i c = c.loop-i.invariant.to
@@ -73,8 +62,12 @@ loop-i-preserved c =
     let given = c.args in
     let text = given.text.now in
     let i = c.loop-i.i in
-    plain_join is_amp text given.from i (i + 16) c.loop-i.invariant
-    (⊎_elim {C = Plain is_amp text i (i + 16)} (λ w. within_all w.1.ensures w.3.left) (λ w. c.any_amp.ensures w.left) c.if-any_amp.branch)
+    plain_join is_amp text given.from i (i + 16) c.loop-i.invariant (
+    elim c.if-any_amp.branch [
+      | then-any_amp+else-near-i w ↦ within_all w.near_amp-near.ensures w.if-near-i.false
+      | else-any_amp w ↦ c.any_amp.ensures w.if-any_amp.false
+    ]
+    )
 
 pub bytes_amp-requires : goal.bytes_amp-requires
 bytes_amp-requires c = c.loop-i.invariant.to

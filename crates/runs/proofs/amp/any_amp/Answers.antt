@@ -1,7 +1,6 @@
 use lib.Dec.{eqb}
 use Rattle.text.proofs.Bytes.{or_left}
 use Rattle.output.proofs.Runs.{plain_both}
-use borrow.Author.Rules.{rules}
 use Rattle.runs.proofs.amp.any_amp.Goals as goal
 
 pub returns : goal.returns

@@ -1,10 +1,6 @@
 -- `bytes_amp`: byte by byte, what is passed stays a run (`plain_join`).
-use Prim.Native.Nat.{◌-◌}
 use native.Mathlib.Omega.{arith}
-use lib.ListN.{length}
 use borrow.Author.Tests.{eq-eqb, ne_eqb}
-use borrow.Author.Rules.{rules}
-use Rattle.output.specs.Runs.{Plain}
 use Rattle.output.proofs.Runs.{plain_none, plain_byte, plain_join}
 use Rattle.runs.specs.RunEnds.{is_amp}
 use Rattle.runs.proofs.amp.bytes_amp.Goals as goal

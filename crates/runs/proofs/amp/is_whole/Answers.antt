@@ -8,7 +8,6 @@ use borrow.Author.Tests.{eqb-true}
 use Rattle.output.specs.Runs.{Plain}
 use Rattle.output.proofs.Runs.{plain_join}
 use Rattle.runs.specs.RunEnds.{is_amp}
-use borrow.Author.Rules.{rules}
 use Rattle.runs.proofs.Search.{plain_part}
 use Rattle.runs.proofs.amp.is_whole.Goals as goal
 

@@ -1,10 +1,9 @@
 -- `near_amp`: the first k bytes are a run (`plain_next`). A `&` ends it (`within_here`), else all are one (`within_none`).
-use Prim.Native.Nat.{◌+◌, ◌-◌, ◌≤◌}
+use Prim.Native.Nat.{◌+◌}
 use native.Mathlib.Omega.{arith}
 use mathlib.Core.Path.{◌≡◌}
 use borrow.Author.Tests.{eq-eqb, ne_eqb}
 use borrow.Author.Rules.{rules}
-use Rattle.output.specs.Runs.{Plain}
 use Rattle.output.proofs.Runs.{plain_none}
 use Rattle.runs.specs.RunEnds.{is_amp}
 use Rattle.runs.proofs.Search.{plain_next, within_here, within_none}
@@ -22,8 +21,7 @@ returns-then-text-from-eq38 c =
 
 pub loop-k-preserved : goal.loop-k-preserved
 loop-k-preserved c =
-    let given = c.args in
-    (
+    let given = c.args in (
       search rules,
       plain_next is_amp given.text.now given.from c.loop-k.k (omega (arith, c.requires, c.loop-k-test.true))
           c.loop-k.invariant.1 (ne_eqb _ 38 c.if-text-from-eq38.false),

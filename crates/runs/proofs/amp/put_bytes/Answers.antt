@@ -1,13 +1,9 @@
 -- `put_bytes`: the bytes so far are a run, and are written as far as there is room (`put_next`).
-use Prim.Native.Nat.{◌-◌}
 use mathlib.Core.Path.{refl, ◌∙◌}
 use native.Mathlib.Omega.{arith}
-use lib.ListN.{length}
 use borrow.Author.Tests.{eq-eqb, ne_eqb}
-use borrow.Author.Rules.{rules}
-use Rattle.output.specs.Runs.{Plain}
 use Rattle.output.proofs.Runs.{plain_none, plain_byte, plain_join}
-use Rattle.runs.specs.RunEnds.{is_amp, Put}
+use Rattle.runs.specs.RunEnds.{is_amp}
 use Rattle.runs.proofs.Puts.{put_none, put_next, put_length}
 use Rattle.runs.proofs.amp.put_bytes.Goals as goal
 
@@ -33,8 +29,7 @@ put_byte-requires c = tt
 
 pub loop-i-preserved : goal.loop-i-preserved
 loop-i-preserved c =
-    let given = c.args in
-    (
+    let given = c.args in (
       plain_join is_amp given.text.now given.from c.loop-i.i _ c.loop-i.invariant.0
           (plain_byte is_amp given.text.now c.loop-i.i c.loop-i-test.true (ne_eqb _ 38 c.if-b-eq38.false)),
       c.put_byte.ensures

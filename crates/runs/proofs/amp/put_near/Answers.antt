@@ -1,10 +1,8 @@
 -- `put_near`: the first k bytes are a run, and are copied (`Nearby`).
-use Prim.Native.Nat.{◌-◌}
 use native.Mathlib.Omega.{arith}
 use borrow.Author.Tests.{eq-eqb, ne_eqb}
-use borrow.Author.Rules.{rules}
 use Rattle.runs.specs.RunEnds.{is_amp}
-use Rattle.runs.proofs.Puts.{Nearby, nearby_none, nearby_length, nearby_next, nearby_here, nearby_all}
+use Rattle.runs.proofs.Puts.{nearby_none, nearby_length, nearby_next, nearby_here, nearby_all}
 use Rattle.runs.proofs.amp.put_near.Goals as goal
 
 pub loop-k-init : goal.loop-k-init

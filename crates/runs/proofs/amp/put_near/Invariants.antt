@@ -1,9 +1,6 @@
 use Prim.Native.Nat.{◌-◌}
-use native.Mathlib.Omega.{arith}
-use borrow.Author.Tests.{eq-eqb, ne_eqb}
-use borrow.Author.Rules.{rules}
 use Rattle.runs.specs.RunEnds.{is_amp}
-use Rattle.runs.proofs.Puts.{Nearby, nearby_none, nearby_length, nearby_next, nearby_here, nearby_all}
+use Rattle.runs.proofs.Puts.{Nearby}
 use Rattle.runs.proofs.amp.put_near.Given as goal
 
 abbrev pub invariant-loop-k : goal.invariant-loop-k

@@ -1,10 +1,7 @@
 -- `put_wide` goes block by block: what it has copied stays a run, and lies at the output's start (`Blockwise`).
 use native.Mathlib.Omega.{arith}
 use mathlib.Core.Path.{refl}
-use Prim.Native.Nat.{◌-◌}
-use borrow.Author.Rules.{rules}
-use Rattle.runs.specs.RunEnds.{is_amp}
-use Rattle.runs.proofs.Blockwise.{Blockwise, blockwise_start, blockwise_laid, blockwise_done, blockwise_length, block_inside, block_fits}
+use Rattle.runs.proofs.Blockwise.{blockwise_start, blockwise_laid, blockwise_done, blockwise_length, block_inside, block_fits}
 use Rattle.runs.proofs.amp.put_wide.Goals as goal
 
 pub loop-k-init : goal.loop-k-init

@@ -1,9 +1,6 @@
-use native.Mathlib.Omega.{arith}
-use mathlib.Core.Path.{refl}
 use Prim.Native.Nat.{◌-◌}
-use borrow.Author.Rules.{rules}
 use Rattle.runs.specs.RunEnds.{is_amp}
-use Rattle.runs.proofs.Blockwise.{Blockwise, blockwise_start, blockwise_laid, blockwise_done, blockwise_length, block_inside, block_fits}
+use Rattle.runs.proofs.Blockwise.{Blockwise}
 use Rattle.runs.proofs.amp.put_wide.Given as goal
 
 abbrev pub invariant-loop-k : goal.invariant-loop-k

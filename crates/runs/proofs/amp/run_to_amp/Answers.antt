@@ -1,7 +1,6 @@
 use lib.ListN.{take, drop}
 use Prim.Native.Nat.{◌-◌}
 use Rattle.output.proofs.Clip.{over_empty}
-use borrow.Author.Rules.{rules}
 use Rattle.runs.proofs.amp.run_to_amp.Goals as goal
 
 pub returns-then-out-eq0 : goal.returns-then-out-eq0

@@ -6,7 +6,6 @@ use Rattle.text.proofs.Bytes.{or_left}
 use Rattle.output.specs.Runs.{either_byte}
 use Rattle.output.proofs.Runs.{plain_both}
 use Rattle.runs.specs.RunEnds.{line_stop}
-use borrow.Author.Rules.{rules}
 use Rattle.runs.proofs.lines.any_stop.Goals as goal
 
 -- a byte that no test finds is no stop

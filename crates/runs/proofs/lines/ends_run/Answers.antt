@@ -1,5 +1,4 @@
 use mathlib.Core.Path.{sym}
-use borrow.Author.Rules.{rules}
 use Rattle.runs.proofs.lines.ends_run.Goals as goal
 
 pub returns-then-is_common : goal.returns-then-is_common

@@ -1,9 +1,7 @@
 use Prim.Native.Nat.{◌-◌}
-use native.Mathlib.Omega.{arith}
 use lib.ListN.{length}
 use Rattle.runs.specs.RunEnds.{line_stop}
 use Rattle.output.specs.Runs.{Plain}
-use Rattle.output.proofs.Runs.{plain_none, plain_join}
 use Rattle.runs.proofs.lines.plain_blocks.Given as goal
 
 abbrev pub invariant-loop-i : goal.invariant-loop-i

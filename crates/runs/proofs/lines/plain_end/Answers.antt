@@ -1,11 +1,6 @@
 -- `plain_end`: behind the blocks, byte by byte, what is passed stays a run (`plain_join`).
 use mathlib.Core.Path.{sym, ◌∙◌}
-use Prim.Native.Nat.{◌-◌}
-use lib.ListN.{length}
-use Rattle.runs.specs.RunEnds.{line_stop}
-use Rattle.output.specs.Runs.{Plain}
 use Rattle.output.proofs.Runs.{plain_byte, plain_join}
-use borrow.Author.Rules.{rules}
 use Rattle.runs.proofs.lines.plain_end.Goals as goal
 
 pub plain_blocks-i-requires : goal.plain_blocks-i-requires

@@ -1,10 +1,7 @@
-use mathlib.Core.Path.{sym, ◌∙◌}
 use Prim.Native.Nat.{◌-◌}
 use lib.ListN.{length}
 use Rattle.runs.specs.RunEnds.{line_stop}
 use Rattle.output.specs.Runs.{Plain}
-use Rattle.output.proofs.Runs.{plain_byte, plain_join}
-use borrow.Author.Rules.{rules}
 use Rattle.runs.proofs.lines.plain_end.Given as goal
 
 abbrev pub invariant-loop-i : goal.invariant-loop-i

@@ -1,12 +1,7 @@
 -- `put_blocks`: at each turn the first i bytes are a run, and are laid over the output; after a block without stops 16 more are.
-use Prim.Native.Nat.{◌-◌}
 use native.Mathlib.Omega.{arith}
-use lib.ListN.{length}
-use Rattle.output.specs.Runs.{Copied, Room}
 use Rattle.output.proofs.Runs.{copied_none, copied_length, copied_inside, copied_more}
-use Rattle.runs.specs.RunEnds.{line_stop}
 use Rattle.runs.proofs.Copying.{copied_fits}
-use borrow.Author.Rules.{rules}
 use Rattle.runs.proofs.lines.put_blocks.Goals as goal
 
 pub loop-i-init : goal.loop-i-init

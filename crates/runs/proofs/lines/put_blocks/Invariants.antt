@@ -1,11 +1,7 @@
 use Prim.Native.Nat.{◌-◌}
-use native.Mathlib.Omega.{arith}
 use lib.ListN.{length}
 use Rattle.output.specs.Runs.{Copied, Room}
-use Rattle.output.proofs.Runs.{copied_none, copied_length, copied_inside, copied_more}
 use Rattle.runs.specs.RunEnds.{line_stop}
-use Rattle.runs.proofs.Copying.{copied_fits}
-use borrow.Author.Rules.{rules}
 use Rattle.runs.proofs.lines.put_blocks.Given as goal
 
 abbrev pub invariant-loop-i : goal.invariant-loop-i

@@ -1,11 +1,6 @@
 -- `put_bytes` meets its contract: at each turn the first i bytes are a run, and are laid over the output.
 use mathlib.Core.Path.{sym, ◌∙◌}
-use Prim.Native.Nat.{◌-◌}
-use lib.ListN.{length}
-use Rattle.output.specs.Runs.{Copied, Room}
 use Rattle.output.proofs.Runs.{copied_none, copied_length, copied_byte, byte_fits}
-use Rattle.runs.specs.RunEnds.{line_stop}
-use borrow.Author.Rules.{rules}
 use Rattle.runs.proofs.lines.put_bytes.Goals as goal
 
 pub loop-i-init : goal.loop-i-init

@@ -1,10 +1,7 @@
-use mathlib.Core.Path.{sym, ◌∙◌}
 use Prim.Native.Nat.{◌-◌}
 use lib.ListN.{length}
 use Rattle.output.specs.Runs.{Copied, Room}
-use Rattle.output.proofs.Runs.{copied_none, copied_length, copied_byte, byte_fits}
 use Rattle.runs.specs.RunEnds.{line_stop}
-use borrow.Author.Rules.{rules}
 use Rattle.runs.proofs.lines.put_bytes.Given as goal
 
 abbrev pub invariant-loop-i : goal.invariant-loop-i

@@ -1,6 +1,5 @@
 -- `put_plain` meets its contract: a run of blocks, and the bytes that follow it.
 use Rattle.output.proofs.Runs.{copied_inside, rest_room, copied_rest}
-use borrow.Author.Rules.{rules}
 use Rattle.runs.proofs.lines.put_plain.Goals as goal
 
 pub slice_bounds-put_bytes-count-2 : goal.slice_bounds-put_bytes-count-2

@@ -5,11 +5,10 @@ use Prim.Native.Nat.{ℕ, ◌+◌, ◌-◌}
 use native.Mathlib.Omega.{arith}
 use lib.ListN.{length}
 use borrow.Rule.Slice.PartMut.{put_mid}
-use Rattle.output.specs.Runs.{Plain, Copied, Room}
+use Rattle.output.specs.Runs.{Plain, Copied}
 use Rattle.output.proofs.Runs.{copied_none, copied_length, run_room}
 use Rattle.runs.specs.RunEnds.{line_stop}
 use Rattle.runs.proofs.Copying.{copied_fits, first_half, second_half, half_copied, both_copied}
-use borrow.Author.Rules.{rules}
 use Rattle.runs.proofs.lines.put_wide.Goals as goal
 use Rattle.runs.proofs.lines.put_wide.Goals.{After-put_block, Else-any_stop}
 

@@ -1,8 +1,7 @@
 -- `any_special`: where nothing was hit, at none of the first k bytes one stands (`below_more`).
 use mathlib.Core.Path.{◌≡◌}
-use mathlib.Core.Bool.{false}
 use native.Mathlib.Omega.{arith}
-use Prim.Native.Nat.{ℕ, ◌+◌, ◌-◌, ◌≤◌, ◌<◌}
+use Prim.Native.Nat.{ℕ, ◌+◌}
 use lib.ListN.{drop}
 use borrow.Author.Count.{below_none, below_more}
 use Rattle.text.specs.Version.{xml11}
@@ -17,8 +16,7 @@ loop-k-init c = (search rules, λ e. below_none _)
 
 pub loop-k-preserved : goal.loop-k-preserved
 loop-k-preserved c =
-    let given = c.args in
-    (
+    let given = c.args in (
       search rules,
       λ e. below_more (λ (m : ℕ). special xml11 (drop (given.i + m) given.value.now) ≡ 0) _ (c.loop-k.invariant.1 (or_left _ _ e))
           (c.special_at-hit.ensures (or_right c.loop-k.hit _ e)),

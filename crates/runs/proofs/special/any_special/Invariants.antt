@@ -1,14 +1,9 @@
 use mathlib.Core.Path.{◌≡◌}
 use mathlib.Core.Bool.{false}
-use native.Mathlib.Omega.{arith}
 use Prim.Native.Nat.{ℕ, ◌+◌, ◌-◌, ◌≤◌, ◌<◌}
 use lib.ListN.{drop}
-use borrow.Author.Count.{below_none, below_more}
 use Rattle.text.specs.Version.{xml11}
-use Rattle.text.proofs.Bytes.{or_left, or_right}
 use Rattle.runs.specs.Specials.{special}
-use Rattle.runs.proofs.Specials.{common_of}
-use borrow.Author.Rules.{rules}
 use Rattle.runs.proofs.special.any_special.Given as goal
 
 abbrev pub invariant-loop-k : goal.invariant-loop-k

@@ -1,9 +1,6 @@
 -- `skip_common`: block by block, what is passed stays without one (`common_join`).
 use native.Mathlib.Omega.{arith}
-use Prim.Native.Nat.{◌-◌}
-use lib.ListN.{length}
 use Rattle.text.specs.Version.{xml11}
-use Rattle.runs.specs.Specials.{Common}
 use Rattle.runs.proofs.Specials.{common_none, common_join}
 use Rattle.runs.proofs.special.skip_common.Goals as goal
 

@@ -1,9 +1,7 @@
-use native.Mathlib.Omega.{arith}
 use Prim.Native.Nat.{◌-◌}
 use lib.ListN.{length}
 use Rattle.text.specs.Version.{xml11}
 use Rattle.runs.specs.Specials.{Common}
-use Rattle.runs.proofs.Specials.{common_none, common_join}
 use Rattle.runs.proofs.special.skip_common.Given as goal
 
 abbrev pub invariant-loop-i : goal.invariant-loop-i

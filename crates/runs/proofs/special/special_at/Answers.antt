@@ -1,5 +1,4 @@
 use Rattle.runs.proofs.Specials.{special_bytes}
-use borrow.Author.Rules.{rules}
 use Rattle.runs.proofs.special.special_at.Goals as goal
 
 pub returns : goal.returns

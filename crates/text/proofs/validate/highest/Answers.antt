@@ -13,7 +13,6 @@ pub loop-k-preserved : goal.loop-k-preserved
 loop-k-preserved c = (
   search rules,
   record { at_most = below_more _ _ (λ m h. le_trans (c.loop-k.invariant.1.at_most m h) c.larger-top.ensures.0) c.larger-top.ensures.1 },
-
 )
 
 pub returns : goal.returns

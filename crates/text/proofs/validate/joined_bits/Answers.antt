@@ -21,14 +21,13 @@ pub high_bits-bits-requires : goal.high_bits-bits-requires
 high_bits-bits-requires c = omega (arith, c.requires, c.loop-k.invariant.0)
 
 pub loop-k-preserved : goal.loop-k-preserved
-loop-k-preserved c =
-    (
-      search rules,
-      λ e.
-          let z = or_none c.loop-k.bits c.high_bits-bits.result e in
-          let q : 8 * c.loop-k.k + 8 ≡ 8 * (c.loop-k.k + 1) = omega arith in
-          rw q at (at_most_append _ _ _ 8 _ (c.loop-k.invariant.1 z.0) (c.high_bits-bits.ensures z.1)),
-    )
+loop-k-preserved c = (
+  search rules,
+  λ e.
+      let z = or_none c.loop-k.bits c.high_bits-bits.result e in
+      let q : 8 * c.loop-k.k + 8 ≡ 8 * (c.loop-k.k + 1) = omega arith in
+      rw q at (at_most_append _ _ _ 8 _ (c.loop-k.invariant.1 z.0) (c.high_bits-bits.ensures z.1)),
+)
 
 pub returns : goal.returns
 returns c =

@@ -24,7 +24,7 @@ overflow_sub-i c = omega (arith, c.loop-i.invariant.0)
 
 pub block_width-width-requires : goal.block_width-width-requires
 block_width-width-requires c =
-    let q : c.loop-i.i - 3 + 3 ≡ c.loop-i.i = omega (arith, c.loop-i.invariant.0) in 
+    let q : c.loop-i.i - 3 + 3 ≡ c.loop-i.i = omega (arith, c.loop-i.invariant.0) in
     record { j_in_bounds = omega (arith, c.loop-i.invariant.0, c.loop-i.invariant.1.fits); at_most = rw q c.highest-top.ensures }
 
 pub returns-then-width-eq0 : goal.returns-then-width-eq0

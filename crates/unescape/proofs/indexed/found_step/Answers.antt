@@ -11,6 +11,9 @@ bound_step-requires c =
 
 pub returns : goal.returns
 returns c =
-    let a = c.args in 
-    record { named = named_as a.pool.now a.name.now a.i a.next (c.binding_of-bound.ensures a.list.now a.pool.now a.name.now c.find.ensures.refers).0
-          (c.bound_step.ensures a.name.now refl); lent = lent_kept a.list.now a.pool.now c.requires.valid_table.1 c.find.ensures.ready }
+    let a = c.args in
+    record {
+      named = named_as a.pool.now a.name.now a.i a.next (c.binding_of-bound.ensures a.list.now a.pool.now a.name.now c.find.ensures.refers).0
+          (c.bound_step.ensures a.name.now refl);
+      lent = lent_kept a.list.now a.pool.now c.requires.valid_table.1 c.find.ensures.ready;
+    }

@@ -26,12 +26,12 @@ char_step-requires c =
 pub returns-then-c-ne0 : goal.returns-then-c-ne0
 returns-then-c-ne0 c =
     let given = c.args in
-    let found = c.quick_reference-quick.ensures c.if-c-ne0.true in 
+    let found = c.quick_reference-quick.ensures c.if-c-ne0.true in
     record { referred = referred_char (bound (goal.at.returns-then-c-ne0 c).Start) given.text.now given.i c.quick_reference-quick.result c.requires.i_in_bounds.1 found.1 found.2 c.char_step.ensures; lent = c.requires.valid_table.1 }
 
 pub returns-then-end-text : goal.returns-then-end-text
 returns-then-end-text c =
-    let given = c.args in 
+    let given = c.args in
     record { referred = referred_none (bound (goal.at.returns-then-end-text c).Start) given.text.now given.i c.inner_end-end.result c.requires.i_in_bounds.1 c.inner_end-end.ensures c.if-end-text.true; lent = c.requires.valid_table.1 }
 
 pub slice_bounds-number_step-count : goal.slice_bounds-number_step-count
@@ -46,12 +46,18 @@ slice_bounds-number_step-start c =
 
 pub returns-then-text-start-eq35 : goal.returns-then-text-start-eq35
 returns-then-text-start-eq35 c =
-    let given = c.args in 
-    record { referred = referred_number (bound (goal.at.returns-then-text-start-eq35 c).Start) given.text.now given.i c.inner_end-end.result c.requires.i_in_bounds.1 c.inner_end-end.ensures
-          (omega (arith, c.inner_end-end.ensures.to, c.if-end-text.false)) c.if-text-start-eq35.true c.number_step.ensures; lent = c.requires.valid_table.1 }
+    let given = c.args in
+    record {
+      referred = referred_number (bound (goal.at.returns-then-text-start-eq35 c).Start) given.text.now given.i c.inner_end-end.result c.requires.i_in_bounds.1 c.inner_end-end.ensures
+          (omega (arith, c.inner_end-end.ensures.to, c.if-end-text.false)) c.if-text-start-eq35.true c.number_step.ensures;
+      lent = c.requires.valid_table.1;
+    }
 
 pub returns : goal.returns
 returns c =
-    let given = c.args in 
-    record { referred = referred_name (bound (goal.at.returns c).Start) given.text.now given.i c.inner_end-end.result c.requires.i_in_bounds.1 c.inner_end-end.ensures
-          (omega (arith, c.inner_end-end.ensures.to, c.if-end-text.false)) c.if-text-start-eq35.false c.found_step.ensures.named; lent = c.found_step.ensures.lent }
+    let given = c.args in
+    record {
+      referred = referred_name (bound (goal.at.returns c).Start) given.text.now given.i c.inner_end-end.result c.requires.i_in_bounds.1 c.inner_end-end.ensures
+          (omega (arith, c.inner_end-end.ensures.to, c.if-end-text.false)) c.if-text-start-eq35.false c.found_step.ensures.named;
+      lent = c.found_step.ensures.lent;
+    }
