@@ -16,12 +16,12 @@ use Rattle.entity.specs.declared.Binding.TheVariants.{Text, External, Predefined
 use Rattle.entity.proofs.Referents.{predefined_binding}
 use Rattle.output.specs.Runs.{Plain}
 use Rattle.output.proofs.Runs.{plain_byte}
-use Rattle.tokens.specs.Tokens.{Token, copy, stop, barred, Head, Heads, token_of, skip_of, name_at, reference_at, tokens}
+use Rattle.tokens.specs.Tokens.{Token, Head, Heads, token_of, skip_of, name_at, reference_at, tokens}
 use Rattle.tokens.specs.Outcome.{Outcome, done, refused, run, number_outcome}
 use Rattle.tokens.specs.Walking.{NameEnd, head_at, next_at, outcome_of}
 use Rattle.tokens.proofs.Progress.{run_whole}
 use Rattle.tokens.proofs.References.{reference_none, reference_number, reference_named, name_size}
-use Rattle.attribute.specs.Walk.{Settings, opened, answer, exhausted, walk}
+use Rattle.attribute.specs.Walk.{Settings, opened, answer, walk}
 use Rattle.halts.specs.Halts.{stop_byte}
 use Rattle.attribute.specs.Steps.{heads_by, Refers, stop_answer, outcome_at, amp_or}
 use Rattle.attribute.proofs.Stops.{heads_copy}

@@ -1,5 +1,5 @@
 -- The terms in which the attribute walk's code is proved: how a text is read, a stop at a depth, blanks. Assumes nothing.
-use Rattle.std.specs.Prelude.{ℕ, zero, suc, ◌+◌, ◌-◌, ◌≤◌, ◌≡◌, List, [], ◌∷◌, Bool, false, eqb, length}
+use Rattle.std.specs.Prelude.{ℕ, zero, suc, ◌+◌, ◌≤◌, ◌≡◌, List, [], ◌∷◌, Bool, false, eqb, length}
 use Rattle.text.specs.Bytes.{pick, same_bytes}
 pub use Rattle.charref.specs.Reading.{legal_by}
 use Rattle.legal.specs.FirstFault.{may_by, faults_by}

@@ -2,7 +2,7 @@
 -- code tells.
 -- Assumes nothing.
 use mathlib.Core.Path.{◌≡◌, refl, sym, ap, subst, ◌∙◌}
-use mathlib.Core.Logic.{◌≢◌, inl, inr}
+use mathlib.Core.Logic.{◌≢◌}
 use mathlib.Core.Bool.{Bool, true, false, true≢false}
 use mathlib.Core.List.{List, [], ◌∷◌}
 use Prim.Native.Nat.{ℕ, ◌+◌, ◌-◌, ◌≤◌, ◌<◌}
@@ -10,8 +10,6 @@ use native.Mathlib.Omega.{arith}
 use lib.Dec.{eqb}
 use lib.ListN.{length, get_or, take, drop}
 use borrow.Author.Tests.{eqb-true, eqb-false}
-use types.Run.{OneOf}
-use denote.Enum.Declared.{tag_of}
 use Rattle.text.specs.Bytes.{same_bytes}
 use Rattle.text.proofs.Utf8.{ascii_well_formed}
 use Rattle.charref.specs.CharRef.{char_number, number_answer}
@@ -19,7 +17,6 @@ use Rattle.charref.specs.Reading.{legal_by, Found, Closed}
 use Rattle.charref.specs.declared.Quick.{Quick}
 use Rattle.charref.specs.declared.CharNumber.{CharNumber}
 use Rattle.charref.specs.declared.CharNumber.TheVariants.{Char, UnexpectedSign, InvalidNumber, InvalidCodepoint, IllegalCharacter, Forbidden}
-use Rattle.charref.specs.contracts.CharNumber.{the_type}
 use Rattle.charref.proofs.Encoding.{encode_1}
 use Rattle.charref.proofs.Rules.{rule_character, rule_well_formed, rule_allows}
 use Rattle.text.proofs.Patterns.{at_head}
@@ -48,21 +45,17 @@ module _ (rule : ℕ) (digits : List ℕ) (next : ℕ) where
       (refl, (rule_character rule digits c e).most, rule_well_formed rule digits c e, λ n. ap (λ (x : CharNumber). numbered (number_answer x) n) e)
 
   -- every case but the first is a refusal
-  handed_on_lem : (x : CharNumber) → OneOf (1 ∷ 2 ∷ 3 ∷ 4 ∷ 5 ∷ []) (tag_of the_type x) → char_number (legal_by rule) digits ≡ x
+  handed_on_lem : (x : CharNumber) → ((c : ℕ) → x ≡ Char c → ⊥) → char_number (legal_by rule) digits ≡ x
       → NumberMeans rule digits next (handed_to (number_answer x))
   unfolding number_answer number_outcome numbered
-  handed_on_lem (Char c) (inl e) q = absurd (omega arith)
-  handed_on_lem (Char c) (inr (inl e)) q = absurd (omega arith)
-  handed_on_lem (Char c) (inr (inr (inl e))) q = absurd (omega arith)
-  handed_on_lem (Char c) (inr (inr (inr (inl e)))) q = absurd (omega arith)
-  handed_on_lem (Char c) (inr (inr (inr (inr e)))) q = absurd (omega arith)
+  handed_on_lem (Char c) k q = absurd (k c refl)
   handed_on_lem UnexpectedSign k q = λ n. ap (λ (x : CharNumber). numbered (number_answer x) n) q
   handed_on_lem InvalidNumber k q = λ n. ap (λ (x : CharNumber). numbered (number_answer x) n) q
   handed_on_lem (InvalidCodepoint v) k q = λ n. ap (λ (x : CharNumber). numbered (number_answer x) n) q
   handed_on_lem IllegalCharacter k q = λ n. ap (λ (x : CharNumber). numbered (number_answer x) n) q
   handed_on_lem Forbidden k q = λ n. ap (λ (x : CharNumber). numbered (number_answer x) n) q
 
-  pub number_refused : {x : CharNumber} {r : Meaning} → char_number (legal_by rule) digits ≡ x → OneOf (1 ∷ 2 ∷ 3 ∷ 4 ∷ 5 ∷ []) (tag_of the_type x)
+  pub number_refused : {x : CharNumber} {r : Meaning} → char_number (legal_by rule) digits ≡ x → ((c : ℕ) → x ≡ Char c → ⊥)
       → r ≡ handed_to (number_answer x) → NumberMeans rule digits next r
   number_refused {x} e k q = rw q (handed_on_lem x k e)
 

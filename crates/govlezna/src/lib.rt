@@ -420,8 +420,9 @@ pub extern "C" fn govlezna_cdata_next(
     ensures { record { number = result; words = answer.new; next = cursor.new } ≡ cdata_next_call text.now cursor.old }
 {
     let s = cdata_next(text, *cursor);
+    let words = s.words;
     *cursor = s.next;
-    *answer = s.words;
+    *answer = words;
     s.number
 }
 

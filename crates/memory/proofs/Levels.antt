@@ -6,7 +6,7 @@ use mathlib.Core.Path.{◌≡◌, refl, sym, ap, subst, ◌∙◌}
 use mathlib.Core.Logic.{◌≢◌}
 use mathlib.Core.Bool.{true, false}
 use mathlib.Core.List.{List, [], ◌∷◌, ◌++◌, append-nil, append_assoc}
-use Prim.Native.Nat.{ℕ, zero, suc, ◌+◌, ◌-◌, ◌*◌, ◌≤◌, ◌<◌, min}
+use Prim.Native.Nat.{ℕ, ◌+◌, ◌-◌, ◌*◌, ◌≤◌, ◌<◌, min}
 use native.Mathlib.Omega.{arith}
 use native.Mathlib.Nat.{le_refl}
 use lib.ListN.{length, get_or, take, drop, length-append, length-take}
@@ -21,8 +21,8 @@ use Rattle.entity.specs.Commands.{command_name, command_text, Defines}
 use Rattle.entity.proofs.Referents.{defines_binding}
 use Rattle.output.specs.Over.{over}
 use Rattle.text.proofs.Utf8.{append_well_formed, ascii_well_formed}
-use Rattle.tokens.specs.Tokens.{named, Token, stop, Heads, token_of, tokens}
-use Rattle.tokens.specs.Outcome.{Outcome, done, refused, prepend, followed, run, produced, answer_of}
+use Rattle.tokens.specs.Tokens.{named, Token, stop, token_of}
+use Rattle.tokens.specs.Outcome.{Outcome, done, refused, prepend, followed, produced, answer_of}
 use Rattle.tokens.specs.Walking.{head_at, next_at, outcome_of, step_of}
 use Rattle.tokens.specs.declared.Step.{Step}
 use Rattle.tokens.specs.declared.Step.TheVariants.{Next, Stopped}

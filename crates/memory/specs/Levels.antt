@@ -12,7 +12,7 @@ use Rattle.tokens.specs.Walking.{step_of}
 use Rattle.tokens.specs.declared.Step.{Step}
 use Rattle.attribute.specs.Walk.{Settings}
 use Rattle.attribute.specs.Steps.{read_by, legal_by, stop_answer}
-use Rattle.memory.specs.Slots.{opening, shaped, shaped_in, Slot, slot_at, Memory}
+use Rattle.memory.specs.Slots.{opening, shaped, shaped_in, slot_at, Memory}
 use Rattle.memory.specs.declared.Reading.{Reading}
 use Rattle.memory.specs.declared.Place.{Place}
 use Rattle.memory.specs.declared.Had.{Had}

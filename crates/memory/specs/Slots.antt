@@ -1,6 +1,6 @@
 -- One memory for all levels of a walk: what its words say. Terms in which code is proved; no promise of a call rests on them.
 -- Assumes nothing.
-use Rattle.std.specs.Prelude.{ℕ, ◌+◌, ◌-◌, ◌≤◌, ◌<◌, ◌≡◌, ◌≢◌, List, [], ◌∷◌, eqb, length, get_or, set, take, drop}
+use Rattle.std.specs.Prelude.{ℕ, ◌+◌, ◌-◌, ◌≤◌, ◌<◌, ◌≡◌, ◌≢◌, List, eqb, length, get_or, set, take, drop}
 use Rattle.text.specs.Bytes.{pick}
 use Rattle.eols.specs.Stops.{rule_for}
 use Rattle.canonical.specs.Canonical.{canonical}

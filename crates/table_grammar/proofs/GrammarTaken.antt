@@ -17,7 +17,7 @@ use Rattle.charref.proofs.Encoding.{by_size}
 use Rattle.legal.proofs.Decoding.{char_ascii}
 use Rattle.table_names.specs.NameChars.{is_name_start, is_name_char, char_width, name_chars}
 use Rattle.table_names.proofs.NamesPast.{chars_none}
-use Rattle.table_grammar.specs.EntityValue.{Read, read, exceeds, onward, literal, is_white, after_space, space, name, numbered, char_ref_from, entity_ref, reference, value_from, entity_value}
+use Rattle.table_grammar.specs.EntityValue.{Read, read, exceeds, onward, literal, is_white, after_space, space, numbered, char_ref_from, entity_ref, reference, value_from, entity_value}
 use Rattle.table_grammar.specs.EntityDecl.{keyword, opening, declared_name, definition, Entity, entity, no_more, one_more, entities_at, entities}
 use Rattle.table_grammar.specs.Productions.{S, blank, blanks, OptionalS, no_s, an_s, Name, name_start, Without, Reference, char_ref, entity_ref as entityReference, Content, no_content, raw, referring, EntityValue, quoted, apostrophed, GEDecl, declaring, Declarations, no_more as noDeclaration, declaration}
 use Rattle.table_grammar.proofs.NameSpelled.{name_taken}

@@ -1,9 +1,8 @@
 -- A character number that is accepted is at most U+10FFFF (`character_most`), and its bytes are UTF-8 (`encode_good`). Assumes nothing.
 use mathlib.Core.Path.{◌≡◌, refl, sym, ap, ◌∙◌, subst}
-use mathlib.Core.Logic.{◌≢◌}
 use mathlib.Core.Bool.{Bool, true, false, true≢false}
 use mathlib.Core.List.{List}
-use Prim.Native.Nat.{ℕ, ◌-◌, ◌≤◌}
+use Prim.Native.Nat.{ℕ, ◌≤◌}
 use native.Mathlib.Omega.{arith}
 use Rattle.text.specs.Utf8.{WellFormed}
 use Rattle.text.specs.declared.Answer.{Answer}

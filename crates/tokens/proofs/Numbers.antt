@@ -1,19 +1,14 @@
 -- A character reference: the character written, or the number's refusal handed on. Assumes nothing.
 use mathlib.Core.Path.{◌≡◌, refl}
-use mathlib.Core.Logic.{inl, inr}
-use mathlib.Core.List.{List, [], ◌∷◌}
+use mathlib.Core.List.{List}
 use Prim.Native.Nat.{ℕ, ◌≤◌}
-use native.Mathlib.Omega.{arith}
 use lib.ListN.{length}
-use types.Run.{OneOf}
-use denote.Enum.Declared.{tag_of}
 use Rattle.text.specs.declared.Answer.{Answer}
 use Rattle.text.specs.declared.Answer.TheVariants.{Done, Refused}
 use Rattle.charref.specs.CharRef.{char_number, any_character, number_answer, encode}
 use Rattle.charref.specs.declared.CharNumber.{CharNumber}
 use Rattle.charref.specs.declared.CharNumber.TheVariants.{Char, UnexpectedSign, InvalidNumber, InvalidCodepoint, IllegalCharacter, Forbidden}
 use Rattle.charref.proofs.Encoding.{encode_at_most}
-use Rattle.charref.specs.contracts.CharNumber.{the_type}
 use Rattle.tokens.specs.Outcome.{Outcome, done, refused, numbered, number_outcome}
 use Rattle.tokens.specs.Walking.{Stepped, handed_on}
 use Rattle.tokens.specs.declared.Step.{Step}
@@ -30,21 +25,17 @@ module _ (digits : List ℕ) (next openings : ℕ) where
   number_written e s = rw (number_done digits openings e) s
 
   -- every case but the first is a refusal
-  handed_on_lem : (n : CharNumber) → OneOf (1 ∷ 2 ∷ 3 ∷ 4 ∷ 5 ∷ []) (tag_of the_type n) → (old : List ℕ)
+  handed_on_lem : (n : CharNumber) → ((c : ℕ) → n ≡ Char c → ⊥) → (old : List ℕ)
       → Stepped next (numbered (number_answer n) openings) old old (handed_on (number_answer n))
   unfolding numbered number_answer
-  handed_on_lem (Char c) (inl e) old = absurd (omega arith)
-  handed_on_lem (Char c) (inr (inl e)) old = absurd (omega arith)
-  handed_on_lem (Char c) (inr (inr (inl e))) old = absurd (omega arith)
-  handed_on_lem (Char c) (inr (inr (inr (inl e)))) old = absurd (omega arith)
-  handed_on_lem (Char c) (inr (inr (inr (inr e)))) old = absurd (omega arith)
+  handed_on_lem (Char c) k old = absurd (k c refl)
   handed_on_lem UnexpectedSign k old = record { answers = refl; writes = refl }
   handed_on_lem InvalidNumber k old = record { answers = refl; writes = refl }
   handed_on_lem (InvalidCodepoint v) k old = record { answers = refl; writes = refl }
   handed_on_lem IllegalCharacter k old = record { answers = refl; writes = refl }
   handed_on_lem Forbidden k old = record { answers = refl; writes = refl }
 
-  pub number_handed : {n : CharNumber} {r : Step} (old : List ℕ) → char_number any_character digits ≡ n → OneOf (1 ∷ 2 ∷ 3 ∷ 4 ∷ 5 ∷ []) (tag_of the_type n)
+  pub number_handed : {n : CharNumber} {r : Step} (old : List ℕ) → char_number any_character digits ≡ n → ((c : ℕ) → n ≡ Char c → ⊥)
       → r ≡ handed_on (number_answer n) → Stepped next (number_outcome any_character digits openings) old old r
   unfolding number_outcome
   number_handed {n} old e k q = rw (e, q) (handed_on_lem n k old)

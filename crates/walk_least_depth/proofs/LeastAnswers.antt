@@ -2,8 +2,8 @@
 -- `smooth_are`); and what is said of them is the definition's answer (`least_said`, `simple_least`). Assumes nothing.
 use mathlib.Core.Path.{◌≡◌, refl, sym, ap, subst, ◌∙◌}
 use mathlib.Core.Bool.{Bool, true, false}
-use mathlib.Core.List.{List, [], ◌∷◌}
-use Prim.Native.Nat.{ℕ, zero, suc, ◌+◌, ◌*◌, ◌≤◌, ◌<◌}
+use mathlib.Core.List.{List, []}
+use Prim.Native.Nat.{ℕ, zero, suc, ◌≤◌}
 use native.Mathlib.Omega.{arith}
 use lib.Dec.{eqb, ltb}
 use lib.ListN.{length, get_or, replicate, length-replicate}
@@ -11,25 +11,22 @@ use Rattle.text.specs.Bytes.{pick}
 use Rattle.text.specs.Version.{Rule, rule_of}
 use Rattle.text.specs.Simple.{Simple}
 use Rattle.text.specs.Utf8.{WellFormed}
-use Rattle.text.specs.declared.Answer.{Answer}
-use Rattle.text.specs.declared.Answer.TheVariants.{Done, Refused}
+use Rattle.text.specs.declared.Answer.TheVariants.{Done}
 use Rattle.eols.specs.Stops.{rule_for}
 use Rattle.eols.proofs.LineEnds.{version_rule}
-use Rattle.halts.specs.Halts.{Smooth, stop_byte}
 use Rattle.halts.proofs.Smooth.{simple_plain}
 use Rattle.entity.specs.Table.{marked}
-use Rattle.tokens.specs.Outcome.{Outcome, done, refused}
+use Rattle.tokens.specs.Outcome.{Outcome}
 use Rattle.tokens.specs.Tokens.{Heads}
 use Rattle.attribute.specs.Walk.{Settings, walk, normalize, inner_head, reading, reading_of}
 use Rattle.attribute.specs.Heads.{attribute_head}
-use Rattle.attribute.specs.Steps.{heads_by, read_by}
+use Rattle.attribute.specs.Steps.{read_by}
 use Rattle.attribute.proofs.Outer.{with_outer, walk_outer}
 use Rattle.attribute.proofs.Single.{walk_plain}
 use Rattle.memory.specs.Levels.{settings_by}
 use Rattle.memory.specs.declared.Reading.{Reading}
 use Rattle.memory.proofs.Readings.{by_limit}
 use Rattle.walk_depths.specs.LeastDepth.{used_up, least_depth}
-use Rattle.walk_depths.specs.Summary.{Enough, Refusal}
 use Rattle.walk_depths.proofs.ByDepth.{least_enough, least_refused}
 use Rattle.walk_least_depth.specs.Allowance.{settings_for, outcomes, Begins, Small, NeedKeeps, Says, how_for, allowed_for, least_answer}
 use Rattle.walk_least_depth.specs.declared.Need.{Need}

@@ -10,11 +10,11 @@ use lib.Dec.{eqb}
 use lib.ListN.{length, get_or, set, take, drop, length-append, length-drop, length-set, drop_of_length-le}
 use lib.Seq.{length-take-le, take_at, get_or-append-add, get_or-drop, get_or-take, take-set-le, get_or-set_same, get_or-set_other}
 use borrow.Author.Tests.{eqb-true, eqb-false}
-use Rattle.entity.specs.Commands.{command_text, Defines}
+use Rattle.entity.specs.Commands.{command_text}
 use Rattle.attribute.specs.Walk.{Settings}
 use Rattle.table_index.specs.Index.{Ready}
 use Rattle.table_index.proofs.IndexStates.{ready_none}
-use Rattle.memory.specs.Slots.{slot_of, Stands, Memory, Kept}
+use Rattle.memory.specs.Slots.{slot_of, Memory, Kept}
 use Rattle.memory.proofs.Keeping.{kept_length, memory_more, memory_kept, memory_zeros}
 use Rattle.walk_depths.specs.Summary.{Known}
 use Rattle.walk_least_depth.specs.Allowance.{Knows, Room, known_in, Remembers}

@@ -1,34 +1,33 @@
 -- The recursion's loop as laws over lists. What is said of a text without halts (`said_keeps`); what the loop keeps (`Turns`), from its start
 -- (`turns_start`) over texts that are known (`turn_known`) or opened (`turn_opened`) to its returns (`turn_end`, `turn_stopped`,
--- `turn_refused`); what the walk between two openings and the recursion are asked (`turns_lent`, `at_opening`). Assumes nothing.
+-- `turn_refused`); what the walk between two openings and the recursion are asked (`turns_lent`, `AtOpening`). Assumes nothing.
 use mathlib.Core.Path.{◌≡◌, refl, sym, ap, subst, ◌∙◌}
 use mathlib.Core.Logic.{◌≢◌}
 use mathlib.Core.Bool.{true}
 use mathlib.Core.List.{List, [], ◌∷◌, ◌++◌}
-use Prim.Native.Nat.{ℕ, zero, suc, ◌+◌, ◌-◌, ◌*◌, ◌≤◌, ◌<◌, max}
+use Prim.Native.Nat.{ℕ, ◌+◌, ◌-◌, ◌*◌, ◌≤◌, ◌<◌, max}
 use native.Mathlib.Omega.{arith}
 use native.Mathlib.Nat.{le_refl}
 use lib.Dec.{eqb}
 use lib.ListN.{length, get_or, take, drop}
 use lib.Seq.{length-take-le}
-use Rattle.text.specs.Utf8.{WellFormed}
 use Rattle.halts.specs.Halts.{HaltAt, any_stop, stop_byte}
 use Rattle.entity.specs.Commands.{command_text, Defines}
 use Rattle.tokens.specs.Tokens.{Heads}
-use Rattle.tokens.specs.Outcome.{Outcome, done, refused, followed, prepend}
+use Rattle.tokens.specs.Outcome.{Outcome, done, followed}
 use Rattle.attribute.specs.Walk.{Settings, walk}
 use Rattle.attribute.specs.Steps.{read_by}
 use Rattle.memory.specs.Slots.{opening, shaped, slot_of, Stands, Memory}
-use Rattle.memory.specs.Levels.{Level, level_of, at_depth, left, Came, Whole, Opens, RefusesAt, Reaches, Lent, Onward, FlatKeeps}
+use Rattle.memory.specs.Levels.{Level, level_of, at_depth, left, Whole, Opens, Lent, FlatKeeps}
 use Rattle.memory.specs.declared.Reading.{Reading}
 use Rattle.memory.specs.declared.Reached.{Reached}
-use Rattle.memory.specs.declared.Reached.TheVariants.{End, Opening, Paused, Stopped}
+use Rattle.memory.specs.declared.Reached.TheVariants.{End, Opening, Stopped}
 use Rattle.memory.proofs.Slots.{opening_one, opening_within, stands_opened}
-use Rattle.memory.proofs.Levels.{place_of, Brief, Sound, opening_brief, opening_utf8, text_short, walk_left, came_start, came_on, came_refused, came_room, opens_place, inner_room}
+use Rattle.memory.proofs.Levels.{place_of, Sound, opening_brief, text_short, walk_left, came_start, came_refused, came_room, opens_place, inner_room}
 use Rattle.memory.proofs.Readings.{by_inner, by_limit}
 use Rattle.walk_depths.specs.LeastDepth.{used_up}
 use Rattle.walk_depths.specs.Summary.{Enough, Refusal, Known}
-use Rattle.walk_depths.proofs.Needs.{Needs, known_made, needs_end, needs_refused, needs_reference, shaped_plainly, none_fitted}
+use Rattle.walk_depths.proofs.Needs.{Needs, known_made, needs_end, needs_refused, needs_reference, shaped_plainly}
 use Rattle.walk_least_depth.specs.Allowance.{plain_at, inner_at, settings_for, outcomes, Knows, Room, Remembers, IsKnown, Asks, Begins, Small, Counts, Tells, NeedKeeps, Says}
 use Rattle.walk_least_depth.specs.declared.Need.{Need}
 use Rattle.walk_least_depth.specs.declared.Need.TheVariants.{Cannot}
@@ -51,6 +50,19 @@ said_keeps s list pool base a o words (Found depth openings len) k =
 said_keeps s list pool base a o words (Cannot number first second) k = record { words = refl; tells = k }
 
 -- ---- the loop
+
+-- what is known at the reference to a text, where the room has these words
+pub record AtOpening (r : Reading) (list pool text : List ℕ) (at next command slot before now : ℕ) (words : List ℕ) : Type 0 where
+  pub on : at < next
+  pub inside : next ≤ length text
+  pub few : now < r.limit
+  pub defines : Defines list pool command
+  pub slots : slot < 16
+  pub sum : r.base + before ≤ 402653184 + 1572840 * now
+  pub size : length words ≡ 148
+  -- the recursion and the look among what is known are asked
+  pub begins : Begins (settings_for r list pool) list pool (command_text list pool command) words (r.base + before) (now + 1)
+  pub asks : r.limit ≤ 1000000 → command < 49153 → Asks command slot now r words
 
 module _ (r : Reading) (list pool text : List ℕ) (openings : ℕ) where
   abbrev S : Settings
@@ -99,7 +111,7 @@ module _ (r : Reading) (list pool text : List ℕ) (openings : ℕ) where
       abbrev mine : Needs level refl g.v [] refl openings r.base g.at_base most [] (take 84 words) at len made
       mine = t.needs g.v g.at_base g.room
 
-      pub words_size : length words ≡ 148
+      words_size : length words ≡ 148
       words_size = t.kept ∙ g.room.size
 
       pub front_size : length (take 84 words) ≡ 84
@@ -118,7 +130,7 @@ module _ (r : Reading) (list pool text : List ℕ) (openings : ℕ) where
         pub back_size : length kept ≡ 84
         back_size = f.words ∙ front_size
 
-        pub back_length : length (kept ++ drop 84 words) ≡ length old
+        back_length : length (kept ++ drop 84 words) ≡ length old
         back_length = front_length kept words back_size words_size ∙ sym g.room.size
 
         back_knows : Knows S list pool old → Knows S list pool (kept ++ drop 84 words)
@@ -162,12 +174,6 @@ module _ (r : Reading) (list pool text : List ℕ) (openings : ℕ) where
                   (needs_refused level refl g.v [] refl openings r.base g.at_base mine r.depth number a b now t.allowed (told q));
             }
 
-        -- with a memory nothing is paused at
-        pub never_paused : {i before now : ℕ} → x ≡ Paused i before now → ⊥
-        never_paused q =
-            let o = (told q).onward in
-            omega (arith, front_size, o.2)
-
         -- ---- an opening
 
         module _ (sound : Sound S list pool) {i next command slot before now : ℕ} (q : x ≡ Opening i next command slot before now) where
@@ -191,22 +197,22 @@ module _ (r : Reading) (list pool text : List ℕ) (openings : ℕ) where
           abbrev opens : Opens (at_depth most level) g.v [] openings new kept i next command slot before now
           opens = opens_for g.v g.at_base g.room most (le_refl _)
 
-          pub on : at < next
+          on : at < next
           on = (told q).onward.0
 
-          pub inside : next ≤ length text
+          inside : next ≤ length text
           inside = (told q).onward.1
 
-          pub few : now < r.limit
+          few : now < r.limit
           few = subst (λ (k : ℕ). now < k) limit_is opens.room
 
-          pub defines : Defines list pool command
+          defines : Defines list pool command
           defines = opens.defines
 
-          pub slots : slot < 16
+          slots : slot < 16
           slots = opens.known
 
-          pub sum : r.base + before ≤ 402653184 + 1572840 * now
+          sum : r.base + before ≤ 402653184 + 1572840 * now
           sum = came_room (at_depth most level) g.v [] openings r.base g.sum opens.came
 
           -- the room as it is lent to the recursion, for whatever came before
@@ -223,7 +229,7 @@ module _ (r : Reading) (list pool text : List ℕ) (openings : ℕ) where
               let o = opens_for v b room d le in
               ap (λ (y : List ℕ). length (v ++ y)) (sym (shaped_plainly o.came.value)) ∙ opens_place (at_depth d level) v [] openings o b
 
-          pub inner_begins : Begins S list pool txt (kept ++ drop 84 words) (r.base + before) (now + 1)
+          inner_begins : Begins S list pool txt (kept ++ drop 84 words) (r.base + before) (now + 1)
           inner_begins =
               record {
                 v = g.v ++ opens.came.value;
@@ -235,7 +241,7 @@ module _ (r : Reading) (list pool text : List ℕ) (openings : ℕ) where
               }
 
           -- what is asked before the words are looked at
-          pub asks : r.limit ≤ 1000000 → command < 49153 → Asks command slot now r (kept ++ drop 84 words)
+          asks : r.limit ≤ 1000000 → command < 49153 → Asks command slot now r (kept ++ drop 84 words)
           asks most-limit small =
               record {
                 size = front_length kept words back_size words_size;
@@ -244,6 +250,20 @@ module _ (r : Reading) (list pool text : List ℕ) (openings : ℕ) where
                 few = omega (arith, few);
                 most = most-limit;
                 opened = λ e. subst (λ (k : ℕ). get_or (kept ++ drop 84 words) (slot + 132) 0 ≤ k) limit_is (back_knows g.room.known slot command slots e).few;
+              }
+
+          pub at_opening : AtOpening r list pool text at next command slot before now (kept ++ drop 84 words)
+          at_opening =
+              record {
+                on = on;
+                inside = inside;
+                few = few;
+                defines = defines;
+                slots = slots;
+                sum = sum;
+                size = front_length kept words back_size words_size;
+                begins = inner_begins;
+                asks = asks;
               }
 
           -- the text is known

@@ -6,28 +6,28 @@ use borrow.Author.Rules.{rules}
 use Rattle.again.proofs.canonical_twice.Goals as goal
 use Rattle.again.proofs.canonical_twice.Goals.{After-govlezna_canonical_form-number}
 
-abbrev first-asked : After-govlezna_canonical_form-number → Asked
-first-asked c =
+abbrev first_asked : After-govlezna_canonical_form-number → Asked
+first_asked c =
     let a = c.args in
     asked a.text.now a.version a.depth a.limit a.list.now a.pool.now
 
 pub returns-then-number-ne0 : goal.returns-then-number-ne0
 returns-then-number-ne0 c =
     let a = c.args in
-    canonical_stops (first-asked (goal.at.returns-then-number-ne0 c).After-govlezna_canonical_form-number) a.scratch.now a.out.now a.again.now c.govlezna_canonical_form-number.ensures c.if-number-ne0.true
+    canonical_stops (first_asked (goal.at.returns-then-number-ne0 c).After-govlezna_canonical_form-number) a.scratch.now a.out.now a.again.now c.govlezna_canonical_form-number.ensures c.if-number-ne0.true
 
 pub slice_bounds-govlezna_canonical_form-end : goal.slice_bounds-govlezna_canonical_form-end
 slice_bounds-govlezna_canonical_form-end c =
     let a = c.args in
-    canonical_fits (first-asked (goal.at.slice_bounds-govlezna_canonical_form-end c).After-govlezna_canonical_form-number) a.scratch.now a.out.now a.again.now c.govlezna_canonical_form-number.ensures c.if-number-ne0.false
+    canonical_fits (first_asked (goal.at.slice_bounds-govlezna_canonical_form-end c).After-govlezna_canonical_form-number) a.scratch.now a.out.now a.again.now c.govlezna_canonical_form-number.ensures c.if-number-ne0.false
 
 pub slice_bounds-govlezna_canonical_form-end-2 : goal.slice_bounds-govlezna_canonical_form-end-2
 slice_bounds-govlezna_canonical_form-end-2 c =
     let a = c.args in
-    taken_size _ _ (canonical_fits (first-asked (goal.at.slice_bounds-govlezna_canonical_form-end-2 c).After-govlezna_canonical_form-number) a.scratch.now a.out.now a.again.now c.govlezna_canonical_form-number.ensures c.if-number-ne0.false)
+    taken_size _ _ (canonical_fits (first_asked (goal.at.slice_bounds-govlezna_canonical_form-end-2 c).After-govlezna_canonical_form-number) a.scratch.now a.out.now a.again.now c.govlezna_canonical_form-number.ensures c.if-number-ne0.false)
 
 pub returns : goal.returns
 returns c =
     let a = c.args in
-    canonical_read (first-asked (goal.at.returns c).After-govlezna_canonical_form-number) a.scratch.now a.out.now a.again.now c.govlezna_canonical_form-number.ensures c.if-number-ne0.false
+    canonical_read (first_asked (goal.at.returns c).After-govlezna_canonical_form-number) a.scratch.now a.out.now a.again.now c.govlezna_canonical_form-number.ensures c.if-number-ne0.false
     c.govlezna_canonical_form.ensures

@@ -1,7 +1,6 @@
 use mathlib.Core.Path.{◌∙◌}
 use borrow.Author.Tests.{lt-ltb, le-ltb}
 use Rattle.attribute.specs.Checks.{settings_check}
-use borrow.Author.Rules.{rules}
 use Rattle.attribute.proofs.check_settings.Goals as goal
 
 pub returns-then-depth-gt128 : goal.returns-then-depth-gt128

@@ -1,7 +1,6 @@
 -- `check_escape` hands the check of its byte to that of the arguments.
 use mathlib.Core.Path.{ap, ◌∙◌}
 use Rattle.text.specs.Call.{argument_check}
-use borrow.Author.Rules.{rules}
 use Rattle.checks.proofs.check_escape.Goals as goal
 
 pub returns : goal.returns

@@ -6,7 +6,6 @@ use Rattle.text.specs.Utf8.{utf8_end}
 use Rattle.text.specs.Call.{utf8_check, passed}
 use Rattle.text.proofs.Call.{stops, goes_on}
 use Rattle.text.proofs.Printable.{simple_end}
-use borrow.Author.Rules.{rules}
 use Rattle.checks.proofs.check_simple.Goals as goal
 
 pub returns-in_default : goal.returns-in_default

@@ -1,6 +1,5 @@
 use mathlib.Core.Path.{refl, ◌∙◌}
 use Rattle.text.proofs.Call.{goes_on}
-use borrow.Author.Rules.{rules}
 use Rattle.checks.proofs.check_with_table.Goals as goal
 
 pub returns : goal.returns

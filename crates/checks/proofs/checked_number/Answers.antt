@@ -5,7 +5,6 @@ use Prim.Native.Nat.{ℕ}
 use Rattle.charref.specs.CharRef.{number_answer, char_number, any_character}
 use Rattle.charref.proofs.Ascii.{number_utf8}
 use Rattle.checks.proofs.Checks.{first_answers, second_answers, later_answers, known_answers}
-use borrow.Author.Rules.{rules}
 use Rattle.checks.proofs.checked_number.Goals as goal
 use Rattle.checks.proofs.checked_number.Goals.{After-answer_of-number, After-check_length-length}
 

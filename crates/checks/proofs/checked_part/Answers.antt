@@ -1,6 +1,5 @@
 -- `checked_part`: the first check that refuses answers, else the part.
 use Rattle.text.proofs.Call.{stops, goes_on}
-use borrow.Author.Rules.{rules}
 use Rattle.checks.proofs.checked_part.Goals as goal
 
 pub returns-in_default : goal.returns-in_default

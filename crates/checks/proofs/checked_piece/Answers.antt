@@ -1,6 +1,5 @@
 -- `checked_piece` leaves what its checks refuse beside the old cursor, or else the answer of the step beside the new one.
 use Rattle.checks.proofs.Pieces.{piece_halts, piece_passes}
-use borrow.Author.Rules.{rules}
 use Rattle.checks.proofs.checked_piece.Goals as goal
 
 pub returns-in_default : goal.returns-in_default

@@ -1,6 +1,5 @@
 -- `checked_text`: the first check that refuses answers, else the length.
 use Rattle.text.proofs.Call.{stops, goes_on}
-use borrow.Author.Rules.{rules}
 use Rattle.checks.proofs.checked_text.Goals as goal
 
 pub returns-in_default : goal.returns-in_default

@@ -1,14 +1,10 @@
 -- `any_pair`: where nothing was hit (`Missed`), none of the 16 bytes is a space before a space, and so each stays (`goes_pair`).
-use Prim.Native.Nat.{ℕ, ◌+◌, ◌-◌}
+use Prim.Native.Nat.{◌+◌}
 use native.Mathlib.Omega.{arith}
 use mathlib.Core.Path.{refl, ◌∙◌}
-use mathlib.Core.Bool.{◌&&◌}
-use lib.ListN.{get_or}
-use Rattle.text.proofs.Missed.{Missed, missed_start, missed_more, missed_all}
-use Rattle.collapse.specs.Collapse.{is_space}
+use Rattle.text.proofs.Missed.{missed_start, missed_more, missed_all}
 use Rattle.collapse.proofs.Spaces.{goes_pair}
 use Rattle.collapse.proofs.Stage.{stays_of}
-use borrow.Author.Rules.{rules}
 use Rattle.collapse.proofs.any_pair.Goals as goal
 
 pub loop-k-init : goal.loop-k-init

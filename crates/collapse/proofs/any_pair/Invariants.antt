@@ -1,13 +1,8 @@
 use Prim.Native.Nat.{ℕ, ◌+◌, ◌-◌}
-use native.Mathlib.Omega.{arith}
-use mathlib.Core.Path.{refl, ◌∙◌}
 use mathlib.Core.Bool.{◌&&◌}
 use lib.ListN.{get_or}
-use Rattle.text.proofs.Missed.{Missed, missed_start, missed_more, missed_all}
+use Rattle.text.proofs.Missed.{Missed}
 use Rattle.collapse.specs.Collapse.{is_space}
-use Rattle.collapse.proofs.Spaces.{goes_pair}
-use Rattle.collapse.proofs.Stage.{stays_of}
-use borrow.Author.Rules.{rules}
 use Rattle.collapse.proofs.any_pair.Given as goal
 
 abbrev pub invariant-loop-k : goal.invariant-loop-k

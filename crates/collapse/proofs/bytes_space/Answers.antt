@@ -1,12 +1,8 @@
 -- `bytes_space`: byte by byte, what is passed stays a run (`plain_join`).
-use Prim.Native.Nat.{◌-◌}
 use native.Mathlib.Omega.{arith}
-use lib.ListN.{length}
 use borrow.Author.Tests.{eq-eqb, ne_eqb}
-use Rattle.output.specs.Runs.{Plain}
 use Rattle.output.proofs.Runs.{plain_none, plain_byte, plain_join}
 use Rattle.collapse.specs.Collapse.{is_space}
-use borrow.Author.Rules.{rules}
 use Rattle.collapse.proofs.bytes_space.Goals as goal
 
 pub loop-i-init : goal.loop-i-init

@@ -1,6 +1,5 @@
 -- `checked_token` leaves what its checks refuse beside the old offset, or else the answer of the token beside the new one.
 use Rattle.collapse.proofs.NextToken.{token_halts, token_passes}
-use borrow.Author.Rules.{rules}
 use Rattle.collapse.proofs.checked_token.Goals as goal
 
 pub returns-in_default : goal.returns-in_default

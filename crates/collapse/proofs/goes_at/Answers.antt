@@ -3,7 +3,6 @@ use native.Mathlib.Omega.{arith}
 use mathlib.Core.Path.{sym, ◌∙◌}
 use borrow.Author.Tests.{eq-eqb, ne_eqb}
 use Rattle.collapse.proofs.Spaces.{goes_not, goes_last, goes_pair}
-use borrow.Author.Rules.{rules}
 use Rattle.collapse.proofs.goes_at.Goals as goal
 
 pub returns-then-text-at-ne32 : goal.returns-then-text-at-ne32

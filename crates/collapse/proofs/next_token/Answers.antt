@@ -8,7 +8,6 @@ use Rattle.utils.specs.CData.{outside}
 use Rattle.utils.proofs.Cuts.{inside_le}
 use Rattle.collapse.proofs.Stage.{spaces_fit}
 use Rattle.collapse.proofs.NextToken.{token_outside, token_none, token_some}
-use borrow.Author.Rules.{rules}
 use Rattle.collapse.proofs.next_token.Goals as goal
 use Rattle.collapse.proofs.next_token.Goals.{Else-is_outside, Else-start-text}
 

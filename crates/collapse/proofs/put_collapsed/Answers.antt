@@ -2,24 +2,27 @@
 -- (`collapsing_skip`), and where nothing follows all is written (`collapsing_end`).
 use Prim.Native.Nat.{ℕ, ◌+◌, ◌-◌, ◌<◌}
 use native.Mathlib.Omega.{arith}
+use mathlib.Core.List.{List}
 use lib.ListN.{length}
 use borrow.Rule.Slice.PartMut.{put_mid}
 use Rattle.collapse.proofs.Stage.{Collapsing, collapsing_start, collapsing_run, collapsing_skip, collapsing_end, collapsing_length}
-use borrow.Author.Rules.{rules}
 use Rattle.collapse.proofs.put_collapsed.Goals as goal
-use Rattle.collapse.proofs.put_collapsed.Goals.{After-slice_known-in-loop-at-1, Else-next-value}
+use Rattle.collapse.proofs.put_collapsed.Goals.{After-put_over, Else-next-value}
 
-abbrev room : After-slice_known-in-loop-at-1 → ℕ
-room c = c.least-room.result
+-- what the output holds after the copy
+abbrev held : After-put_over → List ℕ
+held c =
+    let room = c.least-room.result in
+    put_mid room (length c.loop-at.out - room) c.loop-at.out c.put_over.new.out
 
 -- after the copy
-ran : (c : After-slice_known-in-loop-at-1) → let a = c.args in Collapsing a.value.now a.out.now (put_mid (room c) (length c.loop-at.out - room c) c.loop-at.out c.put_over.new.out) (c.loop-at.at + (c.stay_end-end.result - c.loop-at.i)) c.stay_end-end.result
-ran c =
-    collapsing_run c.loop-at.invariant c.stay_end-end.ensures.run c.least-room.ensures c.put_over.ensures
+ran : (c : After-put_over) → let end = c.stay_end-end.result in Collapsing c.args.value.now c.args.out.now (held c) (c.loop-at.at + (end - c.loop-at.i)) end
+ran c = collapsing_run c.loop-at.invariant c.stay_end-end.ensures.run c.least-room.ensures c.put_over.ensures
 
 -- after the spaces that follow, where the value goes on
-skipped : (c : Else-next-value) → let a = c.args in let i = c.skip_spaces-next.result - 1 in (c.stay_end-end.result < i) × Collapsing a.value.now a.out.now (put_mid (c.least-room.result) (length c.loop-at.out - c.least-room.result) c.loop-at.out c.put_over.new.out) (c.loop-at.at + (c.stay_end-end.result - c.loop-at.i)) i
-skipped c = collapsing_skip (collapsing_run c.loop-at.invariant c.stay_end-end.ensures.run c.least-room.ensures c.put_over.ensures) c.stay_end-end.ensures.stops c.skip_spaces-next.ensures c.if-next-value.false
+skipped : (c : Else-next-value) → let end = c.stay_end-end.result in let i = c.skip_spaces-next.result - 1 in
+    (end < i) × Collapsing c.args.value.now c.args.out.now (held (goal.at.loop-at-preserved c).After-put_over) (c.loop-at.at + (end - c.loop-at.i)) i
+skipped c = collapsing_skip (ran (goal.at.loop-at-preserved c).After-put_over) c.stay_end-end.ensures.stops c.skip_spaces-next.ensures c.if-next-value.false
 
 pub loop-at-init : goal.loop-at-init
 loop-at-init c = collapsing_start _ _ c.skip_spaces-i.ensures
@@ -46,17 +49,19 @@ pub overflow_sub-at : goal.overflow_sub-at
 overflow_sub-at c = c.stay_end-end.ensures.run.from
 
 pub overflow_add-at : goal.overflow_add-at
-overflow_add-at c = omega (arith, (ran c).under, (ran c).to)
+overflow_add-at c =
+    let r = ran (goal.at.overflow_add-at c).After-put_over in
+    omega (arith, r.under, r.to)
 
 pub skip_spaces-next-requires : goal.skip_spaces-next-requires
-skip_spaces-next-requires c = (ran c).to
+skip_spaces-next-requires c = (ran (goal.at.skip_spaces-next-requires c).After-put_over).to
 
 pub shape_of-out-then-next-value : goal.shape_of-out-then-next-value
-shape_of-out-then-next-value c = collapsing_length (ran (goal.at.shape_of-out-then-next-value c).After-slice_known-in-loop-at-1)
+shape_of-out-then-next-value c = collapsing_length (ran (goal.at.shape_of-out-then-next-value c).After-put_over)
 
 pub returns-then-next-value : goal.returns-then-next-value
 returns-then-next-value c =
-    let both = collapsing_end (ran (goal.at.returns-then-next-value c).After-slice_known-in-loop-at-1) c.skip_spaces-next.ensures c.if-next-value.true in
+    let both = collapsing_end (ran (goal.at.returns-then-next-value c).After-put_over) c.skip_spaces-next.ensures c.if-next-value.true in
     record { value = both.0; out_after = both.1 }
 
 pub overflow_sub-i : goal.overflow_sub-i

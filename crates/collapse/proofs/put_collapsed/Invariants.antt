@@ -1,9 +1,6 @@
-use Prim.Native.Nat.{ℕ, ◌+◌, ◌-◌, ◌<◌}
-use native.Mathlib.Omega.{arith}
+use Prim.Native.Nat.{◌-◌}
 use lib.ListN.{length}
-use borrow.Rule.Slice.PartMut.{put_mid}
-use Rattle.collapse.proofs.Stage.{Collapsing, collapsing_start, collapsing_run, collapsing_skip, collapsing_end, collapsing_length}
-use borrow.Author.Rules.{rules}
+use Rattle.collapse.proofs.Stage.{Collapsing}
 use Rattle.collapse.proofs.put_collapsed.Given as goal
 
 abbrev pub invariant-loop-at : goal.invariant-loop-at

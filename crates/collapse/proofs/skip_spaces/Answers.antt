@@ -1,11 +1,8 @@
 -- `skip_spaces`: each space that is passed is counted (`space_on`), up to another byte (`space_stop`) or the end (`space_over`).
-use borrow.Author.Rules.{rules}
-use Prim.Native.Nat.{◌+◌, ◌-◌, ◌≤◌}
 use native.Mathlib.Omega.{arith}
-use mathlib.Core.Path.{◌≡◌, refl, sym, ◌∙◌}
-use lib.ListN.{length, drop, get_or}
+use mathlib.Core.Path.{refl, sym, ◌∙◌}
+use lib.ListN.{get_or}
 use borrow.Author.Tests.{eq-eqb, ne_eqb}
-use Rattle.collapse.specs.Collapse.{spaces}
 use Rattle.collapse.proofs.Spaces.{space_on, space_stop, space_over}
 use Rattle.collapse.proofs.skip_spaces.Goals as goal
 

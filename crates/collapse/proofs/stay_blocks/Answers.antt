@@ -1,8 +1,5 @@
 -- `stay_blocks`: block by block, every byte that is passed stays (`stays_join`).
-use Prim.Native.Nat.{◌-◌}
 use native.Mathlib.Omega.{arith}
-use lib.ListN.{length}
-use Rattle.collapse.specs.Stage.{Stays}
 use Rattle.collapse.proofs.Stage.{stays_none, stays_join}
 use Rattle.collapse.proofs.stay_blocks.Goals as goal
 

@@ -1,8 +1,6 @@
 use Prim.Native.Nat.{◌-◌}
-use native.Mathlib.Omega.{arith}
 use lib.ListN.{length}
 use Rattle.collapse.specs.Stage.{Stays}
-use Rattle.collapse.proofs.Stage.{stays_none, stays_join}
 use Rattle.collapse.proofs.stay_blocks.Given as goal
 
 abbrev pub invariant-loop-i : goal.invariant-loop-i

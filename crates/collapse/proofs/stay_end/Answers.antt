@@ -1,11 +1,7 @@
 -- `stay_end`: byte by byte after the blocks, every byte that is passed stays (`stays_join`).
-use Prim.Native.Nat.{◌-◌}
 use native.Mathlib.Omega.{arith}
 use mathlib.Core.Path.{sym, ◌∙◌}
-use lib.ListN.{length}
-use Rattle.collapse.specs.Stage.{Stays}
 use Rattle.collapse.proofs.Stage.{stays_one, stays_join}
-use borrow.Author.Rules.{rules}
 use Rattle.collapse.proofs.stay_end.Goals as goal
 
 pub loop-i-init : goal.loop-i-init
@@ -15,11 +11,11 @@ pub goes_at-requires : goal.goes_at-requires
 goes_at-requires c = omega (arith, c.loop-i-test.true)
 
 pub returns-then-goes_at : goal.returns-then-goes_at
-returns-then-goes_at c = record { run = c.loop-i.invariant; stops = λ h. sym c.Goes-at.ensures ∙ c.if-goes_at.true }
+returns-then-goes_at c = record { run = c.loop-i.invariant; stops = λ h. sym c.goes_at.ensures ∙ c.if-goes_at.true }
 
 pub loop-i-preserved : goal.loop-i-preserved
 loop-i-preserved c =
-    stays_join _ _ c.loop-i.i _ c.loop-i.invariant (stays_one _ c.loop-i.i c.loop-i-test.true (sym c.Goes-at.ensures ∙ c.if-goes_at.false))
+    stays_join _ _ c.loop-i.i _ c.loop-i.invariant (stays_one _ c.loop-i.i c.loop-i-test.true (sym c.goes_at.ensures ∙ c.if-goes_at.false))
 
 pub returns : goal.returns
 returns c = record { run = c.loop-i.invariant; stops = λ h. absurd (omega (arith, c.loop-i-test.false, h)) }

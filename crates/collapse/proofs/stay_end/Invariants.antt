@@ -1,10 +1,6 @@
 use Prim.Native.Nat.{◌-◌}
-use native.Mathlib.Omega.{arith}
-use mathlib.Core.Path.{sym, ◌∙◌}
 use lib.ListN.{length}
 use Rattle.collapse.specs.Stage.{Stays}
-use Rattle.collapse.proofs.Stage.{stays_one, stays_join}
-use borrow.Author.Rules.{rules}
 use Rattle.collapse.proofs.stay_end.Given as goal
 
 abbrev pub invariant-loop-i : goal.invariant-loop-i

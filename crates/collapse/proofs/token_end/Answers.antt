@@ -1,8 +1,5 @@
 -- `token_end`: block by block, what is passed stays a run (`plain_join`); the block with a space is searched byte by byte (`end_after`).
-use Prim.Native.Nat.{◌-◌}
 use native.Mathlib.Omega.{arith}
-use lib.ListN.{length}
-use Rattle.output.specs.Runs.{Plain}
 use Rattle.output.proofs.Runs.{plain_none, plain_join, plain_both}
 use Rattle.runs.proofs.Search.{end_after}
 use Rattle.collapse.specs.Collapse.{is_space}

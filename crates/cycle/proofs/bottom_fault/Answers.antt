@@ -1,6 +1,6 @@
 -- Without a fault the heads are those below (`bottom_clean`); with one, a stop before it decides (`bottom_stopped`), else the fault
 -- (`bottom_barred`). `found` is what the search found, under the guard that was asked for.
-use mathlib.Core.Path.{◌≡◌, refl, sym, subst, ◌∙◌}
+use mathlib.Core.Path.{◌≡◌, sym, subst, ◌∙◌}
 use Prim.Native.Nat.{ℕ, suc, ◌-◌}
 use native.Mathlib.Omega.{arith}
 use lib.ListN.{length}
@@ -8,7 +8,6 @@ use lib.Seq.{length-take-le}
 use Rattle.legal.specs.FirstFault.{FirstFault}
 use Rattle.attribute.specs.Steps.{fault_by}
 use Rattle.cycle.proofs.Exhausted.{bottom_unguarded, bottom_clean, bottom_stopped, bottom_barred}
-use borrow.Author.Rules.{rules}
 use Rattle.cycle.proofs.bottom_fault.Goals as goal
 use Rattle.cycle.proofs.bottom_fault.Goals.{After-first_fault-fault}
 

@@ -2,7 +2,6 @@
 -- written (`bottom_written`). Without such a fault the heads are those below (`unbarred`).
 use mathlib.Core.Path.{sym, ◌∙◌}
 use Rattle.cycle.proofs.Exhausted.{bottom_same, bottom_refused_26, bottom_refused, bottom_written}
-use borrow.Author.Rules.{rules}
 use Rattle.cycle.proofs.bottom_step.Goals as goal
 
 pub bottom_fault-fault-requires : goal.bottom_fault-fault-requires

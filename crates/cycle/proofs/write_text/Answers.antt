@@ -1,6 +1,5 @@
 -- The text is laid whole where it fits (`text_laid`), else nothing is (`text_long`), or its form is written (`text_form`).
 use Rattle.cycle.proofs.Exhausted.{text_laid, text_long, text_form}
-use borrow.Author.Rules.{rules}
 use Rattle.cycle.proofs.write_text.Goals as goal
 
 pub returns-then-form-ne0 : goal.returns-then-form-ne0

@@ -5,7 +5,6 @@ use Prim.Native.Nat.{ℕ, ◌+◌}
 use lib.Dec.{eqb}
 use Rattle.text.specs.Bytes.{pick}
 use Rattle.escape.specs.Scan.{added_by}
-use borrow.Author.Rules.{rules}
 use Rattle.escape.proofs.added.Goals as goal
 
 pub overflow_add-result : goal.overflow_add-result

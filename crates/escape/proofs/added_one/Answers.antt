@@ -1,7 +1,6 @@
 -- `added_one` meets its contract: for no byte past `>` is anything added. Assumes nothing.
 use mathlib.Core.Path.{sym}
 use Rattle.escape.proofs.Levels.{past_gt_added}
-use borrow.Author.Rules.{rules}
 use Rattle.escape.proofs.added_one.Goals as goal
 
 pub returns-then-b-gt62 : goal.returns-then-b-gt62

@@ -1,13 +1,16 @@
 -- `added_rest` meets its contract: after k turns the sum is that of k bytes, each at most 5. Assumes nothing.
 use mathlib.Core.Path.{◌≡◌}
-use Prim.Native.Nat.{◌+◌, ◌*◌, ◌-◌, ◌≤◌}
+use Prim.Native.Nat.{◌+◌}
 use native.Mathlib.Omega.{arith}
-use lib.ListN.{length, take, drop, get_or}
+use lib.ListN.{get_or}
 use Rattle.escape.specs.Escape.{write}
-use Rattle.escape.specs.Scan.{chars_set}
 use Rattle.escape.proofs.Levels.{added_most, count_next}
 use borrow.Author.Rules.{rules}
 use Rattle.escape.proofs.added_rest.Goals as goal
+
+pub loop-k-init : goal.loop-k-init
+unfolding write
+loop-k-init c = search rules
 
 pub overflow_add-n : goal.overflow_add-n
 overflow_add-n c =

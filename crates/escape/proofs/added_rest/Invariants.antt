@@ -1,11 +1,8 @@
 use mathlib.Core.Path.{◌≡◌}
 use Prim.Native.Nat.{◌+◌, ◌*◌, ◌-◌, ◌≤◌}
-use native.Mathlib.Omega.{arith}
-use lib.ListN.{length, take, drop, get_or}
+use lib.ListN.{length, take, drop}
 use Rattle.escape.specs.Escape.{write}
 use Rattle.escape.specs.Scan.{chars_set}
-use Rattle.escape.proofs.Levels.{added_most, count_next}
-use borrow.Author.Rules.{rules}
 use Rattle.escape.proofs.added_rest.Given as goal
 
 abbrev pub invariant-loop-k : goal.invariant-loop-k

@@ -1,10 +1,6 @@
 -- `any_escaped` tests 16 bytes with no branch (`Missed`): where nothing hit, none of them is escaped. Assumes nothing.
-use Prim.Native.Nat.{ℕ, ◌+◌, ◌-◌}
-use lib.ListN.{get_or}
-use Rattle.text.proofs.Missed.{Missed, missed_start, missed_more, missed_all}
+use Rattle.text.proofs.Missed.{missed_start, missed_more, missed_all}
 use Rattle.output.proofs.Runs.{plain_of}
-use Rattle.escape.specs.Scan.{escaped_by}
-use borrow.Author.Rules.{rules}
 use Rattle.escape.proofs.any_escaped.Goals as goal
 
 pub loop-k-init : goal.loop-k-init

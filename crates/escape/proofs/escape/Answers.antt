@@ -4,7 +4,6 @@ use Rattle.text.specs.Call.{finish}
 use Rattle.escape.specs.Escape.{Replacements, write, level_of}
 use Rattle.escape.specs.Scan.{chars_set}
 use Rattle.escape.proofs.Levels.{chars_level}
-use borrow.Author.Rules.{rules}
 use Rattle.escape.proofs.escape.Goals as goal
 
 pub returns : goal.returns

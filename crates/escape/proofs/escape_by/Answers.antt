@@ -1,7 +1,6 @@
 -- `escape_by` meets its contract: there is room by the count or by six bytes for each byte. Assumes nothing.
 use mathlib.Core.Path.{sym}
 use mathlib.Core.Bool.{true≢false}
-use mathlib.Core.Logic.{⊎_elim}
 use Prim.Native.Nat.{◌≤◌}
 use native.Mathlib.Omega.{arith}
 use lib.ListN.{length}
@@ -10,9 +9,8 @@ use Rattle.escape.specs.Escape.{write}
 use Rattle.escape.specs.Scan.{chars_set}
 use Rattle.escape.proofs.Write.{write_most}
 use Rattle.escape.proofs.Levels.{chars_sized}
-use borrow.Author.Rules.{rules}
 use Rattle.escape.proofs.escape_by.Goals as goal
-use Rattle.escape.proofs.escape_by.Goals.{Joined-out-text}
+use Rattle.escape.proofs.escape_by.Goals.{Joined-out-text, then-out-text+else-out-length, else-out-text}
 
 pub returns-then-out-length : goal.returns-then-out-length
 returns-then-out-length c =
@@ -24,7 +22,7 @@ fits : (c : Joined-out-text) → length (write (chars_set c.args.chars) c.args.t
 fits c =
     let given = c.args in
     let most = write_most (chars_set given.chars) (chars_sized given.chars) given.text.now in
-    ⊎_elim (λ w. omega (arith, w.1.ensures, w.2)) (λ w. omega (arith, w.left, most)) c.if-out-text.branch
+    elim c.if-out-text.branch [ then-out-text+else-out-length w ↦ omega arith | else-out-text w ↦ omega (arith, most) ]
 
 pub write_escaped-written-requires : goal.write_escaped-written-requires
 write_escaped-written-requires c = record { shows = λ q. absurd (true≢false (sym q)); text_in_bounds = fits (goal.at.write_escaped-written-requires c).Joined-out-text }

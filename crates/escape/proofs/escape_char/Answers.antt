@@ -8,7 +8,6 @@ use Rattle.text.specs.Bytes.{pick}
 use Rattle.escape.specs.Scan.{reference_by}
 use Rattle.escape.proofs.Levels.{pick_same, reference_other, reference_room, reference_put}
 use Rattle.output.proofs.Laid.{laid_byte}
-use borrow.Author.Rules.{rules}
 use Rattle.escape.proofs.escape_char.Goals as goal
 use Rattle.escape.proofs.escape_char.Goals.{In_default}
 

@@ -1,14 +1,15 @@
 -- `escaped_length` meets its contract: what is added and the bytes passed are the length written for them. Assumes nothing.
 use Rattle.escape.proofs.Levels.{chars_sized}
-use mathlib.Core.Path.{◌≡◌}
-use Prim.Native.Nat.{◌+◌, ◌*◌, ◌-◌, ◌≤◌}
 use native.Mathlib.Omega.{arith}
-use lib.ListN.{length, take}
 use Rattle.escape.specs.Escape.{write}
 use Rattle.escape.specs.Scan.{chars_set}
 use Rattle.escape.proofs.Write.{count_part, count_rest, write_most}
 use borrow.Author.Rules.{rules}
 use Rattle.escape.proofs.escaped_length.Goals as goal
+
+pub loop-i-init : goal.loop-i-init
+unfolding write
+loop-i-init c = search rules
 
 pub loop-i-preserved : goal.loop-i-preserved
 loop-i-preserved c =

@@ -1,12 +1,8 @@
-use Rattle.escape.proofs.Levels.{chars_sized}
 use mathlib.Core.Path.{◌≡◌}
 use Prim.Native.Nat.{◌+◌, ◌*◌, ◌-◌, ◌≤◌}
-use native.Mathlib.Omega.{arith}
 use lib.ListN.{length, take}
 use Rattle.escape.specs.Escape.{write}
 use Rattle.escape.specs.Scan.{chars_set}
-use Rattle.escape.proofs.Write.{count_part, count_rest, write_most}
-use borrow.Author.Rules.{rules}
 use Rattle.escape.proofs.escaped_length.Given as goal
 
 abbrev pub invariant-loop-i : goal.invariant-loop-i

@@ -1,7 +1,6 @@
 -- `is_escaped` meets its contract: no byte past `>` is replaced. Assumes nothing.
 use mathlib.Core.Path.{sym}
 use Rattle.escape.proofs.Levels.{past_gt}
-use borrow.Author.Rules.{rules}
 use Rattle.escape.proofs.is_escaped.Goals as goal
 
 pub returns-then-b-gt62 : goal.returns-then-b-gt62

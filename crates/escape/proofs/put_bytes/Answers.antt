@@ -1,13 +1,11 @@
 -- `put_bytes` meets its contract: at each turn the first i bytes are a run, and are laid over the output. Assumes nothing.
 use mathlib.Core.Path.{◌≡◌, sym, ap, ◌∙◌}
-use Prim.Native.Nat.{◌-◌, ◌<◌}
+use Prim.Native.Nat.{◌<◌}
 use native.Mathlib.Omega.{arith}
 use lib.ListN.{length, get_or}
-use Rattle.output.specs.Runs.{Copied, Room}
 use Rattle.output.proofs.Runs.{copied_none, copied_length, copied_byte, byte_fits}
 use Rattle.escape.specs.Scan.{escaped_by, shown}
 use Rattle.escape.proofs.Shown.{shown_length, shown_at, shown_escaped}
-use borrow.Author.Rules.{rules}
 use Rattle.escape.proofs.put_bytes.Goals as goal
 use Rattle.escape.proofs.put_bytes.Goals.{After-is_escaped}
 

@@ -1,12 +1,7 @@
-use mathlib.Core.Path.{◌≡◌, sym, ap, ◌∙◌}
-use Prim.Native.Nat.{◌-◌, ◌<◌}
-use native.Mathlib.Omega.{arith}
-use lib.ListN.{length, get_or}
+use Prim.Native.Nat.{◌-◌}
+use lib.ListN.{length}
 use Rattle.output.specs.Runs.{Copied, Room}
-use Rattle.output.proofs.Runs.{copied_none, copied_length, copied_byte, byte_fits}
 use Rattle.escape.specs.Scan.{escaped_by, shown}
-use Rattle.escape.proofs.Shown.{shown_length, shown_at, shown_escaped}
-use borrow.Author.Rules.{rules}
 use Rattle.escape.proofs.put_bytes.Given as goal
 
 abbrev pub invariant-loop-i : goal.invariant-loop-i

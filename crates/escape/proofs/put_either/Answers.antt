@@ -3,7 +3,6 @@ use mathlib.Core.Path.{ap}
 use mathlib.Core.Bool.{Bool}
 use Rattle.text.specs.Bytes.{pick}
 use Rattle.escape.proofs.Levels.{reference_put}
-use borrow.Author.Rules.{rules}
 use Rattle.escape.proofs.put_either.Goals as goal
 
 pub put-requires : goal.put-requires

@@ -8,7 +8,6 @@ use borrow.Rule.Slice.PartMut.{mid_of}
 use Rattle.escape.specs.Scan.{escaped_by, shown}
 use Rattle.escape.proofs.Shown.{shown_length, shown_mid}
 use Rattle.output.proofs.Runs.{copied_inside, rest_room, copied_rest, ends_shift}
-use borrow.Author.Rules.{rules}
 use Rattle.escape.proofs.put_plain.Goals as goal
 use Rattle.escape.proofs.put_plain.Goals.{After-put_blocks-near}
 
@@ -19,8 +18,8 @@ whole c = shown c.args.spaces c.args.text.now
 inside : (c : After-put_blocks-near) → c.put_blocks-near.result ≤ length c.args.text.now
 inside c = omega (arith, c.put_blocks-near.ensures.run.to, shown_length c.args.spaces c.args.text.now)
 
-rest-shown : (c : After-put_blocks-near) → shown c.args.spaces (mid_of c.put_blocks-near.result (length c.args.text.now - c.put_blocks-near.result) c.args.text.now) ≡ mid_of c.put_blocks-near.result (length (whole c) - c.put_blocks-near.result) (whole c)
-rest-shown c =
+rest_shown : (c : After-put_blocks-near) → shown c.args.spaces (mid_of c.put_blocks-near.result (length c.args.text.now - c.put_blocks-near.result) c.args.text.now) ≡ mid_of c.put_blocks-near.result (length (whole c) - c.put_blocks-near.result) (whole c)
+rest_shown c =
     let given = c.args in
     let r = c.put_blocks-near.result in
     shown_mid given.spaces r (length given.text.now - r) given.text.now
@@ -40,17 +39,17 @@ slice_bounds-put_bytes-start-2 c = copied_inside _ _ _ c.put_blocks-near.ensures
 
 pub put_bytes-requires : goal.put_bytes-requires
 put_bytes-requires c =
-    record { shows = c.requires.shows; room = rw (rest-shown (goal.at.put_bytes-requires c).After-put_blocks-near) (rest_room _ _ _ c.put_blocks-near.ensures c.requires.room) }
+    record { shows = c.requires.shows; room = rw (rest_shown (goal.at.put_bytes-requires c).After-put_blocks-near) (rest_room _ _ _ c.put_blocks-near.ensures c.requires.room) }
 
 pub overflow_add-result : goal.overflow_add-result
 overflow_add-result c =
     let given = c.args in
-    let both = copied_rest _ _ _ c.put_blocks-near.ensures c.requires.room (rw (rest-shown (goal.at.overflow_add-result c).After-put_blocks-near) at c.put_bytes.ensures.copied) in
+    let both = copied_rest _ _ _ c.put_blocks-near.ensures c.requires.room (rw (rest_shown (goal.at.overflow_add-result c).After-put_blocks-near) at c.put_bytes.ensures.copied) in
     omega (arith, both.run.to, shown_length given.spaces given.text.now)
 
 pub returns : goal.returns
 returns c =
     let given = c.args in
-    let copy = rw (rest-shown (goal.at.returns c).After-put_blocks-near) at c.put_bytes.ensures.copied in
-    let ends = rw (rest-shown (goal.at.returns c).After-put_blocks-near) at c.put_bytes.ensures.ends in
+    let copy = rw (rest_shown (goal.at.returns c).After-put_blocks-near) at c.put_bytes.ensures.copied in
+    let ends = rw (rest_shown (goal.at.returns c).After-put_blocks-near) at c.put_bytes.ensures.ends in
     record { copied = copied_rest _ _ _ c.put_blocks-near.ensures c.requires.room copy; ends = ends_shift (escaped_by given.chars) (whole (goal.at.returns c).After-put_blocks-near) c.put_blocks-near.result c.put_bytes.result c.put_blocks-near.ensures.run.to ends }

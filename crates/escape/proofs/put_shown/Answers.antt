@@ -3,7 +3,6 @@ use mathlib.Core.Path.{sym, ap, ◌∙◌}
 use mathlib.Core.Bool.{Bool}
 use Rattle.text.specs.Call.{laid}
 use Rattle.escape.specs.Scan.{shown}
-use borrow.Author.Rules.{rules}
 use Rattle.escape.proofs.put_shown.Goals as goal
 
 pub returns-then-spaces : goal.returns-then-spaces

@@ -1,8 +1,6 @@
 -- `any_newer` finds every halt that starts in the block: what no accumulator has found is none (`newer_at`). Assumes nothing.
-use mathlib.Core.Bool.{◌||◌}
 use native.Mathlib.Omega.{arith}
-use Prim.Native.Nat.{◌-◌}
-use Rattle.halts.proofs.Smooth.{LookedNewer, newer_none, newer_next, newer_smooth}
+use Rattle.halts.proofs.Smooth.{newer_none, newer_next, newer_smooth}
 use Rattle.halts.proofs.any_newer.Goals as goal
 
 pub loop-k-init : goal.loop-k-init

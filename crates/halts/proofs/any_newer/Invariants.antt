@@ -1,7 +1,6 @@
 use mathlib.Core.Bool.{◌||◌}
-use native.Mathlib.Omega.{arith}
 use Prim.Native.Nat.{◌-◌}
-use Rattle.halts.proofs.Smooth.{LookedNewer, newer_none, newer_next, newer_smooth}
+use Rattle.halts.proofs.Smooth.{LookedNewer}
 use Rattle.halts.proofs.any_newer.Given as goal
 
 abbrev pub invariant-loop-k : goal.invariant-loop-k

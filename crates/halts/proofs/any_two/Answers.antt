@@ -1,13 +1,12 @@
 -- `any_two` tells what one test for either byte would: each accumulator tells of its own byte (`any_either`). Assumes nothing.
 use mathlib.Core.Path.{◌≡◌, refl, ap, ap₂, ◌∙◌}
 use mathlib.Core.Bool.{◌||◌}
-use Prim.Native.Nat.{ℕ, ◌-◌, zero-le}
+use Prim.Native.Nat.{ℕ, zero-le}
 use native.Mathlib.Omega.{arith}
 use lib.ListN.{take, drop}
 use Rattle.output.specs.Runs.{either_byte}
 use Rattle.halts.specs.Halts.{any_stop}
-use Rattle.halts.proofs.Smooth.{Looked, looked_next, any_either}
-use borrow.Author.Rules.{rules}
+use Rattle.halts.proofs.Smooth.{looked_next, any_either}
 use Rattle.halts.proofs.any_two.Goals as goal
 
 pub loop-k-init : goal.loop-k-init

@@ -1,9 +1,6 @@
 -- `clear_newer` passes smooth bytes alone, block by block. Assumes nothing.
 use mathlib.Core.Bool.{true}
 use native.Mathlib.Omega.{arith}
-use Prim.Native.Nat.{◌-◌}
-use lib.ListN.{length}
-use Rattle.halts.specs.Halts.{Smooth}
 use Rattle.halts.proofs.Smooth.{smooth_none, smooth_join}
 use Rattle.halts.proofs.clear_newer.Goals as goal
 

@@ -1,9 +1,7 @@
 use mathlib.Core.Bool.{true}
-use native.Mathlib.Omega.{arith}
 use Prim.Native.Nat.{◌-◌}
 use lib.ListN.{length}
 use Rattle.halts.specs.Halts.{Smooth}
-use Rattle.halts.proofs.Smooth.{smooth_none, smooth_join}
 use Rattle.halts.proofs.clear_newer.Given as goal
 
 abbrev pub invariant-loop-i : goal.invariant-loop-i

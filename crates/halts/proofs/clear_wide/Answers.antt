@@ -1,10 +1,8 @@
 -- `clear_wide` passes smooth bytes alone, block by block. Assumes nothing.
 use mathlib.Core.Bool.{false}
 use native.Mathlib.Omega.{arith}
-use Prim.Native.Nat.{◌-◌, zero-le}
-use lib.ListN.{length}
+use Prim.Native.Nat.{zero-le}
 use mathlib.Core.Path.{sym, ◌∙◌}
-use Rattle.halts.specs.Halts.{Smooth}
 use Rattle.halts.proofs.Smooth.{smooth_none, smooth_join, two_smooth}
 use Rattle.halts.proofs.clear_wide.Goals as goal
 

@@ -1,5 +1,4 @@
 -- `has_stop` is the loop of the version. Assumes nothing.
-use borrow.Author.Rules.{rules}
 use Rattle.halts.proofs.has_stop.Goals as goal
 
 pub returns-then-newer : goal.returns-then-newer

@@ -1,11 +1,9 @@
 -- `is_newer`, by case: no suspect, `&` or CR, C2 or E2 with the line end that it starts or does not. Assumes nothing.
 use lib.Dec.{eqb}
 use Rattle.halts.proofs.Smooth.{newer_none_at, newer_amp_cr, newer_line}
-use borrow.Author.Tests.{not-true, not-false}
 use mathlib.Core.Bool.{not}
 use mathlib.Core.Path.{sym, ap, ◌∙◌}
 use Prim.Native.Nat.{ℕ}
-use borrow.Author.Rules.{rules}
 use Rattle.halts.proofs.is_newer.Goals as goal
 
 pub returns-then-not-is_suspect : goal.returns-then-not-is_suspect

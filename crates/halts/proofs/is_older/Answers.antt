@@ -1,7 +1,6 @@
 -- `is_older`: a byte past `&` is neither `&` nor CR. Assumes nothing.
 use native.Mathlib.Omega.{arith}
 use borrow.Author.Tests.{ne_eqb}
-use borrow.Author.Rules.{rules}
 use Rattle.halts.proofs.is_older.Goals as goal
 
 pub returns-then-b-gt38 : goal.returns-then-b-gt38

@@ -1,7 +1,6 @@
 -- `is_suspect`: a byte from 39 to C1 is none of the four. Assumes nothing.
 use mathlib.Core.Path.{sym}
 use Rattle.halts.proofs.Smooth.{common_unsuspected}
-use borrow.Author.Rules.{rules}
 use Rattle.halts.proofs.is_suspect.Goals as goal
 
 pub returns-then-b : goal.returns-then-b

@@ -1,5 +1,4 @@
 -- `near_halt`: a text that is too short for 16 bytes is searched as any other, else the version's search of near bytes. Assumes nothing.
-use borrow.Author.Rules.{rules}
 use Rattle.halts.proofs.near_halt.Goals as goal
 
 pub returns-then-newer : goal.returns-then-newer

@@ -3,12 +3,12 @@
 use mathlib.Core.Path.{◌≡◌, sym}
 use mathlib.Core.Bool.{true}
 use native.Mathlib.Omega.{arith}
-use Prim.Native.Nat.{◌+◌, ◌-◌}
+use Prim.Native.Nat.{◌+◌}
 use lib.ListN.{get_or}
-use mathlib.Core.Logic.{⊎_elim}
 use Rattle.halts.specs.Halts.{suspect_byte}
-use Rattle.halts.proofs.Smooth.{InBlock, in_block_none, in_block_next, suspects_smooth, halt_join, newer_amp_cr, ascii_unsuspected, middle_unsuspected}
+use Rattle.halts.proofs.Smooth.{in_block_none, in_block_next, suspects_smooth, halt_join, newer_amp_cr, ascii_unsuspected, middle_unsuspected}
 use Rattle.halts.proofs.near_newer.Goals as goal
+use Rattle.halts.proofs.near_newer.Goals.{then-b+else-b-2+else-b-gt127, else-b}
 
 pub loop-k-init : goal.loop-k-init
 loop-k-init c = in_block_none (suspect_byte true) c.args.text.now c.args.from c.requires
@@ -51,7 +51,10 @@ loop-k-preserved c =
     let t = c.args.text.now in
     let b = get_or t (c.args.from + c.loop-k.k) 0 in
     in_block_next (suspect_byte true) t c.args.from c.requires c.loop-k-test.true c.loop-k.invariant
-    (⊎_elim (λ w. ascii_unsuspected b w.1.left w.2.left) (λ w. middle_unsuspected b w.left) c.if-b.branch)
+    (elim c.if-b.branch [
+      | then-b+else-b-2+else-b-gt127 w ↦ ascii_unsuspected b w.if-b-2.false w.if-b-gt127.false
+      | else-b w ↦ middle_unsuspected b w.if-b.false
+    ])
 
 pub overflow_add-from-2 : goal.overflow_add-from-2
 overflow_add-from-2 c = omega (arith, c.requires)

@@ -2,9 +2,9 @@
 use mathlib.Core.Path.{◌≡◌, sym, ◌∙◌}
 use mathlib.Core.Bool.{false}
 use native.Mathlib.Omega.{arith}
-use Prim.Native.Nat.{◌+◌, ◌-◌}
+use Prim.Native.Nat.{◌+◌}
 use Rattle.halts.specs.Halts.{suspect_byte}
-use Rattle.halts.proofs.Smooth.{InBlock, in_block_none, in_block_next, suspects_smooth, older_at, halt_join}
+use Rattle.halts.proofs.Smooth.{in_block_none, in_block_next, suspects_smooth, older_at, halt_join}
 use Rattle.halts.proofs.near_older.Goals as goal
 
 pub loop-k-init : goal.loop-k-init

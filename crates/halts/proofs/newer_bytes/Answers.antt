@@ -2,9 +2,6 @@
 use mathlib.Core.Bool.{true}
 use mathlib.Core.Path.{sym, ◌∙◌}
 use native.Mathlib.Omega.{arith}
-use Prim.Native.Nat.{◌-◌}
-use lib.ListN.{length}
-use Rattle.halts.specs.Halts.{Smooth}
 use Rattle.halts.proofs.Smooth.{smooth_none, smooth_byte, smooth_join}
 use Rattle.halts.proofs.newer_bytes.Goals as goal
 

@@ -1,5 +1,4 @@
 -- `newer_rest`: where the last 16 bytes have no suspect the rest, which lies in them, has none. Assumes nothing.
-use borrow.Author.Tests.{not-true}
 use native.Mathlib.Omega.{arith}
 use Prim.Native.Nat.{◌-◌}
 use lib.ListN.{length}

@@ -1,9 +1,7 @@
 -- `older_bytes`: all before i is a run; the first suspect is answered, which under 1.0 is a halt. Assumes nothing.
 use mathlib.Core.Path.{sym, ◌∙◌}
 use native.Mathlib.Omega.{arith}
-use Prim.Native.Nat.{◌+◌, ◌-◌}
-use lib.ListN.{length}
-use Rattle.output.specs.Runs.{Plain}
+use Prim.Native.Nat.{◌+◌}
 use Rattle.output.proofs.Runs.{plain_none, plain_byte, plain_join}
 use Rattle.halts.specs.Halts.{suspect_byte}
 use Rattle.halts.proofs.Smooth.{older_at}

@@ -1,11 +1,7 @@
-use mathlib.Core.Path.{sym, ◌∙◌}
-use native.Mathlib.Omega.{arith}
-use Prim.Native.Nat.{◌+◌, ◌-◌}
+use Prim.Native.Nat.{◌-◌}
 use lib.ListN.{length}
 use Rattle.output.specs.Runs.{Plain}
-use Rattle.output.proofs.Runs.{plain_none, plain_byte, plain_join}
 use Rattle.halts.specs.Halts.{suspect_byte}
-use Rattle.halts.proofs.Smooth.{older_at}
 use mathlib.Core.Bool.{false}
 use Rattle.halts.proofs.older_bytes.Given as goal
 

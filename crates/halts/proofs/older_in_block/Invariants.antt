@@ -1,10 +1,7 @@
-use mathlib.Core.Path.{◌≡◌, sym, ◌∙◌}
 use mathlib.Core.Bool.{false}
-use native.Mathlib.Omega.{arith}
 use Prim.Native.Nat.{◌-◌}
-use Rattle.text.proofs.Bytes.{contrary}
 use Rattle.halts.specs.Halts.{suspect_byte}
-use Rattle.halts.proofs.Smooth.{InBlock, in_block_none, in_block_next, older_at, plain_any}
+use Rattle.halts.proofs.Smooth.{InBlock}
 use Rattle.halts.proofs.older_in_block.Given as goal
 
 abbrev pub invariant-loop-k : goal.invariant-loop-k

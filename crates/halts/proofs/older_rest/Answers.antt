@@ -3,7 +3,6 @@ use native.Mathlib.Omega.{arith}
 use Prim.Native.Nat.{◌-◌}
 use lib.ListN.{length}
 use mathlib.Core.Path.{sym, ◌∙◌}
-use borrow.Author.Tests.{not-true}
 use Rattle.halts.proofs.Smooth.{two_smooth, smooth_last, halt_over}
 use Rattle.halts.proofs.older_rest.Goals as goal
 

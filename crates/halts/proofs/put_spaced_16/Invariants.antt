@@ -1,7 +1,5 @@
-use mathlib.Core.Path.{◌≡◌, refl}
-use native.Mathlib.Omega.{arith}
 use Prim.Native.Nat.{◌-◌}
-use Rattle.halts.proofs.Spaces.{Filled, filled_none, filled_next, Stored, stored_none, stored_next, stored_all}
+use Rattle.halts.proofs.Spaces.{Filled, Stored}
 use Rattle.halts.proofs.put_spaced_16.Given as goal
 
 abbrev pub invariant-loop-k : goal.invariant-loop-k

@@ -1,8 +1,7 @@
 -- `put_spaced_4`: the array is filled with the piece, blanks as spaces, and then stored byte by byte. Assumes nothing.
 use mathlib.Core.Path.{◌≡◌, refl}
 use native.Mathlib.Omega.{arith}
-use Prim.Native.Nat.{◌-◌}
-use Rattle.halts.proofs.Spaces.{Filled, filled_none, filled_next, Stored, stored_none, stored_next, stored_all}
+use Rattle.halts.proofs.Spaces.{filled_none, filled_next, stored_none, stored_next, stored_all}
 use Rattle.halts.proofs.put_spaced_4.Goals as goal
 
 pub loop-k-init : goal.loop-k-init

@@ -1,8 +1,6 @@
 -- `put_spaced_blocks`: all before i is laid; the last block starts before i where the run is no multiple of 16. Assumes nothing.
 use mathlib.Core.Path.{◌≡◌}
 use native.Mathlib.Omega.{arith}
-use Prim.Native.Nat.{◌+◌, ◌-◌, ◌<◌}
-use Rattle.halts.specs.Halts.{Laying}
 use Rattle.halts.proofs.Spaces.{Reaching, laying_none, piece_more, piece_last}
 use Rattle.halts.proofs.put_spaced_blocks.Goals as goal
 use Rattle.halts.proofs.put_spaced_blocks.Goals.{After-put_spaced_16}

@@ -1,8 +1,5 @@
-use mathlib.Core.Path.{◌≡◌}
-use native.Mathlib.Omega.{arith}
 use Prim.Native.Nat.{◌+◌, ◌-◌, ◌<◌}
 use Rattle.halts.specs.Halts.{Laying}
-use Rattle.halts.proofs.Spaces.{Reaching, laying_none, piece_more, piece_last}
 use Rattle.halts.proofs.put_spaced_blocks.Given as goal
 
 abbrev pub invariant-loop-i : goal.invariant-loop-i

@@ -1,8 +1,8 @@
 -- `put_spaced_eights`: the first piece reaches the last one, which starts among its bytes or at their end. Assumes nothing.
 use native.Mathlib.Omega.{arith}
 use native.Mathlib.Nat.{le_refl}
-use Prim.Native.Nat.{◌+◌, ◌-◌, ◌≤◌, zero-le}
-use Rattle.halts.proofs.Spaces.{Reaching, laying_none, piece_more, piece_last}
+use Prim.Native.Nat.{◌+◌, zero-le}
+use Rattle.halts.proofs.Spaces.{laying_none, piece_more, piece_last}
 use Rattle.halts.proofs.put_spaced_eights.Goals as goal
 
 pub overflow_sub-last : goal.overflow_sub-last

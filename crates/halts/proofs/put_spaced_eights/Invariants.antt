@@ -1,7 +1,5 @@
-use native.Mathlib.Omega.{arith}
-use native.Mathlib.Nat.{le_refl}
-use Prim.Native.Nat.{◌+◌, ◌-◌, ◌≤◌, zero-le}
-use Rattle.halts.proofs.Spaces.{Reaching, laying_none, piece_more, piece_last}
+use Prim.Native.Nat.{◌-◌, ◌≤◌}
+use Rattle.halts.proofs.Spaces.{Reaching}
 use Rattle.halts.proofs.put_spaced_eights.Given as goal
 
 abbrev pub invariant-loop-i : goal.invariant-loop-i

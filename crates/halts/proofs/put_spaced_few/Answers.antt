@@ -1,11 +1,9 @@
 -- `put_spaced_few`: after k turns the first k bytes are laid, or all where there are fewer. Assumes nothing.
-use mathlib.Core.Logic.{⊎_elim}
 use native.Mathlib.Omega.{arith}
-use Prim.Native.Nat.{◌-◌, ◌≤◌, zero-le}
-use Rattle.halts.specs.Halts.{Laying}
+use Prim.Native.Nat.{zero-le}
 use Rattle.halts.proofs.Spaces.{laying_none, laying_next, laying_past, laying_all}
-use borrow.Author.Rules.{rules}
 use Rattle.halts.proofs.put_spaced_few.Goals as goal
+use Rattle.halts.proofs.put_spaced_few.Goals.{then-k-n, else-k-n}
 
 pub loop-k-init : goal.loop-k-init
 loop-k-init c =
@@ -32,10 +30,10 @@ loop-k-preserved c =
     let src = given.src.now in
     let old = given.out.now in (
       omega (arith, c.loop-k-test.true),
-      ⊎_elim
-          (λ w. rw w.3 (laying_next src old c.loop-k.invariant.1 (omega (arith, c.loop-k.invariant.1.size, c.requires.1)) w.0.taken w.2.ensures))
-          (λ w. rw w.1 (laying_past src old c.loop-k.invariant.1 w.0.left))
-          c.if-k-n.branch,
+      elim c.if-k-n.branch [
+        | then-k-n w ↦ rw w.out-is (laying_next src old c.loop-k.invariant.1 (omega (arith, c.loop-k.invariant.1.size, c.requires.1)) w.if-k-n.true w.spaced_byte.ensures)
+        | else-k-n w ↦ rw w.out-is (laying_past src old c.loop-k.invariant.1 w.if-k-n.false)
+      ],
     )
 
 pub shape_of-out : goal.shape_of-out

@@ -1,9 +1,5 @@
-use mathlib.Core.Logic.{⊎_elim}
-use native.Mathlib.Omega.{arith}
-use Prim.Native.Nat.{◌-◌, ◌≤◌, zero-le}
+use Prim.Native.Nat.{◌-◌, ◌≤◌}
 use Rattle.halts.specs.Halts.{Laying}
-use Rattle.halts.proofs.Spaces.{laying_none, laying_next, laying_past, laying_all}
-use borrow.Author.Rules.{rules}
 use Rattle.halts.proofs.put_spaced_few.Given as goal
 
 abbrev pub invariant-loop-k : goal.invariant-loop-k

@@ -3,7 +3,6 @@ use native.Mathlib.Omega.{arith}
 use Prim.Native.Nat.{◌-◌, zero-le}
 use lib.ListN.{length}
 use Rattle.halts.proofs.Spaces.{laying_none, piece_more, piece_last}
-use borrow.Author.Rules.{rules}
 use Rattle.halts.proofs.put_spaced_fours.Goals as goal
 
 pub returns : goal.returns

@@ -2,7 +2,6 @@
 use mathlib.Core.Path.{refl}
 use native.Mathlib.Omega.{arith}
 use Rattle.halts.proofs.Spaces.{gains_spaced, gains_fit, gain_fits}
-use borrow.Author.Rules.{rules}
 use Rattle.halts.proofs.spaced_byte.Goals as goal
 
 pub overflow_add-result : goal.overflow_add-result

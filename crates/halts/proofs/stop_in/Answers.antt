@@ -1,13 +1,10 @@
 -- `stop_in`: after i bytes it has told of the first i. Assumes nothing.
-use mathlib.Core.Path.{◌≡◌, refl, ap, ◌∙◌}
+use mathlib.Core.Path.{refl, ap, ◌∙◌}
 use mathlib.Core.Bool.{Bool, ◌||◌}
-use Prim.Native.Nat.{◌-◌}
 use native.Mathlib.Omega.{arith}
-use lib.ListN.{length, take}
 use lib.Seq.{take_all}
 use Rattle.halts.specs.Halts.{any_stop, stop_byte}
 use Rattle.halts.proofs.Smooth.{any_next}
-use borrow.Author.Rules.{rules}
 use Rattle.halts.proofs.stop_in.Goals as goal
 
 pub loop-i-init : goal.loop-i-init

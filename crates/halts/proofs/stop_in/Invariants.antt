@@ -1,12 +1,7 @@
-use mathlib.Core.Path.{◌≡◌, refl, ap, ◌∙◌}
-use mathlib.Core.Bool.{Bool, ◌||◌}
+use mathlib.Core.Path.{◌≡◌}
 use Prim.Native.Nat.{◌-◌}
-use native.Mathlib.Omega.{arith}
 use lib.ListN.{length, take}
-use lib.Seq.{take_all}
 use Rattle.halts.specs.Halts.{any_stop, stop_byte}
-use Rattle.halts.proofs.Smooth.{any_next}
-use borrow.Author.Rules.{rules}
 use Rattle.halts.proofs.stop_in.Given as goal
 
 abbrev pub invariant-loop-i : goal.invariant-loop-i

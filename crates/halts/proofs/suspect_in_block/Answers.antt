@@ -2,9 +2,8 @@
 use mathlib.Core.Path.{◌≡◌, sym, ◌∙◌}
 use mathlib.Core.Bool.{true}
 use native.Mathlib.Omega.{arith}
-use Prim.Native.Nat.{◌-◌}
 use Rattle.halts.specs.Halts.{suspect_byte}
-use Rattle.halts.proofs.Smooth.{InBlock, in_block_none, in_block_next, suspects_smooth}
+use Rattle.halts.proofs.Smooth.{in_block_none, in_block_next, suspects_smooth}
 use Rattle.halts.proofs.suspect_in_block.Goals as goal
 
 pub loop-k-init : goal.loop-k-init

@@ -1,9 +1,7 @@
-use mathlib.Core.Path.{◌≡◌, sym, ◌∙◌}
 use mathlib.Core.Bool.{true}
-use native.Mathlib.Omega.{arith}
 use Prim.Native.Nat.{◌-◌}
 use Rattle.halts.specs.Halts.{suspect_byte}
-use Rattle.halts.proofs.Smooth.{InBlock, in_block_none, in_block_next, suspects_smooth}
+use Rattle.halts.proofs.Smooth.{InBlock}
 use Rattle.halts.proofs.suspect_in_block.Given as goal
 
 abbrev pub invariant-loop-k : goal.invariant-loop-k

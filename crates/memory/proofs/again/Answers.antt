@@ -4,7 +4,6 @@ use mathlib.Core.Path.{refl}
 use Prim.Native.Nat.{◌+◌, ◌-◌}
 use native.Mathlib.Omega.{arith}
 use lib.ListN.{length, get_or}
-use borrow.Author.Rules.{rules}
 use Rattle.memory.proofs.Levels.{taken_full, taken_again}
 use Rattle.memory.proofs.Hits.{hit_tests, own_tests}
 use Rattle.memory.proofs.again.Goals as goal

@@ -7,7 +7,6 @@ use lib.ListN.{get_or}
 use borrow.Author.Tests.{eq-eqb}
 use Rattle.memory.proofs.Keeping.{plain_after}
 use Rattle.memory.proofs.Unhidden.{bare_unhidden}
-use borrow.Author.Rules.{rules}
 use Rattle.memory.proofs.is_plain.Goals as goal
 
 pub returns-then-list-le2 : goal.returns-then-list-le2

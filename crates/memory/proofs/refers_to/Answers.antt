@@ -16,7 +16,6 @@ use Rattle.table_index.specs.Index.{Ready}
 use Rattle.memory.specs.Slots.{Trusts, Indexed}
 use Rattle.memory.proofs.Keeping.{plain_after, index_lent, index_kept, index_same}
 use Rattle.memory.proofs.Hits.{refers_known, refers_trusted}
-use borrow.Author.Rules.{rules}
 use Rattle.memory.proofs.refers_to.Goals as goal
 
 -- a slot's word names a command by its offset and 1

@@ -1,8 +1,5 @@
 -- `blocks_without`: block by block, what is passed stays a run (`plain_join`).
-use Prim.Native.Nat.{◌-◌}
 use native.Mathlib.Omega.{arith}
-use lib.ListN.{length}
-use Rattle.output.specs.Runs.{Plain}
 use Rattle.output.proofs.Runs.{plain_none, plain_join}
 use Rattle.name_ends.specs.OneByte.{is_byte}
 use Rattle.name_ends.proofs.Ended.{one_byte}

@@ -1,10 +1,7 @@
 use Prim.Native.Nat.{◌-◌}
-use native.Mathlib.Omega.{arith}
 use lib.ListN.{length}
 use Rattle.output.specs.Runs.{Plain}
-use Rattle.output.proofs.Runs.{plain_none, plain_join}
 use Rattle.name_ends.specs.OneByte.{is_byte}
-use Rattle.name_ends.proofs.Ended.{one_byte}
 use Rattle.name_ends.proofs.blocks_without.Given as goal
 
 abbrev pub invariant-loop-i : goal.invariant-loop-i

@@ -1,11 +1,8 @@
 -- `far_byte`: the blocks passed are a run (`passed`), and after them `b` is looked for in the block that has it, or byte by byte (`end_after`).
-use borrow.Author.Rules.{rules}
-use native.Mathlib.Omega.{arith}
 use Rattle.output.specs.Runs.{Plain}
 use Rattle.output.proofs.Runs.{plain_join}
 use Rattle.runs.proofs.Search.{end_near, end_after}
 use Rattle.name_ends.specs.OneByte.{is_byte}
-use borrow.Author.Rules.{rules}
 use Rattle.name_ends.proofs.far_byte.Goals as goal
 use Rattle.name_ends.proofs.far_byte.Goals.{After-blocks_without-i}
 

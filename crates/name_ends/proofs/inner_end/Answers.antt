@@ -1,6 +1,5 @@
 -- `inner_end`: the `;` that is found ends the name, where there is no `&` before it (`ended_inner`); else the plain search answers.
 use Rattle.name_ends.proofs.Ended.{ended_inner}
-use borrow.Author.Rules.{rules}
 use Rattle.name_ends.proofs.inner_end.Goals as goal
 
 pub returns : goal.returns

@@ -1,5 +1,4 @@
 -- `may_have_amp`: where no test hits, the parts tested are runs, and they cover the name (`plain_join`, `plain_part`).
-use borrow.Author.Rules.{rules}
 use native.Mathlib.Omega.{arith}
 use mathlib.Core.Path.{◌≡◌, subst}
 use mathlib.Core.Bool.{true≢false}
@@ -11,7 +10,6 @@ use Rattle.output.proofs.Runs.{plain_join}
 use Rattle.runs.proofs.Search.{plain_part}
 use Rattle.name_ends.specs.OneByte.{is_byte}
 use Rattle.name_ends.proofs.Ended.{one_byte}
-use borrow.Author.Rules.{rules}
 use Rattle.name_ends.proofs.may_have_amp.Goals as goal
 
 pub returns-then-n-lt8 : goal.returns-then-n-lt8

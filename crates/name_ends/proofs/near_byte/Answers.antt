@@ -1,10 +1,9 @@
 -- `near_byte`: the first k bytes are a run (`plain_next`). A `b` ends it (`within_here`), else all are one (`within_none`).
-use Prim.Native.Nat.{◌+◌, ◌-◌, ◌≤◌}
+use Prim.Native.Nat.{◌+◌}
 use native.Mathlib.Omega.{arith}
 use mathlib.Core.Path.{◌≡◌}
 use borrow.Author.Tests.{eq-eqb, ne_eqb}
 use borrow.Author.Rules.{rules}
-use Rattle.output.specs.Runs.{Plain}
 use Rattle.output.proofs.Runs.{plain_none}
 use Rattle.name_ends.specs.OneByte.{is_byte}
 use Rattle.runs.proofs.Search.{plain_next, within_here, within_none}

@@ -1,12 +1,6 @@
 use Prim.Native.Nat.{◌+◌, ◌-◌, ◌≤◌}
-use native.Mathlib.Omega.{arith}
-use mathlib.Core.Path.{◌≡◌}
-use borrow.Author.Tests.{eq-eqb, ne_eqb}
-use borrow.Author.Rules.{rules}
 use Rattle.output.specs.Runs.{Plain}
-use Rattle.output.proofs.Runs.{plain_none}
 use Rattle.name_ends.specs.OneByte.{is_byte}
-use Rattle.runs.proofs.Search.{plain_next, within_here, within_none}
 use Rattle.name_ends.proofs.near_byte.Given as goal
 
 abbrev pub invariant-loop-k : goal.invariant-loop-k

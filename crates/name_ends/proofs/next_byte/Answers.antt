@@ -1,12 +1,9 @@
 -- `next_byte`: a rest shorter than a block byte by byte; else the first k bytes are a run (`plain_next`), which a `b` ends, or the search goes on
 -- after it (`end_after`).
-use borrow.Author.Rules.{rules}
 use native.Mathlib.Omega.{arith}
 use mathlib.Core.Path.{◌≡◌}
-use Prim.Native.Nat.{◌+◌, ◌-◌, ◌≤◌}
-use lib.ListN.{length}
+use Prim.Native.Nat.{◌+◌}
 use borrow.Author.Tests.{eq-eqb, ne_eqb}
-use Rattle.output.specs.Runs.{Plain}
 use Rattle.output.proofs.Runs.{plain_none}
 use Rattle.runs.proofs.Search.{plain_next, end_after}
 use Rattle.name_ends.specs.OneByte.{is_byte}

@@ -1,14 +1,7 @@
-use native.Mathlib.Omega.{arith}
-use mathlib.Core.Path.{◌≡◌}
 use Prim.Native.Nat.{◌+◌, ◌-◌, ◌≤◌}
 use lib.ListN.{length}
-use borrow.Author.Tests.{eq-eqb, ne_eqb}
-use borrow.Author.Rules.{rules}
 use Rattle.output.specs.Runs.{Plain}
-use Rattle.output.proofs.Runs.{plain_none}
-use Rattle.runs.proofs.Search.{plain_next, end_after}
 use Rattle.name_ends.specs.OneByte.{is_byte}
-use Rattle.name_ends.proofs.Ended.{ended_outer}
 use Rattle.name_ends.proofs.outer_end.Given as goal
 
 abbrev pub invariant-loop-k : goal.invariant-loop-k

@@ -1,11 +1,8 @@
 -- `check_entries` keeps `Checking`: an entry more at each turn, or its fault.
 use mathlib.Core.Path.{subst}
 use native.Mathlib.Omega.{arith}
-use borrow.Author.Rules.{rules}
-use Prim.Native.Nat.{◌-◌}
-use lib.ListN.{length}
 use Rattle.register.specs.Places.{Steps, GoodAt}
-use Rattle.register.proofs.Checking.{Checking, checking_none, checking_on, checking_fault, checking_all}
+use Rattle.register.proofs.Checking.{checking_none, checking_on, checking_fault, checking_all}
 use Rattle.register.proofs.check_entries.Goals as goal
 use Rattle.register.proofs.check_entries.Goals.{In-End}
 

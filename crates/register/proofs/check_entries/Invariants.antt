@@ -1,10 +1,6 @@
-use mathlib.Core.Path.{subst}
-use native.Mathlib.Omega.{arith}
-use borrow.Author.Rules.{rules}
 use Prim.Native.Nat.{◌-◌}
 use lib.ListN.{length}
-use Rattle.register.specs.Places.{Steps, GoodAt}
-use Rattle.register.proofs.Checking.{Checking, checking_none, checking_on, checking_fault, checking_all}
+use Rattle.register.proofs.Checking.{Checking}
 use Rattle.register.proofs.check_entries.Given as goal
 
 abbrev pub invariant-loop-at : goal.invariant-loop-at

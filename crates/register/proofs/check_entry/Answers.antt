@@ -1,7 +1,6 @@
 -- `check_entry`: an entry that is cut (`spoiled_cut`), has no count or is no UTF-8 is a fault; else it is good.
 use mathlib.Core.Path.{◌≡◌, sym, ap, ◌∙◌}
 use native.Mathlib.Omega.{arith}
-use borrow.Author.Rules.{rules}
 use Prim.Native.Nat.{ℕ, ◌+◌, ◌-◌}
 use mathlib.Core.List.{List}
 use lib.ListN.{take, drop}

@@ -2,27 +2,24 @@
 use mathlib.Core.Path.{◌≡◌, sym, ◌∙◌}
 use native.Mathlib.Omega.{arith}
 use Prim.Native.Nat.{◌+◌, ◌-◌}
-use lib.ListN.{length, take, drop}
-use Rattle.register.specs.Places.{Filled, entries_in}
-use Rattle.register.proofs.Boundaries.{Turn, turn, turn_whole, Passed, passed_none, passed_on, passed_found, passed_all, part_form}
+use lib.ListN.{take, drop}
+use Rattle.register.proofs.Boundaries.{Turn, turn, turn_whole, passed_none, passed_on, passed_found, passed_all, part_form}
 use Rattle.register.proofs.find.Goals as goal
-use Rattle.register.proofs.find.Goals.{After-end_at-end, At-loop-at, In-loop-at}
+use Rattle.register.proofs.find.Goals.{After-end_at-end, In-loop-at}
 
-abbrev filled : (c : At-loop-at) → Filled c.args.register.now
-filled c = c.requires
-
-one : (c : In-loop-at) → Turn (c.requires) c.loop-at.invariant.place
-one c = turn (c.requires) c.loop-at.invariant.place c.loop-at-test.true
+-- the entry at a turn of the loop
+abbrev one : (c : In-loop-at) → Turn c.requires c.loop-at.invariant.place
+one c = turn c.requires c.loop-at.invariant.place c.loop-at-test.true
 
 -- what was compared is the entry's form
-part : (c : After-end_at-end) → take (c.end_at-end.result - (c.loop-at.at + 8)) (drop (c.loop-at.at + 8) c.args.register.now) ≡ (turn (c.requires) c.loop-at.invariant.place c.loop-at-test.true).one.form
-part c = part_form (c.requires) c.loop-at.invariant (turn (c.requires) c.loop-at.invariant.place c.loop-at-test.true) c.end_at-end.ensures
+part : (c : After-end_at-end) → take (c.end_at-end.result - (c.loop-at.at + 8)) (drop (c.loop-at.at + 8) c.args.register.now) ≡ (turn c.requires c.loop-at.invariant.place c.loop-at-test.true).one.form
+part c = part_form c.requires c.loop-at.invariant (turn c.requires c.loop-at.invariant.place c.loop-at-test.true) c.end_at-end.ensures
 
 pub loop-at-init : goal.loop-at-init
 loop-at-init c = passed_none _ _
 
 pub end_at-end-requires : goal.end_at-end-requires
-end_at-end-requires c = turn_whole (filled (goal.at.end_at-end-requires c).At-loop-at) c.loop-at.invariant.place (one c)
+end_at-end-requires c = turn_whole c.requires c.loop-at.invariant.place (one c)
 
 pub overflow_add-at : goal.overflow_add-at
 overflow_add-at c = let t = one (goal.at.overflow_add-at c).In-loop-at in omega (arith, t.fits)
@@ -41,14 +38,14 @@ same-requires c = tt
 
 pub returns-then-same : goal.returns-then-same
 returns-then-same c =
-    passed_found (filled (goal.at.returns-then-same c).At-loop-at) c.loop-at.invariant (one (goal.at.returns-then-same c).In-loop-at) (part (goal.at.returns-then-same c).After-end_at-end) (sym c.if-same.true ∙ c.same.ensures)
+    passed_found c.requires c.loop-at.invariant (one (goal.at.returns-then-same c).In-loop-at) (part (goal.at.returns-then-same c).After-end_at-end) (sym c.if-same.true ∙ c.same.ensures)
 
 pub loop-at-smaller : goal.loop-at-smaller
 loop-at-smaller c = let t = one (goal.at.loop-at-smaller c).In-loop-at in omega (arith, c.end_at-end.ensures, t.size, t.fits)
 
 pub loop-at-preserved : goal.loop-at-preserved
 loop-at-preserved c =
-    passed_on (filled (goal.at.loop-at-preserved c).At-loop-at) c.loop-at.invariant (one (goal.at.loop-at-preserved c).In-loop-at) c.end_at-end.ensures (part (goal.at.loop-at-preserved c).After-end_at-end) (sym c.if-same.false ∙ c.same.ensures)
+    passed_on c.requires c.loop-at.invariant (one (goal.at.loop-at-preserved c).In-loop-at) c.end_at-end.ensures (part (goal.at.loop-at-preserved c).After-end_at-end) (sym c.if-same.false ∙ c.same.ensures)
 
 pub returns : goal.returns
-returns c = passed_all (filled (goal.at.returns c).At-loop-at) c.loop-at.invariant (omega arith)
+returns c = passed_all c.requires c.loop-at.invariant (omega arith)

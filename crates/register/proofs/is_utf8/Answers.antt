@@ -1,5 +1,4 @@
 -- `is_utf8`: the test of the end is the test of the text (`utf8_tested`).
-use borrow.Author.Rules.{rules}
 use Rattle.register.proofs.Comparing.{utf8_tested}
 use Rattle.register.proofs.is_utf8.Goals as goal
 

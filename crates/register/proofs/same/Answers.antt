@@ -1,5 +1,4 @@
 -- `same`: other lengths are other forms; else the bytes decide.
-use borrow.Author.Rules.{rules}
 use Rattle.register.proofs.Comparing.{differ_length}
 use Rattle.register.proofs.same.Goals as goal
 

@@ -4,13 +4,13 @@ use native.Mathlib.Omega.{arith}
 use Prim.Native.Nat.{◌-◌}
 use lib.Dec.{eqb}
 use lib.ListN.{length}
-use Rattle.register.specs.Places.{Small, Alike}
+use Rattle.register.specs.Places.{Small}
 use Rattle.register.proofs.Comparing.{differ_word, alike_none, alike_word, last_word}
 use Rattle.register.proofs.same_long.Goals as goal
 use Rattle.register.proofs.same_long.Goals.{At-loop-i}
 
-small-a : (c : At-loop-i) → Small c.args.a.now
-small-a c k = omega (arith, c.type_inv.a k)
+small_a : (c : At-loop-i) → Small c.args.a.now
+small_a c k = omega (arith, c.type_inv.a k)
 
 small_b : (c : At-loop-i) → Small c.args.b.now
 small_b c k = omega (arith, c.type_inv.b k)
@@ -40,7 +40,7 @@ loop-i-smaller c = omega (arith, c.requires)
 
 pub loop-i-preserved : goal.loop-i-preserved
 loop-i-preserved c =
-    alike_word c.args.a.now c.args.b.now (small-a (goal.at.loop-i-preserved c).At-loop-i) (small_b (goal.at.loop-i-preserved c).At-loop-i) c.loop-i.i c.loop-i.i c.loop-i.invariant (omega arith)
+    alike_word c.args.a.now c.args.b.now (small_a (goal.at.loop-i-preserved c).At-loop-i) (small_b (goal.at.loop-i-preserved c).At-loop-i) c.loop-i.i c.loop-i.i c.loop-i.invariant (omega arith)
     (sym c.word.ensures ∙ c.if-word.false ∙ c.word-in-loop-i.ensures)
 
 pub word-requires-2 : goal.word-requires-2
@@ -54,5 +54,5 @@ returns c =
     let a = c.args.a.now in
     let b = c.args.b.now in
     ap₂ eqb c.word-2.ensures c.word-3.ensures
-    ∙ last_word a b (small-a (goal.at.returns c).At-loop-i) (small_b (goal.at.returns c).At-loop-i) c.loop-i.i (length a - 8) c.requires.0 c.loop-i.invariant c.loop-i-test.false
+    ∙ last_word a b (small_a (goal.at.returns c).At-loop-i) (small_b (goal.at.returns c).At-loop-i) c.loop-i.i (length a - 8) c.requires.0 c.loop-i.invariant c.loop-i-test.false
     (omega (arith, c.requires))

@@ -1,10 +1,6 @@
-use mathlib.Core.Path.{sym, ap₂, ◌∙◌}
-use native.Mathlib.Omega.{arith}
 use Prim.Native.Nat.{◌-◌}
-use lib.Dec.{eqb}
 use lib.ListN.{length}
-use Rattle.register.specs.Places.{Small, Alike}
-use Rattle.register.proofs.Comparing.{differ_word, alike_none, alike_word, last_word}
+use Rattle.register.specs.Places.{Alike}
 use Rattle.register.proofs.same_long.Given as goal
 
 abbrev pub invariant-loop-i : goal.invariant-loop-i

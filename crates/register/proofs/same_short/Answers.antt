@@ -1,8 +1,5 @@
 -- `same_short` keeps `Alike`, a byte further at each turn.
 use native.Mathlib.Omega.{arith}
-use Prim.Native.Nat.{◌-◌}
-use lib.ListN.{length}
-use Rattle.register.specs.Places.{Alike}
 use Rattle.register.proofs.Comparing.{differ_at, alike_none, alike_more, alike_all}
 use Rattle.register.proofs.same_short.Goals as goal
 

@@ -1,8 +1,6 @@
-use native.Mathlib.Omega.{arith}
 use Prim.Native.Nat.{◌-◌}
 use lib.ListN.{length}
 use Rattle.register.specs.Places.{Alike}
-use Rattle.register.proofs.Comparing.{differ_at, alike_none, alike_more, alike_all}
 use Rattle.register.proofs.same_short.Given as goal
 
 abbrev pub invariant-loop-i : goal.invariant-loop-i

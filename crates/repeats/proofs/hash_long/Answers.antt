@@ -1,5 +1,5 @@
 -- `hash_long` keeps: the hash so far, mixed with the words to come, is the hash of all of them.
-use Rattle.std.proofs.Common.{◌≡◌, ℕ, ◌+◌, ◌-◌, length, sym, refl, ap, ◌∙◌, ap₂, arith}
+use Rattle.std.proofs.Common.{ℕ, ◌+◌, ◌-◌, length, sym, refl, ap, ◌∙◌, ap₂, arith}
 use Rattle.repeats.specs.Hash.{mix, mixed, last_word, hash_long}
 use Rattle.repeats.proofs.Hashing.{words, mixed_on, mixed_all, mixed_start}
 use Rattle.repeats.proofs.hash_long.Goals as goal

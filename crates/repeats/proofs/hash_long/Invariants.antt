@@ -1,6 +1,6 @@
-use Rattle.std.proofs.Common.{◌≡◌, ℕ, ◌+◌, ◌-◌, length, sym, refl, ap, ◌∙◌, ap₂, arith}
-use Rattle.repeats.specs.Hash.{mix, mixed, last_word, hash_long}
-use Rattle.repeats.proofs.Hashing.{words, mixed_on, mixed_all, mixed_start}
+use Rattle.std.proofs.Common.{◌≡◌, ◌-◌, length}
+use Rattle.repeats.specs.Hash.{mixed}
+use Rattle.repeats.proofs.Hashing.{words}
 use Rattle.repeats.proofs.hash_long.Given as goal
 
 abbrev pub invariant-loop-i : goal.invariant-loop-i

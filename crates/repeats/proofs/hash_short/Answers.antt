@@ -1,5 +1,5 @@
 -- `hash_short` keeps: the word so far, joined with the bytes to come, is the word of all.
-use Rattle.std.proofs.Common.{◌≡◌, ℕ, ◌+◌, ◌-◌, ◌*◌, ◌%◌, length, drop, sym, refl, ap, ◌∙◌, arith}
+use Rattle.std.proofs.Common.{◌≡◌, ℕ, ◌+◌, ◌*◌, ◌%◌, length, drop, sym, refl, ap, ◌∙◌, arith}
 use Rattle.repeats.specs.Hash.{mix, joined, last_word, hash_short}
 use Rattle.repeats.proofs.Hashing.{joined_on, joined_all}
 use Rattle.repeats.proofs.hash_short.Goals as goal

@@ -1,6 +1,5 @@
-use Rattle.std.proofs.Common.{◌≡◌, ℕ, ◌+◌, ◌-◌, ◌*◌, ◌%◌, length, drop, sym, refl, ap, ◌∙◌, arith}
-use Rattle.repeats.specs.Hash.{mix, joined, last_word, hash_short}
-use Rattle.repeats.proofs.Hashing.{joined_on, joined_all}
+use Rattle.std.proofs.Common.{◌≡◌, ◌-◌, length, drop}
+use Rattle.repeats.specs.Hash.{joined}
 use Rattle.repeats.proofs.hash_short.Given as goal
 
 abbrev pub invariant-loop-i : goal.invariant-loop-i

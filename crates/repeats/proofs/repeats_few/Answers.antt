@@ -1,10 +1,10 @@
 -- `repeats_few` keeps `Looking` over all forms: none stands before its entry.
-use Rattle.std.proofs.Common.{◌-◌, not, length, sym, ap, ◌∙◌, arith}
+use Rattle.std.proofs.Common.{not, sym, ap, ◌∙◌, arith}
 use borrow.Author.Tests.{not-true, not-false}
 use Rattle.register.specs.Places.{Filled, entries_in}
 use Rattle.register.proofs.Boundaries.{Turn, turn, turn_whole, front_filled}
-use Rattle.repeats.proofs.Clearing.{any_form, clear_distinct}
-use Rattle.repeats.proofs.Sifting.{Looking, looking_none, looking_on, looking_all, looking_repeats, absent_is}
+use Rattle.repeats.proofs.Clearing.{clear_distinct}
+use Rattle.repeats.proofs.Sifting.{looking_none, looking_on, looking_all, looking_repeats, absent_is}
 use Rattle.repeats.proofs.repeats_few.Goals as goal
 use Rattle.repeats.proofs.repeats_few.Goals.{At-loop-at, In-loop-at}
 

@@ -1,9 +1,7 @@
-use Rattle.std.proofs.Common.{◌-◌, not, length, sym, ap, ◌∙◌, arith}
-use borrow.Author.Tests.{not-true, not-false}
-use Rattle.register.specs.Places.{Filled, entries_in}
-use Rattle.register.proofs.Boundaries.{Turn, turn, turn_whole, front_filled}
-use Rattle.repeats.proofs.Clearing.{any_form, clear_distinct}
-use Rattle.repeats.proofs.Sifting.{Looking, looking_none, looking_on, looking_all, looking_repeats, absent_is}
+use Rattle.std.proofs.Common.{◌-◌, length}
+use Rattle.register.specs.Places.{entries_in}
+use Rattle.repeats.proofs.Clearing.{any_form}
+use Rattle.repeats.proofs.Sifting.{Looking}
 use Rattle.repeats.proofs.repeats_few.Given as goal
 
 abbrev pub invariant-loop-at : goal.invariant-loop-at

@@ -1,10 +1,10 @@
 -- `repeats_in_class` keeps `Sifting`: the table has every form of the class before, and none of these stands before its entry.
-use Rattle.std.proofs.Common.{◌≡◌, ◌-◌, length, refl, ◌∙◌, subst, arith}
+use Rattle.std.proofs.Common.{refl, ◌∙◌, subst, arith}
 use Rattle.text.proofs.Bytes.{contrary}
-use Rattle.register.specs.Places.{Filled, entries_in}
+use Rattle.register.specs.Places.{Filled}
 use Rattle.register.proofs.Boundaries.{Turn, turn, turn_whole, front_filled}
 use Rattle.repeats.specs.Filter.{Sifted}
-use Rattle.repeats.proofs.Sifting.{Sifting, sifting_none, sifting_on, looking_all, looking_repeats}
+use Rattle.repeats.proofs.Sifting.{sifting_none, sifting_on, looking_all, looking_repeats}
 use Rattle.repeats.proofs.repeats_in_class.Goals as goal
 use Rattle.repeats.proofs.repeats_in_class.Goals.{At-loop-at, In-loop-at}
 

@@ -1,5 +1,5 @@
 -- `repeats_many` keeps: no form of a class below this one stands before its entry.
-use Rattle.std.proofs.Common.{ℕ, ◌-◌, ◌<◌, not, [], sym, ap, arith, below_more}
+use Rattle.std.proofs.Common.{not, [], sym, ap, arith, below_more}
 use Rattle.register.specs.Places.{entries_in}
 use Rattle.repeats.specs.Hash.{in_class}
 use Rattle.repeats.specs.Filter.{Clear}

@@ -1,8 +1,7 @@
-use Rattle.std.proofs.Common.{ℕ, ◌-◌, ◌<◌, not, [], sym, ap, arith, below_more}
+use Rattle.std.proofs.Common.{ℕ, ◌-◌, ◌<◌, []}
 use Rattle.register.specs.Places.{entries_in}
 use Rattle.repeats.specs.Hash.{in_class}
 use Rattle.repeats.specs.Filter.{Clear}
-use Rattle.repeats.proofs.Clearing.{clear_classes}
 use Rattle.repeats.proofs.repeats_many.Given as goal
 
 abbrev pub invariant-loop-class : goal.invariant-loop-class

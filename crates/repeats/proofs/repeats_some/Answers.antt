@@ -1,5 +1,4 @@
 -- `repeats_some`: one class has every form (`passes_one`).
-use Rattle.std.proofs.Common.{rules}
 use Rattle.repeats.proofs.Clearing.{passes_one}
 use Rattle.repeats.proofs.repeats_some.Goals as goal
 

@@ -1,7 +1,7 @@
 -- `seen` keeps `Scanned`: no place passed is free or holds the fingerprint. The table changes only where it returns.
-use Rattle.std.proofs.Common.{◌≡◌, ℕ, ◌+◌, ◌-◌, true, false, List, length, get_or, set, sym, refl, ap, ◌∙◌, subst, arith, length-set}
+use Rattle.std.proofs.Common.{◌≡◌, ℕ, true, false, List, length, get_or, set, sym, refl, ap, ◌∙◌, subst, arith, length-set}
 use Rattle.repeats.specs.Filter.{Seen}
-use Rattle.repeats.proofs.Filtering.{Scanned, scanned_none, scanned_on, scanned_there, scanned_full, scanned_free}
+use Rattle.repeats.proofs.Filtering.{scanned_none, scanned_on, scanned_there, scanned_full, scanned_free}
 use Rattle.repeats.proofs.seen.Goals as goal
 use Rattle.repeats.proofs.seen.Goals.{At-loop-k}
 

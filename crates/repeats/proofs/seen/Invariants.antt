@@ -1,6 +1,5 @@
-use Rattle.std.proofs.Common.{◌≡◌, ℕ, ◌+◌, ◌-◌, true, false, List, length, get_or, set, sym, refl, ap, ◌∙◌, subst, arith, length-set}
-use Rattle.repeats.specs.Filter.{Seen}
-use Rattle.repeats.proofs.Filtering.{Scanned, scanned_none, scanned_on, scanned_there, scanned_full, scanned_free}
+use Rattle.std.proofs.Common.{◌≡◌, ◌+◌, ◌-◌}
+use Rattle.repeats.proofs.Filtering.{Scanned}
 use Rattle.repeats.proofs.seen.Given as goal
 
 abbrev pub invariant-loop-k : goal.invariant-loop-k

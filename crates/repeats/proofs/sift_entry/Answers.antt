@@ -1,5 +1,5 @@
 -- `sift_entry`: the form is of another class, or the table tells whether it may stand before; the bytes before tell the rest.
-use Rattle.std.proofs.Common.{◌≡◌, ℕ, ◌+◌, ◌-◌, take, drop, ap, ◌∙◌, subst, arith, rules}
+use Rattle.std.proofs.Common.{◌≡◌, ℕ, ◌+◌, ◌-◌, take, drop, ap, ◌∙◌, subst, arith}
 use Rattle.register.specs.Stored.{u32_at}
 use Rattle.repeats.specs.Hash.{hash_of}
 use Rattle.repeats.specs.Filter.{form_at, Suspected}

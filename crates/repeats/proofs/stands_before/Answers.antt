@@ -1,5 +1,5 @@
 -- `stands_before`: the bytes before the entry are looked through for its form.
-use Rattle.std.proofs.Common.{◌≡◌, ℕ, ◌+◌, ◌-◌, List, take, drop, sym, subst, arith, length-take-le, rules}
+use Rattle.std.proofs.Common.{◌≡◌, ℕ, ◌+◌, ◌-◌, List, take, drop, sym, subst, arith, length-take-le}
 use Rattle.register.specs.Stored.{u32_at}
 use Rattle.register.specs.Places.{entries_in, Finds}
 use Rattle.repeats.specs.Filter.{form_at}

@@ -1,5 +1,5 @@
 -- `suspect`: the place and the fingerprint are parts of the hash (`suspected`).
-use Rattle.std.proofs.Common.{refl, arith, rules}
+use Rattle.std.proofs.Common.{refl, arith}
 use Rattle.repeats.proofs.Filtering.{suspected}
 use Rattle.repeats.proofs.suspect.Goals as goal
 

@@ -2,9 +2,6 @@
 use mathlib.Core.Path.{refl}
 use native.Mathlib.Omega.{arith}
 use Rattle.table_declarations.proofs.Definitions.{beyond_open, beyond_other}
-use borrow.Author.Rules.{rules}
-use Rattle.table_declarations.proofs.beyond.Reads as reads
-use Rattle.table_declarations.proofs.beyond.Lts as lts
 use Rattle.table_declarations.proofs.beyond.Goals as goal
 
 pub returns-then-text-i-eq60 : goal.returns-then-text-i-eq60

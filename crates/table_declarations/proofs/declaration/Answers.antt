@@ -2,18 +2,11 @@
 use Rattle.table_values.proofs.EntityValues.{meets_told, stopped_length}
 use Rattle.table_values.proofs.StepKinds.{stops_by}
 use Rattle.table_declarations.proofs.Definitions.{entity_unopened, entity_unnamed, entity_undefined, entity_declared}
-use borrow.Author.Rules.{rules}
-use Rattle.table_declarations.proofs.declaration.Reads as reads
-use Rattle.table_declarations.proofs.declaration.Lts as lts
-use Rattle.table_declarations.proofs.definition_step.Reads as definition-step-reads
-use Rattle.table_declarations.proofs.name_step.Reads as name-step-reads
-use Rattle.table_declarations.proofs.opening_step.Reads as opening-step-reads
-use Rattle.output.proofs.least.Reads as least-reads
 use Rattle.table_declarations.proofs.declaration.Goals as goal
 
 pub returns-in_default : goal.returns-in_default
 returns-in_default c =
-    entity_unopened c.args.newer c.args.text.now c.args.i c.args.out.now c.opening_step-start.result (stops_by c.opening_step-start.result c.in-Next.in-Next-own.keys2) (c.opening_step-start.ensures c.args.out.now)
+    entity_unopened c.args.newer c.args.text.now c.args.i c.args.out.now c.opening_step-start.result (stops_by c.opening_step-start.result c.in_default.not-Next) (c.opening_step-start.ensures c.args.out.now)
 
 pub name_step-name-requires : goal.name_step-name-requires
 name_step-name-requires c =
@@ -21,7 +14,7 @@ name_step-name-requires c =
 
 pub returns-in_default-name : goal.returns-in_default-name
 returns-in_default-name c =
-    let k = stops_by c.name_step-name.result c.in-Next-name.in-Next-name-own.keys2 in
+    let k = stops_by c.name_step-name.result c.in_default-name.not-Next in
     entity_unnamed c.args.newer c.args.text.now c.args.i c.args.out.now
     (meets_told c.in-Next.is (c.opening_step-start.ensures c.args.out.now)) c.name_step-name.result k c.name_step-name.ensures
     (stopped_length c.name_step-name.result k c.name_step-name.ensures)
@@ -32,7 +25,7 @@ definition_step-value-requires c =
 
 pub returns-in_default-value : goal.returns-in_default-value
 returns-in_default-value c =
-    let k = stops_by c.definition_step-value.result c.in-Next-value.in-Next-value-own.keys2 in
+    let k = stops_by c.definition_step-value.result c.in_default-value.not-Next in
     entity_undefined c.args.newer c.args.text.now c.args.i c.args.out.now
     (meets_told c.in-Next.is (c.opening_step-start.ensures c.args.out.now))
     (meets_told c.in-Next-name.is c.name_step-name.ensures) c.least-room.ensures c.definition_step-value.result k c.definition_step-value.ensures

@@ -2,16 +2,9 @@
 use mathlib.Core.Path.{sym, ◌∙◌}
 use native.Mathlib.Omega.{arith}
 use lib.ListN.{get_or}
-use borrow.Author.Tests.{not-true, not-false}
 use Rattle.table_values.proofs.EntityValues.{meets_told, stopped_length}
 use Rattle.table_values.proofs.StepKinds.{stops_by}
 use Rattle.table_declarations.proofs.Definitions.{quote_ascii, definition_over, definition_bare, definition_stopped, definition_unclosed, definition_closed}
-use borrow.Author.Rules.{rules}
-use Rattle.table_declarations.proofs.definition_step.Reads as reads
-use Rattle.table_declarations.proofs.definition_step.Lts as lts
-use Rattle.table_values.proofs.space.space_end.Reads as space-end-reads
-use Rattle.table_values.proofs.value_step.Reads as value-step-reads
-use Rattle.text.proofs.pattern.byte_at.Reads as byte-at-reads
 use Rattle.table_declarations.proofs.definition_step.Goals as goal
 
 pub returns-then-from-text : goal.returns-then-from-text
@@ -27,7 +20,7 @@ value_step-value-requires c =
 
 pub returns-in_default : goal.returns-in_default
 returns-in_default c =
-    let k = stops_by c.value_step-value.result c.in-Next.in-Next-own.keys2 in
+    let k = stops_by c.value_step-value.result c.in_default.not-Next in
     definition_stopped c.args.newer c.args.text.now c.args.from c.args.out.now (omega (arith, c.requires.0, c.if-from-text.false))
     c.if-quote.false c.value_step-value.result k c.value_step-value.ensures (stopped_length c.value_step-value.result k c.value_step-value.ensures)
 
@@ -38,10 +31,10 @@ pub returns-then-not-byte_at : goal.returns-then-not-byte_at
 returns-then-not-byte_at c =
     definition_unclosed c.args.newer c.args.text.now c.args.from c.args.out.now (omega (arith, c.requires.0, c.if-from-text.false))
     c.if-quote.false (meets_told c.in-Next.is c.value_step-value.ensures) c.space_end-end.ensures
-    (sym c.byte_at.ensures ∙ not-true c.byte_at.result c.if-not-byte_at.true)
+    (sym c.byte_at.ensures ∙ c.if-not-byte_at.true)
 
 pub returns : goal.returns
 returns c =
     definition_closed c.args.newer c.args.text.now c.args.from c.args.out.now (omega (arith, c.requires.0, c.if-from-text.false))
     c.if-quote.false (meets_told c.in-Next.is c.value_step-value.ensures) c.space_end-end.ensures
-    (sym c.byte_at.ensures ∙ not-false c.byte_at.result c.if-not-byte_at.false)
+    (sym c.byte_at.ensures ∙ c.if-not-byte_at.false)

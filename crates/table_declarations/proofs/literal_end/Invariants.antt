@@ -1,10 +1,6 @@
-use mathlib.Core.Path.{sym, ◌∙◌}
 use Prim.Native.Nat.{◌-◌}
-use native.Mathlib.Omega.{arith}
 use lib.ListN.{length}
-use borrow.Author.Tests.{not-true, not-false}
-use Rattle.table_declarations.proofs.Keyword.{Matching, matching_start, matching_more, matching_cut, matching_whole}
-use borrow.Author.Rules.{rules}
+use Rattle.table_declarations.proofs.Keyword.{Matching}
 use Rattle.table_declarations.proofs.literal_end.Given as goal
 
 abbrev pub invariant-loop-k : goal.invariant-loop-k

@@ -2,12 +2,6 @@
 use native.Mathlib.Omega.{arith}
 use Rattle.table_names.proofs.NamesPast.{name_past}
 use Rattle.table_declarations.proofs.DeclaredNames.{declared_none, declared_bare, declared_long, declared_done}
-use borrow.Author.Rules.{rules}
-use Rattle.table_declarations.proofs.name_step.Reads as reads
-use Rattle.table_declarations.proofs.name_step.Lts as lts
-use Rattle.table_names.proofs.name_end.Reads as name-end-reads
-use Rattle.table_values.proofs.space.space_end.Reads as space-end-reads
-use Rattle.output.proofs.put_over.Reads as put-over-reads
 use Rattle.table_declarations.proofs.name_step.Goals as goal
 
 pub returns-then-end-from : goal.returns-then-end-from

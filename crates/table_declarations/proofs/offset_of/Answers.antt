@@ -1,10 +1,6 @@
 -- `offset_of` takes what is left from the place on off the whole, both counted after line ends.
 use native.Mathlib.Omega.{arith}
 use Rattle.table_declarations.proofs.Offsets.{whole_counts, rest_counts}
-use borrow.Author.Rules.{rules}
-use Rattle.table_declarations.proofs.offset_of.Reads as reads
-use Rattle.table_declarations.proofs.offset_of.Lts as lts
-use Rattle.eols.proofs.eols_length.Reads as eols-length-reads
 use Rattle.table_declarations.proofs.offset_of.Goals as goal
 
 pub returns-then-whole-rest : goal.returns-then-whole-rest

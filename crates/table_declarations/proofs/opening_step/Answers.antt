@@ -3,11 +3,6 @@ use mathlib.Core.Path.{refl}
 use mathlib.Core.List.{[]}
 use native.Mathlib.Omega.{arith}
 use Rattle.table_declarations.proofs.Keyword.{opening_cut, opening_space, opening_done}
-use borrow.Author.Rules.{rules}
-use Rattle.table_declarations.proofs.opening_step.Reads as reads
-use Rattle.table_declarations.proofs.opening_step.Lts as lts
-use Rattle.table_declarations.proofs.literal_end.Reads as literal-end-reads
-use Rattle.table_values.proofs.space.space_end.Reads as space-end-reads
 use Rattle.table_declarations.proofs.opening_step.Goals as goal
 
 pub returns-then-key-i : goal.returns-then-key-i

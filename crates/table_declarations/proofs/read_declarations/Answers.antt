@@ -6,12 +6,6 @@ use Rattle.eols.proofs.LineEnds.{version_rule}
 use Rattle.table_declarations.proofs.Outcomes.{nothing_before, all_told, broken_inside, answer_short, answer_ready, answer_done, answer_broken}
 use Rattle.table_grammar.specs.TableWritten.{read_declarations}
 use Rattle.text.specs.Version.{rule_of}
-use borrow.Author.Rules.{rules}
-use Rattle.table_declarations.proofs.read_declarations.Reads as reads
-use Rattle.table_declarations.proofs.read_declarations.Lts as lts
-use Rattle.table_declarations.proofs.read_all.Reads as read-all-reads
-use Rattle.table_declarations.proofs.step_answer.Reads as step-answer-reads
-use Rattle.table_declarations.proofs.write_all.Reads as write-all-reads
 use Rattle.table_declarations.proofs.read_declarations.Goals as goal
 
 pub overflow_mul-length : goal.overflow_mul-length

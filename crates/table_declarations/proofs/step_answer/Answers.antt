@@ -5,10 +5,6 @@ use Prim.Native.Nat.{ℕ}
 use Rattle.table_declarations.specs.DeclarationSteps.{Inside}
 use Rattle.table_values.specs.declared.Step.{Step}
 use Rattle.table_declarations.proofs.Offsets.{answer_next, answer_misplaced, answer_excessive, answer_refused}
-use borrow.Author.Rules.{rules}
-use Rattle.table_declarations.proofs.step_answer.Reads as reads
-use Rattle.table_declarations.proofs.step_answer.Lts as lts
-use Rattle.table_declarations.proofs.refused.Reads as refused-reads
 use Rattle.table_declarations.proofs.step_answer.Goals as goal
 
 inside_of : (t : List ℕ) {r s : Step} → r ≡ s → Inside t r → Inside t s

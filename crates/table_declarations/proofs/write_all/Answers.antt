@@ -1,17 +1,13 @@
 -- `write_all`: what was read once is read again (`written_again`), and the mark and the end stand around the commands (`list_whole`).
 use mathlib.Core.Path.{◌≡◌, sym, ap, ◌∙◌, subst}
 use mathlib.Core.List.{List}
-use Prim.Native.Nat.{◌-◌, ◌≤◌}
+use Prim.Native.Nat.{◌≤◌}
 use native.Mathlib.Omega.{arith}
 use lib.ListN.{length}
 use Rattle.table_grammar.specs.EntityDecl.{Entity}
 use Rattle.table_grammar.specs.TableWritten.{list_of, pool_of}
 use Rattle.table_grammar.proofs.ValidTables.{list_length_lem}
 use Rattle.table_declarations.proofs.Outcomes.{written_again, found_same, list_whole, pool_whole, put_inside, set_inside}
-use borrow.Author.Rules.{rules}
-use Rattle.table_declarations.proofs.write_all.Reads as reads
-use Rattle.table_declarations.proofs.write_all.Lts as lts
-use Rattle.table_declarations.proofs.read_all.Reads as read-all-reads
 use Rattle.table_declarations.proofs.write_all.Goals as goal
 
 pub slice_bounds-read_all-count : goal.slice_bounds-read_all-count

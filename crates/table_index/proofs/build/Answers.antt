@@ -1,11 +1,12 @@
 -- `build` keeps `Building`: each command is inserted (`building_more`). At the list's end the index is whole (`building_over`); it is given up
 -- where too many slots were wanted in vain (`building_vain`). Which state is written is asked of `omega`, so that another is refused as a number.
-use Rattle.std.proofs.Common.{◌≡◌, ◌+◌, ◌-◌, ◌/◌, ◌≤◌, [], length, get_or, refl, ◌∙◌, ⊎_elim, arith, length-set}
+use Rattle.std.proofs.Common.{◌+◌, ◌-◌, ◌/◌, ◌≤◌, [], length, get_or, refl, ◌∙◌, arith, length-set}
 use Rattle.entity.proofs.Commands.{size_some}
-use Rattle.table_index.specs.Index.{home_of, slot_of, Building}
+use Rattle.table_index.specs.Index.{home_of, slot_of}
 use Rattle.table_index.proofs.Filing.{index_none}
 use Rattle.table_index.proofs.BuildingPlaces.{building_inside, building_short, building_declared, building_more, building_over, building_vain, inserted_size}
 use Rattle.table_index.proofs.build.Goals as goal
+use Rattle.table_index.proofs.build.Goals.{then-not-insert+else-most-vain, else-not-insert}
 
 pub overflow_sub-most : goal.overflow_sub-most
 overflow_sub-most c = omega (arith, c.requires.sized.0.least)
@@ -62,7 +63,7 @@ loop-at-preserved c =
     let kept = c.loop-at.invariant in
     let more = building_more _ _ kept.0 c.loop-at-test.true c.insert.ensures c.command_size-at.ensures.0 refl in
     let few : c.if-not-insert.vain ≤ (length c.args.index.now - 1) / 4 =
-    ⊎_elim (λ w. omega (arith, w.1.left, w.2)) (λ w. omega (arith, w.1, kept.2)) c.if-not-insert.branch in
+    elim c.if-not-insert.branch [ then-not-insert+else-most-vain w ↦ omega arith | else-not-insert w ↦ omega arith ] in
     (more, c.insert.ensures.size ∙ kept.1, few)
 
 pub bounds-index-0-2 : goal.bounds-index-0-2

@@ -1,8 +1,5 @@
-use Rattle.std.proofs.Common.{◌≡◌, ◌+◌, ◌-◌, ◌/◌, ◌≤◌, [], length, get_or, refl, ◌∙◌, ⊎_elim, arith, length-set}
-use Rattle.entity.proofs.Commands.{size_some}
-use Rattle.table_index.specs.Index.{home_of, slot_of, Building}
-use Rattle.table_index.proofs.Filing.{index_none}
-use Rattle.table_index.proofs.BuildingPlaces.{building_inside, building_short, building_declared, building_more, building_over, building_vain, inserted_size}
+use Rattle.std.proofs.Common.{◌≡◌, ◌-◌, ◌≤◌, length}
+use Rattle.table_index.specs.Index.{Building}
 use Rattle.table_index.proofs.build.Given as goal
 
 abbrev pub invariant-loop-at : goal.invariant-loop-at

@@ -1,5 +1,5 @@
 -- `differ_16` keeps `Differing`, a byte further at each turn.
-use Rattle.std.proofs.Common.{◌≡◌, ℕ, ◌-◌, ◌≤◌, subst, arith}
+use Rattle.std.proofs.Common.{◌≡◌, ℕ, subst, arith}
 use Rattle.table_index.proofs.NameBlocks.{Differing, differing_none, differing_more}
 use Rattle.table_index.proofs.differ_16.Goals as goal
 

@@ -1,5 +1,5 @@
-use Rattle.std.proofs.Common.{◌≡◌, ℕ, ◌-◌, ◌≤◌, subst, arith}
-use Rattle.table_index.proofs.NameBlocks.{Differing, differing_none, differing_more}
+use Rattle.std.proofs.Common.{◌-◌, ◌≤◌}
+use Rattle.table_index.proofs.NameBlocks.{Differing}
 use Rattle.table_index.proofs.differ_16.Given as goal
 
 abbrev pub invariant-loop-k : goal.invariant-loop-k

@@ -1,6 +1,6 @@
 -- `empty_slot` keeps that the slots before it are taken.
-use Rattle.std.proofs.Common.{ℕ, ◌+◌, ◌-◌, ◌≢◌, sym, ◌∙◌, arith, below_more}
-use Rattle.table_index.specs.Index.{slot_of, Emptying}
+use Rattle.std.proofs.Common.{ℕ, ◌+◌, ◌≢◌, sym, ◌∙◌, arith, below_more}
+use Rattle.table_index.specs.Index.{slot_of}
 use Rattle.table_index.proofs.empty_slot.Goals as goal
 
 pub loop-k-init : goal.loop-k-init

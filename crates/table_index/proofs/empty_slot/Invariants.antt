@@ -1,5 +1,5 @@
-use Rattle.std.proofs.Common.{ℕ, ◌+◌, ◌-◌, ◌≢◌, sym, ◌∙◌, arith, below_more}
-use Rattle.table_index.specs.Index.{slot_of, Emptying}
+use Rattle.std.proofs.Common.{◌-◌}
+use Rattle.table_index.specs.Index.{Emptying}
 use Rattle.table_index.proofs.empty_slot.Given as goal
 
 abbrev pub invariant-loop-k : goal.invariant-loop-k

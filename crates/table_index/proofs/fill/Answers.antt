@@ -7,7 +7,7 @@ pub overflow_add-index-3 : goal.overflow_add-index-3
 overflow_add-index-3 c =
     let s = c.args.s in
     let word = get_or c.args.index.now (1 + s / 4) 0 in
-    omega (arith, fill_fits word s c.args.at (omega (arith, c.type_inv.index (1 + s / 4))) c.requires.at_bound.0 c.requires.at_bound.1.is)
+    omega (arith, fill_fits word s c.args.at (search rules) c.requires.at_bound.0 c.requires.at_bound.1.is)
 
 pub returns : goal.returns
 returns c =

@@ -1,5 +1,5 @@
 -- `find`: an index that is built is asked, its four slices as parts; else `first_look_up` answers.
-use Rattle.std.proofs.Common.{◌≡◌, ℕ, List, length, take, sym, refl, ap, rules}
+use Rattle.std.proofs.Common.{◌≡◌, ℕ, List, length, take, sym, refl, ap}
 use Rattle.entity.specs.Table.{ValidTable}
 use Rattle.entity.specs.Commands.{Refers}
 use Rattle.entity.proofs.Lookup.{whole_part, as_parts, of_parts}

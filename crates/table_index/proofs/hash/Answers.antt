@@ -1,5 +1,5 @@
 -- `hash`: the definition's three cases.
-use Rattle.std.proofs.Common.{length, ap, ◌∙◌, arith, rules}
+use Rattle.std.proofs.Common.{length, ap, ◌∙◌, arith}
 use Rattle.table_index.specs.NameHash.{mixed}
 use Rattle.table_index.proofs.NameHashing.{hash_short_lem, hash_eight, hash_long_lem}
 use Rattle.table_index.proofs.hash.Goals as goal

@@ -1,5 +1,5 @@
 -- `home`: the product is below 2^50, and sixteen slots follow the answer (`home_fits`).
-use Rattle.std.proofs.Common.{◌-◌, ◌*◌, refl, arith, rules}
+use Rattle.std.proofs.Common.{◌-◌, ◌*◌, refl, arith}
 use Rattle.table_index.proofs.NameHashing.{part_fits, home_fits}
 use Rattle.table_index.proofs.home.Goals as goal
 

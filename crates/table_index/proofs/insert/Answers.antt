@@ -1,5 +1,5 @@
 -- `insert`: no slot of the name is empty (`inserted_vain`), or the first empty one is filled (`inserted_more`).
-use Rattle.std.proofs.Common.{◌≡◌, ℕ, ◌+◌, ◌-◌, length, refl, ap, arith, rules}
+use Rattle.std.proofs.Common.{◌≡◌, ℕ, ◌+◌, ◌-◌, length, refl, ap, arith}
 use Rattle.entity.specs.Commands.{command_name}
 use Rattle.table_index.specs.Index.{home_of}
 use Rattle.table_index.proofs.Inserting.{home_name, first_vacant, inserted_vain, inserted_more}

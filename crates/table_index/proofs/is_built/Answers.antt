@@ -1,5 +1,5 @@
 -- `is_built`: the state is read where there is one.
-use Rattle.std.proofs.Common.{get_or, sym, true≢false, rules, eqb-true}
+use Rattle.std.proofs.Common.{get_or, sym, true≢false, eqb-true}
 use Rattle.table_index.specs.Index.{built_state}
 use Rattle.table_index.proofs.is_built.Goals as goal
 

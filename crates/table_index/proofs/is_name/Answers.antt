@@ -1,5 +1,5 @@
 -- `is_name`: another length; fewer than eight bytes; the last eight differ; 8 to 16 bytes, by a word at each end (`word_ends`); longer ones.
-use Rattle.std.proofs.Common.{◌≡◌, ℕ, ◌+◌, ◌-◌, ◌<◌, ◌≤◌, Bool, eqb, length, get_or, sym, ap, ◌∙◌, ap₂, arith, rules}
+use Rattle.std.proofs.Common.{◌≡◌, ℕ, ◌+◌, ◌-◌, ◌<◌, ◌≤◌, Bool, eqb, length, get_or, sym, ap, ◌∙◌, ap₂, arith}
 use Rattle.text.specs.Bytes.{same_bytes}
 use Rattle.text.specs.Blocks.{word_at}
 use Rattle.entity.specs.Table.{little_endian, part}
@@ -14,10 +14,11 @@ inside : (c : After-u32_at-start) → c.u32_at-start.result + length c.args.name
 inside c = omega (arith, c.requires, c.u32_at-start.ensures, c.if-wide-n.false, c.wide.ensures)
 
 -- what is said of these bytes is said of the command's name
-said : (c : After-u32_at-start) {x : Bool} → let a = (entry c).args in same_bytes (part a.pool.now c.u32-at.result (length a.name.now)) a.name.now ≡ x → x ≡ same_bytes (command_name a.list.now a.pool.now a.at) a.name.now
+said : (c : After-u32_at-start) {x : Bool} → same_bytes (part c.args.pool.now c.u32_at-start.result (length c.args.name.now)) c.args.name.now ≡ x
+    → x ≡ same_bytes (command_name c.args.list.now c.args.pool.now c.args.at) c.args.name.now
 said c e =
-    let a = (entry c).args in
-    sym (same_part a.pool.now a.name.now c.u32-at.ensures.0 (sym c.before.if1.false ∙ c.before.before.wide.ensures.0) e)
+    let a = c.args in
+    sym (same_part a.pool.now a.name.now c.u32_at-start.ensures.0 (sym c.if-wide-n.false ∙ c.wide.ensures.0) e)
 
 pub returns-then-wide-n : goal.returns-then-wide-n
 returns-then-wide-n c =
@@ -26,7 +27,7 @@ returns-then-wide-n c =
     sym (rw c.wide.ensures.0 at (differ_length a.pool.now start a.name.now c.wide.result (omega (arith, c.requires, c.wide.ensures)) c.if-wide-n.true))
 
 pub returns-then-n-lt8 : goal.returns-then-n-lt8
-returns-then-n-lt8 c = said c (sym c.same_few.ensures)
+returns-then-n-lt8 c = said (goal.at.returns-then-n-lt8 c).After-u32_at-start (sym c.same_few.ensures)
 
 pub returns-then-word : goal.returns-then-word
 returns-then-word c =
@@ -37,7 +38,7 @@ returns-then-word c =
     let p : start + length name - 8 ≡ start + last = omega (arith, c.if-n-lt8.false) in
     let words : Alike pool (start + last) name last 8 → c.word.result ≡ c.word-2.result =
     λ alike. c.word.ensures ∙ ap (word_at pool) p ∙ alike_word pool name (start + last) last alike ∙ sym c.word-2.ensures in
-    said c (differ_block pool start name last 8 (length name) (omega (arith, c.if-n-lt8.false)) (λ alike. c.if-word.true (words alike)))
+    said (goal.at.returns-then-word c).After-u32_at-start (differ_block pool start name last 8 (length name) (omega (arith, c.if-n-lt8.false)) (λ alike. c.if-word.true (words alike)))
 
 pub returns-then-n-le16 : goal.returns-then-n-le16
 returns-then-n-le16 c =
@@ -50,8 +51,9 @@ returns-then-n-le16 c =
     let last = ap (word_at pool) (sym p) ∙ words in
     let pools : (k : ℕ) → get_or pool k 0 < 0x100 = λ k. omega (arith, c.type_inv.pool k) in
     let names : (k : ℕ) → get_or name k 0 < 0x100 = λ k. omega (arith, c.type_inv.name k) in
-    let ends = word_ends pool start name pools names (inside (goal.at.returns-then-n-le16 c).After-u32_at-start) least (omega (arith, c.if-n-le16.true)) last in
-    said c (sym (ap₂ eqb c.word-then-n-le16.ensures c.word-then-n-le16-2.ensures ∙ ends))
+    let named = (goal.at.returns-then-n-le16 c).After-u32_at-start in
+    let ends = word_ends pool start name pools names (inside named) least (omega (arith, c.if-n-le16.true)) last in
+    said named (sym (ap₂ eqb c.word-then-n-le16.ensures c.word-then-n-le16-2.ensures ∙ ends))
 
 pub returns : goal.returns
-returns c = said c (sym c.same_long.ensures)
+returns c = said (goal.at.returns c).After-u32_at-start (sym c.same_long.ensures)

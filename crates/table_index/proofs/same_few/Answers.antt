@@ -1,6 +1,5 @@
 -- `same_few` keeps `Agree`, a byte further at each turn. That two bytes are the same is asked of `omega`, so that others are refused as numbers.
-use Rattle.std.proofs.Common.{◌-◌, length, sym, refl, arith}
-use Rattle.entity.specs.Steps.{Agree}
+use Rattle.std.proofs.Common.{length, sym, refl, arith}
 use Rattle.entity.proofs.Lookup.{agree_none, agree_more, same_all, differ_at}
 use Rattle.table_index.proofs.same_few.Goals as goal
 

@@ -1,6 +1,5 @@
-use Rattle.std.proofs.Common.{◌-◌, length, sym, refl, arith}
+use Rattle.std.proofs.Common.{◌-◌, length}
 use Rattle.entity.specs.Steps.{Agree}
-use Rattle.entity.proofs.Lookup.{agree_none, agree_more, same_all, differ_at}
 use Rattle.table_index.proofs.same_few.Given as goal
 
 abbrev pub invariant-loop-i : goal.invariant-loop-i

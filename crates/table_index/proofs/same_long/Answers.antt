@@ -1,6 +1,5 @@
 -- `same_long` keeps `Agree`, a block further at each turn; the last block, which ends with the name, was compared first.
 use Rattle.std.proofs.Common.{◌+◌, ◌-◌, ◌≤◌, length, sym, refl, le_refl, arith}
-use Rattle.entity.specs.Steps.{Agree}
 use Rattle.entity.proofs.Lookup.{agree_none, same_all}
 use Rattle.table_index.proofs.NameBlocks.{agree_block, differ_block}
 use Rattle.table_index.proofs.same_long.Goals as goal

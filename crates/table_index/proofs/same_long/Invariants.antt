@@ -1,7 +1,5 @@
-use Rattle.std.proofs.Common.{◌+◌, ◌-◌, ◌≤◌, length, sym, refl, le_refl, arith}
+use Rattle.std.proofs.Common.{◌-◌, length}
 use Rattle.entity.specs.Steps.{Agree}
-use Rattle.entity.proofs.Lookup.{agree_none, same_all}
-use Rattle.table_index.proofs.NameBlocks.{agree_block, differ_block}
 use Rattle.table_index.proofs.same_long.Given as goal
 
 abbrev pub invariant-loop-i : goal.invariant-loop-i

@@ -1,5 +1,5 @@
 -- `short_word` keeps: the word so far, joined with the bytes to come, is the word of all.
-use Rattle.std.proofs.Common.{◌≡◌, ℕ, ◌+◌, ◌-◌, ◌*◌, ◌%◌, ◌^◌, length, drop, sym, refl, ap, ◌∙◌, arith}
+use Rattle.std.proofs.Common.{ℕ, ◌+◌, ◌*◌, ◌%◌, ◌^◌, drop, sym, refl, ap, ◌∙◌, arith}
 use Rattle.table_index.specs.NameHash.{joined_from}
 use Rattle.table_index.proofs.NameHashing.{joined_on, joined_all}
 use Rattle.table_index.proofs.short_word.Goals as goal

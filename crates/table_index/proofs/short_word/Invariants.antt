@@ -1,6 +1,5 @@
-use Rattle.std.proofs.Common.{◌≡◌, ℕ, ◌+◌, ◌-◌, ◌*◌, ◌%◌, ◌^◌, length, drop, sym, refl, ap, ◌∙◌, arith}
+use Rattle.std.proofs.Common.{◌≡◌, ◌-◌, length, drop}
 use Rattle.table_index.specs.NameHash.{joined_from}
-use Rattle.table_index.proofs.NameHashing.{joined_on, joined_all}
 use Rattle.table_index.proofs.short_word.Given as goal
 
 abbrev pub invariant-loop-i : goal.invariant-loop-i

@@ -1,5 +1,5 @@
 -- `slot_at`: the digit is read by a shift (`digit_shifted`).
-use Rattle.std.proofs.Common.{◌+◌, ◌*◌, ◌/◌, ◌%◌, ◌^◌, ◌<◌, get_or, arith, rules}
+use Rattle.std.proofs.Common.{◌+◌, ◌*◌, ◌/◌, ◌%◌, ◌^◌, ◌<◌, get_or, arith}
 use Rattle.table_index.proofs.PackedSlots.{digit_shifted}
 use Rattle.table_index.proofs.slot_at.Goals as goal
 

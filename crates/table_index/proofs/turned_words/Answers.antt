@@ -1,5 +1,5 @@
 -- `turned_words` keeps: the sum so far, turned with the words to come, is the sum of all.
-use Rattle.std.proofs.Common.{◌≡◌, ℕ, ◌+◌, ◌-◌, ◌/◌, ◌<◌, length, sym, ap, ◌∙◌, ap₂, arith}
+use Rattle.std.proofs.Common.{◌≡◌, ℕ, ◌+◌, ◌-◌, ◌/◌, length, sym, ap, ◌∙◌, ap₂, arith}
 use Rattle.table_index.specs.NameHash.{turned, turned_from, turned_words}
 use Rattle.table_index.proofs.NameHashing.{rest, turned_on, turned_all}
 use Rattle.table_index.proofs.turned_words.Goals as goal
@@ -36,7 +36,7 @@ pub loop-i-preserved : goal.loop-i-preserved
 loop-i-preserved c =
     let name = c.args.name.now in
     let next = c.loop-i.i + 8 in
-    let more = c.wrapping_add_u64-sum.ensures ∙ ap (turned c.loop-i.sum) c.word.ensures in
+    let more = c.wrapping_add_u64-sum.ensures.value ∙ ap (turned c.loop-i.sum) c.word.ensures in
     let same = ap (turned_from (rest name next) name next) more ∙ sym (turned_on name c.loop-i.i c.loop-i.sum c.loop-i-test.true) ∙ c.loop-i.invariant.1 in
     (omega (arith, c.loop-i.invariant.0, c.loop-i-test.true), same)
 

@@ -1,6 +1,6 @@
-use Rattle.std.proofs.Common.{◌≡◌, ℕ, ◌+◌, ◌-◌, ◌/◌, ◌<◌, length, sym, ap, ◌∙◌, ap₂, arith}
-use Rattle.table_index.specs.NameHash.{turned, turned_from, turned_words}
-use Rattle.table_index.proofs.NameHashing.{rest, turned_on, turned_all}
+use Rattle.std.proofs.Common.{◌≡◌, ◌-◌, ◌<◌, length}
+use Rattle.table_index.specs.NameHash.{turned_from, turned_words}
+use Rattle.table_index.proofs.NameHashing.{rest}
 use Rattle.table_index.proofs.turned_words.Given as goal
 
 abbrev pub invariant-loop-i : goal.invariant-loop-i

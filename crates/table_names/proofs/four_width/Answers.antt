@@ -2,19 +2,13 @@
 -- is overlong (`four_low`), else as the number passes (`four_some`).
 use mathlib.Core.Path.{sym, ◌∙◌}
 use mathlib.Core.Bool.{Bool}
-use Prim.Native.Nat.{ℕ, ◌+◌, ◌-◌, ◌<◌}
+use Prim.Native.Nat.{ℕ, ◌+◌, ◌<◌}
 use native.Mathlib.Omega.{arith}
 use lib.ListN.{length}
 use Rattle.text.specs.Bytes.{pick}
 use Rattle.table_names.specs.NameChars.{is_name_start, is_name_char}
 use Rattle.table_names.proofs.CharWidths.{size_4}
 use Rattle.table_names.proofs.WideNames.{name_scalar, short_width, tail_none, no_three, Tails4, tails_4, four_first, four_second, four_third, four_low, four_some}
-use borrow.Author.Rules.{rules}
-use Rattle.table_names.proofs.four_width.Reads as reads
-use Rattle.table_names.proofs.four_width.Lts as lts
-use Rattle.table_names.proofs.is_name.Reads as is-name-reads
-use Rattle.table_names.proofs.tail_at.Reads as tail-at-reads
-use Rattle.entity.proofs.wide.Reads as wide-reads
 use Rattle.table_names.proofs.four_width.Goals as goal
 use Rattle.table_names.proofs.four_width.Goals.{After-tail_at-e, After-wide, Start}
 
@@ -27,15 +21,15 @@ long : (c : After-tail_at-e) → c.args.i + 3 < length c.args.text.now
 long c = omega (arith, c.if-text-i-lt4.false)
 
 -- the bytes after the first are tails
-all-tails : (c : After-wide) → Tails4 c.args.text.now c.args.i c.tail_at-c.result c.tail_at-d.result c.tail_at-e.result
-all-tails c =
+all_tails : (c : After-wide) → Tails4 c.args.text.now c.args.i c.tail_at-c.result c.tail_at-d.result c.tail_at-e.result
+all_tails c =
     tails_4 c.args.text.now c.args.i _ _ _ c.tail_at-c.ensures c.tail_at-d.ensures c.tail_at-e.ensures
     c.if-c-d.false
 
 -- each adds less than 64
 small : (c : After-wide) → (c.tail_at-c.result < 64) × (c.tail_at-d.result < 64) × (c.tail_at-e.result < 64)
 small c =
-    let x = all-tails c in
+    let x = all_tails c in
     (omega (arith, x.tail_2.adds, x.tail_2.top), omega (arith, x.tail_3.adds, x.tail_3.top), omega (arith, x.tail_4.adds, x.tail_4.top))
 
 pub returns-then-text-i-lt4 : goal.returns-then-text-i-lt4
@@ -67,18 +61,18 @@ overflow_add-number-3 c = omega (arith, (small c).0, (small c).1, (small c).2, c
 
 pub returns-then-number-lt65536 : goal.returns-then-number-lt65536
 returns-then-number-lt65536 c =
-    let x = all-tails (goal.at.returns-then-number-lt65536 c).After-wide in
+    let x = all_tails (goal.at.returns-then-number-lt65536 c).After-wide in
     four_low (test (goal.at.returns-then-number-lt65536 c).Start) (name_scalar c.args.first) c.args.text.now c.args.i (long (goal.at.returns-then-number-lt65536 c).After-tail_at-e) c.requires.1 x
     (omega (arith, x.tail_2.adds, x.tail_3.adds, x.tail_4.adds, c.wide.ensures.0)) c.if-number-lt65536.true
 
 pub returns-then-is_name : goal.returns-then-is_name
 returns-then-is_name c =
-    let x = all-tails (goal.at.returns-then-is_name c).After-wide in
+    let x = all_tails (goal.at.returns-then-is_name c).After-wide in
     four_some (test (goal.at.returns-then-is_name c).Start) (name_scalar c.args.first) c.args.text.now c.args.i (long (goal.at.returns-then-is_name c).After-tail_at-e) c.requires.1 x
     (omega (arith, x.tail_2.adds, x.tail_3.adds, x.tail_4.adds, c.wide.ensures.0)) c.if-number-lt65536.false (sym c.is_name.ensures ∙ c.if-is_name.true)
 
 pub returns : goal.returns
 returns c =
-    let x = all-tails (goal.at.returns c).After-wide in
+    let x = all_tails (goal.at.returns c).After-wide in
     four_some (test (goal.at.returns c).Start) (name_scalar c.args.first) c.args.text.now c.args.i (long (goal.at.returns c).After-tail_at-e) c.requires.1 x
     (omega (arith, x.tail_2.adds, x.tail_3.adds, x.tail_4.adds, c.wide.ensures.0)) c.if-number-lt65536.false (sym c.is_name.ensures ∙ c.if-is_name.false)

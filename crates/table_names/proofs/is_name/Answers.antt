@@ -3,7 +3,6 @@ use mathlib.Core.Path.{sym, ap, ◌∙◌}
 use mathlib.Core.Bool.{Bool}
 use Rattle.text.specs.Bytes.{pick}
 use Rattle.table_names.specs.NameChars.{is_name_start, is_name_char}
-use borrow.Author.Rules.{rules}
 use Rattle.table_names.proofs.is_name.Goals as goal
 
 pub returns-then-first : goal.returns-then-first

@@ -4,7 +4,6 @@ use mathlib.Core.Bool.{Bool, ◌||◌}
 use lib.Dec.{eqb}
 use Rattle.text.specs.Bytes.{within}
 use Rattle.table_names.proofs.AsciiNames.{char_ascii}
-use borrow.Author.Rules.{rules}
 use Rattle.table_names.proofs.is_name_byte.Goals as goal
 
 pub returns : goal.returns

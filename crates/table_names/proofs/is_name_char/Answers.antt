@@ -1,6 +1,5 @@
 -- `is_name_char` has the ranges of [4a].
 use Rattle.table_names.specs.NameChars.{is_name_char}
-use borrow.Author.Rules.{rules}
 use Rattle.table_names.proofs.is_name_char.Goals as goal
 
 pub returns : goal.returns

@@ -8,7 +8,6 @@ use Rattle.text.proofs.Bytes.{within_top}
 use Rattle.table_names.specs.NameChars.{is_name_char}
 use Rattle.table_names.proofs.AsciiNames.{letter_char}
 use Rattle.table_names.proofs.CharWidths.{width_ascii}
-use borrow.Author.Rules.{rules}
 use Rattle.table_names.proofs.name_char_width.Goals as goal
 
 pub returns-then-b : goal.returns-then-b

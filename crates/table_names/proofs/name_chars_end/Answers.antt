@@ -1,14 +1,10 @@
 -- `name_chars_end`: the name characters passed and those to come are the same at each turn (`chars_on`).
-use mathlib.Core.Path.{◌≡◌, refl}
-use Prim.Native.Nat.{◌+◌, ◌-◌, ◌≤◌}
+use mathlib.Core.Path.{refl}
 use native.Mathlib.Omega.{arith}
-use lib.ListN.{length, drop}
+use lib.ListN.{drop}
 use Rattle.text.specs.Version.{xml10}
 use Rattle.table_names.specs.NameChars.{name_chars}
 use Rattle.table_names.proofs.NamesPast.{On, chars_stop, chars_on, chars_over}
-use Rattle.table_names.proofs.name_chars_end.Reads as reads
-use Rattle.table_names.proofs.name_chars_end.Lts as lts
-use Rattle.table_names.proofs.name_char_width.Reads as name-char-width-reads
 use Rattle.table_names.proofs.name_chars_end.Goals as goal
 use Rattle.table_names.proofs.name_chars_end.Goals.{Else-width-eq0}
 
@@ -35,13 +31,13 @@ on c =
     c.name_char_width-width.ensures c.if-width-eq0.false
 
 pub overflow_add-i : goal.overflow_add-i
-overflow_add-i c = omega (arith, (on c).ranges)
+overflow_add-i c = omega (arith, (on c).fits)
 
 pub loop-i-smaller : goal.loop-i-smaller
-loop-i-smaller c = omega (arith, (on c).ranges, c.if-width-eq0.false)
+loop-i-smaller c = omega (arith, (on c).fits, c.if-width-eq0.false)
 
 pub loop-i-preserved : goal.loop-i-preserved
-loop-i-preserved c = ((on c).ranges, omega (arith, c.loop-i.invariant.1, (on c).on))
+loop-i-preserved c = ((on c).fits, omega (arith, c.loop-i.invariant.1, (on c).on))
 
 pub returns : goal.returns
 returns c =

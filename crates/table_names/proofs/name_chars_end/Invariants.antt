@@ -1,13 +1,7 @@
-use mathlib.Core.Path.{◌≡◌, refl}
+use mathlib.Core.Path.{◌≡◌}
 use Prim.Native.Nat.{◌+◌, ◌-◌, ◌≤◌}
-use native.Mathlib.Omega.{arith}
 use lib.ListN.{length, drop}
-use Rattle.text.specs.Version.{xml10}
 use Rattle.table_names.specs.NameChars.{name_chars}
-use Rattle.table_names.proofs.NamesPast.{On, chars_stop, chars_on, chars_over}
-use Rattle.table_names.proofs.name_chars_end.Reads as reads
-use Rattle.table_names.proofs.name_chars_end.Lts as lts
-use Rattle.table_names.proofs.name_char_width.Reads as name-char-width-reads
 use Rattle.table_names.proofs.name_chars_end.Given as goal
 
 abbrev pub invariant-loop-i : goal.invariant-loop-i

@@ -2,11 +2,6 @@
 use native.Mathlib.Omega.{arith}
 use Rattle.text.specs.Version.{xml10}
 use Rattle.table_names.proofs.NamesPast.{length_over, length_stop, length_on}
-use borrow.Author.Rules.{rules}
-use Rattle.table_names.proofs.name_end.Reads as reads
-use Rattle.table_names.proofs.name_end.Lts as lts
-use Rattle.table_names.proofs.name_chars_end.Reads as name-chars-end-reads
-use Rattle.table_names.proofs.name_start_width.Reads as name-start-width-reads
 use Rattle.table_names.proofs.name_end.Goals as goal
 
 pub returns-then-from-text : goal.returns-then-from-text

@@ -4,11 +4,6 @@ use mathlib.Core.Bool.{Bool}
 use Rattle.text.specs.Bytes.{pick}
 use Rattle.table_names.specs.NameChars.{is_name_start}
 use Rattle.table_names.proofs.CharWidths.{width_ascii}
-use borrow.Author.Rules.{rules}
-use Rattle.table_names.proofs.name_start_width.Reads as reads
-use Rattle.table_names.proofs.name_start_width.Lts as lts
-use Rattle.table_names.proofs.is_name_start_byte.Reads as is-name-start-byte-reads
-use Rattle.table_names.proofs.wide_width.Reads as wide-width-reads
 use Rattle.table_names.proofs.name_start_width.Goals as goal
 
 pub returns-then-is_name_start_byte : goal.returns-then-is_name_start_byte

@@ -4,10 +4,6 @@ use lib.Dec.{leb}
 use borrow.Author.Tests.{leb-true}
 use Rattle.text.proofs.Bytes.{and_left}
 use Rattle.table_names.proofs.TailBits.{tail_is, tail_not}
-use borrow.Author.Rules.{rules}
-use Rattle.table_names.proofs.tail_at.Reads as reads
-use Rattle.table_names.proofs.tail_at.Lts as lts
-use Rattle.entity.proofs.wide.Reads as wide-reads
 use Rattle.table_names.proofs.tail_at.Goals as goal
 
 pub overflow_sub-result : goal.overflow_sub-result

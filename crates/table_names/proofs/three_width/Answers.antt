@@ -2,19 +2,13 @@
 -- is overlong (`three_low`), else as the number passes (`three_some`).
 use mathlib.Core.Path.{sym, ◌∙◌}
 use mathlib.Core.Bool.{Bool}
-use Prim.Native.Nat.{ℕ, ◌+◌, ◌-◌, ◌<◌}
+use Prim.Native.Nat.{ℕ, ◌+◌, ◌<◌}
 use native.Mathlib.Omega.{arith}
 use lib.ListN.{length}
 use Rattle.text.specs.Bytes.{pick}
 use Rattle.table_names.specs.NameChars.{is_name_start, is_name_char}
 use Rattle.table_names.proofs.CharWidths.{size_3}
 use Rattle.table_names.proofs.WideNames.{name_scalar, short_width, tail_none, no_tails, Tails3, tails_3, three_first, three_second, three_low, three_some}
-use borrow.Author.Rules.{rules}
-use Rattle.table_names.proofs.three_width.Reads as reads
-use Rattle.table_names.proofs.three_width.Lts as lts
-use Rattle.table_names.proofs.is_name.Reads as is-name-reads
-use Rattle.table_names.proofs.tail_at.Reads as tail-at-reads
-use Rattle.entity.proofs.wide.Reads as wide-reads
 use Rattle.table_names.proofs.three_width.Goals as goal
 use Rattle.table_names.proofs.three_width.Goals.{After-tail_at-d, After-wide, Start}
 
@@ -27,14 +21,14 @@ long : (c : After-tail_at-d) → c.args.i + 2 < length c.args.text.now
 long c = omega (arith, c.if-text-i-lt3.false)
 
 -- both bytes after the first are tails
-all-tails : (c : After-wide) → Tails3 c.args.text.now c.args.i c.tail_at-c.result c.tail_at-d.result
-all-tails c =
+all_tails : (c : After-wide) → Tails3 c.args.text.now c.args.i c.tail_at-c.result c.tail_at-d.result
+all_tails c =
     tails_3 c.args.text.now c.args.i _ _ c.tail_at-c.ensures c.tail_at-d.ensures c.if-c-d.false
 
 -- each adds less than 64
 small : (c : After-wide) → (c.tail_at-c.result < 64) × (c.tail_at-d.result < 64)
 small c =
-    let x = all-tails c in
+    let x = all_tails c in
     (omega (arith, x.tail_2.adds, x.tail_2.top), omega (arith, x.tail_3.adds, x.tail_3.top))
 
 pub returns-then-text-i-lt3 : goal.returns-then-text-i-lt3
@@ -59,18 +53,18 @@ overflow_add-number-2 c = omega (arith, (small c).0, (small c).1, c.wide.ensures
 
 pub returns-then-number-lt2048 : goal.returns-then-number-lt2048
 returns-then-number-lt2048 c =
-    let x = all-tails (goal.at.returns-then-number-lt2048 c).After-wide in
+    let x = all_tails (goal.at.returns-then-number-lt2048 c).After-wide in
     three_low (test (goal.at.returns-then-number-lt2048 c).Start) (name_scalar c.args.first) c.args.text.now c.args.i (long (goal.at.returns-then-number-lt2048 c).After-tail_at-d) c.requires.1 c.requires.2 x
     (omega (arith, x.tail_2.adds, x.tail_3.adds, c.wide.ensures.0)) c.if-number-lt2048.true
 
 pub returns-then-is_name : goal.returns-then-is_name
 returns-then-is_name c =
-    let x = all-tails (goal.at.returns-then-is_name c).After-wide in
+    let x = all_tails (goal.at.returns-then-is_name c).After-wide in
     three_some (test (goal.at.returns-then-is_name c).Start) (name_scalar c.args.first) c.args.text.now c.args.i (long (goal.at.returns-then-is_name c).After-tail_at-d) c.requires.1 c.requires.2 x
     (omega (arith, x.tail_2.adds, x.tail_3.adds, c.wide.ensures.0)) c.if-number-lt2048.false (sym c.is_name.ensures ∙ c.if-is_name.true)
 
 pub returns : goal.returns
 returns c =
-    let x = all-tails (goal.at.returns c).After-wide in
+    let x = all_tails (goal.at.returns c).After-wide in
     three_some (test (goal.at.returns c).Start) (name_scalar c.args.first) c.args.text.now c.args.i (long (goal.at.returns c).After-tail_at-d) c.requires.1 c.requires.2 x
     (omega (arith, x.tail_2.adds, x.tail_3.adds, c.wide.ensures.0)) c.if-number-lt2048.false (sym c.is_name.ensures ∙ c.if-is_name.false)

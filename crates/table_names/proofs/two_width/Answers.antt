@@ -5,12 +5,6 @@ use Rattle.text.specs.Bytes.{pick}
 use Rattle.table_names.specs.NameChars.{is_name_start, is_name_char}
 use Rattle.table_names.proofs.CharWidths.{size_2}
 use Rattle.table_names.proofs.WideNames.{name_scalar, short_width, tail_none, tail_some, two_broken, two_some}
-use borrow.Author.Rules.{rules}
-use Rattle.table_names.proofs.two_width.Reads as reads
-use Rattle.table_names.proofs.two_width.Lts as lts
-use Rattle.table_names.proofs.is_name.Reads as is-name-reads
-use Rattle.table_names.proofs.tail_at.Reads as tail-at-reads
-use Rattle.entity.proofs.wide.Reads as wide-reads
 use Rattle.table_names.proofs.two_width.Goals as goal
 
 pub returns-then-text-i-lt2 : goal.returns-then-text-i-lt2

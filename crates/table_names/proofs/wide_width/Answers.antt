@@ -3,12 +3,6 @@ use native.Mathlib.Omega.{arith}
 use Rattle.text.specs.Bytes.{pick}
 use Rattle.table_names.specs.NameChars.{is_name_start, is_name_char}
 use Rattle.table_names.proofs.WideNames.{name_scalar, low_width}
-use borrow.Author.Rules.{rules}
-use Rattle.table_names.proofs.wide_width.Reads as reads
-use Rattle.table_names.proofs.wide_width.Lts as lts
-use Rattle.table_names.proofs.four_width.Reads as four-width-reads
-use Rattle.table_names.proofs.three_width.Reads as three-width-reads
-use Rattle.table_names.proofs.two_width.Reads as two-width-reads
 use Rattle.table_names.proofs.wide_width.Goals as goal
 
 pub returns-then-b-lt194 : goal.returns-then-b-lt194

@@ -2,7 +2,6 @@
 use mathlib.Core.Bool.{true≢false}
 use Rattle.output.proofs.Runs.{plain_both}
 use Rattle.table_values.proofs.ValueStops.{none_older, none_newer, plain_three}
-use borrow.Author.Rules.{rules}
 use Rattle.table_values.proofs.any_stop.Goals as goal
 
 pub returns-then-any_of : goal.returns-then-any_of

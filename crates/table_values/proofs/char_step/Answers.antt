@@ -8,11 +8,6 @@ use lib.Seq.{length-take-le, take_at}
 use Rattle.charref.specs.CharRef.{encode}
 use Rattle.charref.proofs.Encoding.{encode_at_most}
 use Rattle.output.specs.Over.{over}
-use borrow.Author.Rules.{rules}
-use Rattle.table_values.proofs.char_step.Reads as reads
-use Rattle.table_values.proofs.char_step.Lts as lts
-use Rattle.charref.proofs.encode_utf8.Reads as encode-utf8-reads
-use Rattle.output.proofs.put_over.Reads as put-over-reads
 use Rattle.table_values.proofs.char_step.Goals as goal
 
 pub encode_utf8-n-requires : goal.encode_utf8-n-requires

@@ -3,16 +3,9 @@ use mathlib.Core.Path.{sym, ◌∙◌}
 use mathlib.Core.List.{[]}
 use Prim.Native.Nat.{◌+◌}
 use native.Mathlib.Omega.{arith}
-use borrow.Author.Tests.{not-true, not-false}
 use Rattle.table_values.proofs.Literals.{stands_inside}
 use Rattle.table_names.proofs.NamesPast.{name_past}
 use Rattle.table_values.proofs.EntityRefs.{ref_none, ref_open, ref_closed}
-use borrow.Author.Rules.{rules}
-use Rattle.table_values.proofs.entity_step.Reads as reads
-use Rattle.table_values.proofs.entity_step.Lts as lts
-use Rattle.table_names.proofs.name_end.Reads as name-end-reads
-use Rattle.output.proofs.put_over.Reads as put-over-reads
-use Rattle.text.proofs.pattern.byte_at.Reads as byte-at-reads
 use Rattle.table_values.proofs.entity_step.Goals as goal
 
 pub returns-then-end-i : goal.returns-then-end-i
@@ -23,18 +16,18 @@ returns-then-end-i c =
 pub returns-then-not-byte_at : goal.returns-then-not-byte_at
 returns-then-not-byte_at c =
     ref_open c.args.i (name_past c.args.newer c.args.text.now (c.args.i + 1) c.name_end-end.result (omega (arith, c.requires.0))
-    c.name_end-end.ensures.1) c.args.out.now c.if-end-i.false (sym c.byte_at.ensures ∙ not-true c.byte_at.result c.if-not-byte_at.true)
+    c.name_end-end.ensures.1) c.args.out.now c.if-end-i.false (sym c.byte_at.ensures ∙ c.if-not-byte_at.true)
 
 pub slice_bounds-put_over-end : goal.slice_bounds-put_over-end
 slice_bounds-put_over-end c =
     omega (
       arith,
       stands_inside c.args.newer c.args.text.now c.name_end-end.result 59 [] (omega arith) (omega arith)
-          (sym c.byte_at.ensures ∙ not-false c.byte_at.result c.if-not-byte_at.false),
+          (sym c.byte_at.ensures ∙ c.if-not-byte_at.false),
     )
 
 pub returns : goal.returns
 returns c =
     ref_closed c.args.i (name_past c.args.newer c.args.text.now (c.args.i + 1) c.name_end-end.result (omega (arith, c.requires.0))
     c.name_end-end.ensures.1) c.args.out.now c.if-end-i.false c.requires.0 c.requires.1
-    (sym c.byte_at.ensures ∙ not-false c.byte_at.result c.if-not-byte_at.false) c.put_over.ensures
+    (sym c.byte_at.ensures ∙ c.if-not-byte_at.false) c.put_over.ensures

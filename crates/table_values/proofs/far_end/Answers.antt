@@ -1,13 +1,8 @@
 -- `far_end`: behind the blocks, byte by byte, what is passed stays a run (`plain_join`).
 use mathlib.Core.Path.{sym, ◌∙◌}
-use Prim.Native.Nat.{◌-◌}
-use lib.ListN.{length}
-use Rattle.table_values.specs.ValueSteps.{value_stop}
-use Rattle.output.specs.Runs.{Plain}
 use Rattle.output.proofs.Runs.{plain_byte, plain_join}
 use native.Mathlib.Omega.{arith}
 use Rattle.table_values.proofs.ValueStops.{run_ends, run_over}
-use borrow.Author.Rules.{rules}
 use Rattle.table_values.proofs.far_end.Goals as goal
 
 pub plain_blocks-i-requires : goal.plain_blocks-i-requires

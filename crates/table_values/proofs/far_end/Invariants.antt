@@ -1,12 +1,7 @@
-use mathlib.Core.Path.{sym, ◌∙◌}
 use Prim.Native.Nat.{◌-◌}
 use lib.ListN.{length}
 use Rattle.table_values.specs.ValueSteps.{value_stop}
 use Rattle.output.specs.Runs.{Plain}
-use Rattle.output.proofs.Runs.{plain_byte, plain_join}
-use native.Mathlib.Omega.{arith}
-use Rattle.table_values.proofs.ValueStops.{run_ends, run_over}
-use borrow.Author.Rules.{rules}
 use Rattle.table_values.proofs.far_end.Given as goal
 
 abbrev pub invariant-loop-i : goal.invariant-loop-i

@@ -2,11 +2,6 @@
 use native.Mathlib.Omega.{arith}
 use Rattle.table_values.proofs.LeftPlaces.{ended_inside}
 use Rattle.table_values.proofs.EntityValues.{line_kept, line_ended, meets_put}
-use borrow.Author.Rules.{rules}
-use Rattle.table_values.proofs.line_step.Reads as reads
-use Rattle.table_values.proofs.line_step.Lts as lts
-use Rattle.eols.proofs.eol_width.Reads as eol-width-reads
-use Rattle.output.proofs.put_byte.Reads as put-byte-reads
 use Rattle.table_values.proofs.line_step.Goals as goal
 
 pub returns-then-width-eq0 : goal.returns-then-width-eq0

@@ -1,12 +1,7 @@
 -- `number_end`: byte by byte, what is passed stays a run (`plain_join`).
-use Prim.Native.Nat.{◌-◌}
 use native.Mathlib.Omega.{arith}
-use lib.ListN.{length}
-use Rattle.output.specs.Runs.{Plain}
 use Rattle.output.proofs.Runs.{plain_none, plain_byte, plain_join}
-use Rattle.table_values.specs.ValueSteps.{number_stop}
 use Rattle.table_values.proofs.ValueStops.{run_ends, run_over}
-use borrow.Author.Rules.{rules}
 use Rattle.table_values.proofs.number_end.Goals as goal
 
 pub loop-i-init : goal.loop-i-init

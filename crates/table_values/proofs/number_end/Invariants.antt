@@ -1,11 +1,7 @@
 use Prim.Native.Nat.{◌-◌}
-use native.Mathlib.Omega.{arith}
 use lib.ListN.{length}
 use Rattle.output.specs.Runs.{Plain}
-use Rattle.output.proofs.Runs.{plain_none, plain_byte, plain_join}
 use Rattle.table_values.specs.ValueSteps.{number_stop}
-use Rattle.table_values.proofs.ValueStops.{run_ends, run_over}
-use borrow.Author.Rules.{rules}
 use Rattle.table_values.proofs.number_end.Given as goal
 
 abbrev pub invariant-loop-i : goal.invariant-loop-i

@@ -6,13 +6,6 @@ use Rattle.charref.specs.CharRef.{number_answer}
 use Rattle.table_values.proofs.EntityValues.{meets_as}
 use Rattle.table_values.proofs.CharRefs.{number_unended, number_quoted, number_read, number_refused}
 use Rattle.table_grammar.proofs.NumberAnswers.{character_most}
-use borrow.Author.Rules.{rules}
-use Rattle.table_values.proofs.number_step.Reads as reads
-use Rattle.table_values.proofs.number_step.Lts as lts
-use Rattle.charref.proofs.answer_of.Reads as answer-of-reads
-use Rattle.charref.proofs.parse_number.Reads as parse-number-reads
-use Rattle.table_values.proofs.char_step.Reads as char-step-reads
-use Rattle.table_values.proofs.number_end.Reads as number-end-reads
 use Rattle.table_values.proofs.number_step.Goals as goal
 
 pub returns-then-end-text : goal.returns-then-end-text

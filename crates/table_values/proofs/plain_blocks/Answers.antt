@@ -1,9 +1,5 @@
 -- `plain_blocks`: block by block, what is passed stays a run (`plain_join`).
-use Prim.Native.Nat.{◌-◌}
 use native.Mathlib.Omega.{arith}
-use lib.ListN.{length}
-use Rattle.table_values.specs.ValueSteps.{value_stop}
-use Rattle.output.specs.Runs.{Plain}
 use Rattle.output.proofs.Runs.{plain_none, plain_join}
 use Rattle.table_values.proofs.plain_blocks.Goals as goal
 

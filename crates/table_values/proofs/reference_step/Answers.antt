@@ -8,12 +8,6 @@ use Rattle.table_names.specs.NameTerms.{left}
 use Rattle.table_values.proofs.Literals.{stands_inside}
 use Rattle.table_values.proofs.EntityValues.{meets_as, meets_earlier}
 use Rattle.table_values.proofs.EntityRefs.{reference_number, reference_entity}
-use borrow.Author.Rules.{rules}
-use Rattle.table_values.proofs.reference_step.Reads as reads
-use Rattle.table_values.proofs.reference_step.Lts as lts
-use Rattle.table_values.proofs.entity_step.Reads as entity-step-reads
-use Rattle.table_values.proofs.number_step.Reads as number-step-reads
-use Rattle.text.proofs.pattern.byte_at.Reads as byte-at-reads
 use Rattle.table_values.proofs.reference_step.Goals as goal
 
 pub number_step-requires : goal.number_step-requires

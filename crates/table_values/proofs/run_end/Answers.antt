@@ -3,7 +3,6 @@ use mathlib.Core.Path.{sym, ◌∙◌}
 use native.Mathlib.Omega.{arith}
 use Rattle.output.proofs.Runs.{plain_none}
 use Rattle.table_values.proofs.ValueStops.{run_ends, run_over}
-use borrow.Author.Rules.{rules}
 use Rattle.table_values.proofs.run_end.Goals as goal
 
 pub returns-then-from-text : goal.returns-then-from-text

@@ -3,11 +3,6 @@ use mathlib.Core.Path.{refl}
 use mathlib.Core.List.{[]}
 use native.Mathlib.Omega.{arith}
 use Rattle.table_values.proofs.EntityValues.{amp_step, percent_step, meets_as}
-use borrow.Author.Rules.{rules}
-use Rattle.table_values.proofs.stop_step.Reads as reads
-use Rattle.table_values.proofs.stop_step.Lts as lts
-use Rattle.table_values.proofs.line_step.Reads as line-step-reads
-use Rattle.table_values.proofs.reference_step.Reads as reference-step-reads
 use Rattle.table_values.proofs.stop_step.Goals as goal
 
 pub returns-then-b-eq38 : goal.returns-then-b-eq38

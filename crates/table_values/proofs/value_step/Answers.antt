@@ -5,15 +5,14 @@ use mathlib.Core.List.{List}
 use native.Mathlib.Omega.{arith}
 use lib.ListN.{length}
 use borrow.Rule.Slice.PartMut.{put_mid}
-use borrow.Author.Rules.{rules}
 use Rattle.table_values.proofs.EntityValues.{Valuing, valuing_start, valuing_length, valuing_run, valuing_ended, valuing_long, valuing_closed, valuing_step, valuing_stopped, meets_told, stopped_length}
 use Rattle.table_values.proofs.StepKinds.{stops_by}
 use Rattle.table_values.proofs.value_step.Goals as goal
 use Rattle.table_values.proofs.value_step.Goals.{After-put_over, After-stop_step-step}
 
 -- the run's end, and what the output holds then
-abbrev run-stop : After-put_over → ℕ
-run-stop c = c.run_end-e.result
+abbrev run_stop : After-put_over → ℕ
+run_stop c = c.run_end-e.result
 
 abbrev held : After-put_over → List ℕ
 held c =
@@ -21,7 +20,7 @@ held c =
     let at = c.least-room.result in
     put_mid at (length out - at) out c.put_over.new.out
 
-ran : (c : After-put_over) → Valuing c.args.quote c.args.newer c.args.text.now c.args.from c.args.out.now (held c) (run-stop c) (c.loop-from.len + (run-stop c - c.loop-from.i))
+ran : (c : After-put_over) → Valuing c.args.quote c.args.newer c.args.text.now c.args.from c.args.out.now (held c) (run_stop c) (c.loop-from.len + (run_stop c - c.loop-from.i))
 ran c = valuing_run c.loop-from.invariant c.run_end-e.ensures.run c.least-room.ensures c.put_over.ensures
 
 pub loop-from-init : goal.loop-from-init
@@ -101,15 +100,15 @@ stood c = omega (arith, (valuing_run c.loop-from.invariant c.run_end-e.ensures.r
 
 pub shape_of-out-in_default : goal.shape_of-out-in_default
 shape_of-out-in_default c =
-    let k = stops_by c.stop_step-step.result c.in-Next.in-Next-own.keys2 in
+    let k = stops_by c.stop_step-step.result c.in_default.not-Next in
     stopped_length c.stop_step-step.result k
     (valuing_stopped (ran (goal.at.shape_of-out-in_default c).After-put_over) (stood (goal.at.shape_of-out-in_default c).After-stop_step-step) c.requires.1 c.if-text-e.false c.least-rest.ensures c.stop_step-step.result
-    (stops_by c.stop_step-step.result c.in-Next.in-Next-own.keys2) c.stop_step-step.auto.out c.stop_step-step.ensures)
+    k c.stop_step-step.auto.out c.stop_step-step.ensures)
 
 pub returns-in_default : goal.returns-in_default
 returns-in_default c =
     valuing_stopped (ran (goal.at.returns-in_default c).After-put_over) (stood (goal.at.returns-in_default c).After-stop_step-step) c.requires.1 c.if-text-e.false c.least-rest.ensures c.stop_step-step.result
-    (stops_by c.stop_step-step.result c.in-Next.in-Next-own.keys2) c.stop_step-step.auto.out c.stop_step-step.ensures
+    (stops_by c.stop_step-step.result c.in_default.not-Next) c.stop_step-step.auto.out c.stop_step-step.ensures
 
 pub overflow_add-len-in-loop-from : goal.overflow_add-len-in-loop-from
 overflow_add-len-in-loop-from c =

@@ -1,11 +1,6 @@
-use Prim.Native.Nat.{ℕ, ◌+◌, ◌-◌, ◌<◌}
-use mathlib.Core.List.{List}
-use native.Mathlib.Omega.{arith}
+use Prim.Native.Nat.{◌-◌}
 use lib.ListN.{length}
-use borrow.Rule.Slice.PartMut.{put_mid}
-use borrow.Author.Rules.{rules}
-use Rattle.table_values.proofs.EntityValues.{Valuing, valuing_start, valuing_length, valuing_run, valuing_ended, valuing_long, valuing_closed, valuing_step, valuing_stopped, meets_told, stopped_length}
-use Rattle.table_values.proofs.StepKinds.{stops_by}
+use Rattle.table_values.proofs.EntityValues.{Valuing}
 use Rattle.table_values.proofs.value_step.Given as goal
 
 abbrev pub invariant-loop-from : goal.invariant-loop-from

@@ -1,5 +1,4 @@
 use Rattle.tokens.proofs.Finished.{whole_short, whole_written}
-use borrow.Author.Rules.{rules}
 use Rattle.tokens.proofs.copied_whole.Goals as goal
 
 pub returns-then-out-text : goal.returns-then-out-text

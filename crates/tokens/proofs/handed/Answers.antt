@@ -1,6 +1,5 @@
 use mathlib.Core.Path.{sym, ap}
 use Rattle.tokens.specs.Walking.{handed_on}
-use borrow.Author.Rules.{rules}
 use Rattle.tokens.proofs.handed.Goals as goal
 
 pub returns-in-Done : goal.returns-in-Done

@@ -1,8 +1,5 @@
 -- `name_end` keeps: no byte passed so far ends the name (`Passed`). It leaves at the `;`, at an `&` that ends the search, or at the end.
-use Prim.Native.Nat.{◌-◌}
-use lib.ListN.{length}
-use Rattle.tokens.proofs.Names.{Passed, passed_start, passed_over, passed_end, passed_amp, passed_byte}
-use borrow.Author.Rules.{rules}
+use Rattle.tokens.proofs.Names.{passed_start, passed_over, passed_end, passed_amp, passed_byte}
 use Rattle.tokens.proofs.name_end.Goals as goal
 
 pub loop-i-init : goal.loop-i-init

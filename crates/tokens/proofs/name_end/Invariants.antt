@@ -1,7 +1,6 @@
 use Prim.Native.Nat.{◌-◌}
 use lib.ListN.{length}
-use Rattle.tokens.proofs.Names.{Passed, passed_start, passed_over, passed_end, passed_amp, passed_byte}
-use borrow.Author.Rules.{rules}
+use Rattle.tokens.proofs.Names.{Passed}
 use Rattle.tokens.proofs.name_end.Given as goal
 
 abbrev pub invariant-loop-i : goal.invariant-loop-i

@@ -2,8 +2,7 @@
 -- from `from` on follow it (`again_byte`).
 use Rattle.output.proofs.Clip.{length_over}
 use Rattle.tokens.proofs.Repeats.{again_byte, again_one}
-use borrow.Author.Rules.{rules}
-use Prim.Native.Nat.{ℕ, ◌≤◌, ◌-◌, zero-le}
+use Prim.Native.Nat.{ℕ, zero-le}
 use mathlib.Core.Path.{◌≡◌, refl, sym, ap, ◌∙◌}
 use mathlib.Core.List.{List, ◌++◌, append-nil}
 use native.Mathlib.Omega.{arith}

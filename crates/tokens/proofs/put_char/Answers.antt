@@ -2,7 +2,6 @@ use mathlib.Core.Path.{sym, ◌∙◌}
 use native.Mathlib.Omega.{arith}
 use Rattle.charref.specs.CharRef.{encode}
 use Rattle.output.proofs.Clip.{over_fits, over_empty}
-use borrow.Author.Rules.{rules}
 use Rattle.tokens.proofs.put_char.Goals as goal
 
 pub encode_utf8-requires : goal.encode_utf8-requires

@@ -8,7 +8,6 @@ use lib.Seq.{length-take-le, take_at}
 use Rattle.charref.specs.CharRef.{encode}
 use Rattle.charref.proofs.Encoding.{encode_at_most}
 use Rattle.output.specs.Over.{over}
-use borrow.Author.Rules.{rules}
 use Rattle.tokens.proofs.put_clipped.Goals as goal
 
 pub encode_utf8-n-requires : goal.encode_utf8-n-requires

@@ -1,5 +1,4 @@
 use mathlib.Core.Path.{refl}
-use borrow.Author.Rules.{rules}
 use Rattle.tokens.proofs.quick_reference.Goals as goal
 
 pub returns-then-text-from-eq35 : goal.returns-then-text-from-eq35

@@ -1,14 +1,13 @@
 -- `remember` enters the reference where it is short and eight bytes stand at its place: its word, shifted to its width, and its numbers go
 -- into the next of the four places, and nothing else of the memory changes; else the memory stays as it is.
 use mathlib.Core.Path.{refl, sym, ap, ◌∙◌}
-use mathlib.Core.Logic.{⊎_elim}
 use Prim.Native.Nat.{◌-◌, ◌*◌}
 use native.Mathlib.Omega.{arith}
 use lib.ListN.{get_or}
-use borrow.Author.Rules.{rules}
 use Rattle.tokens.specs.Seen.{moved_up, stays}
 use Rattle.tokens.proofs.Entries.{short_reference, next_first, next_after, size1, size2, size3, size4, size5, size6, remembered}
 use Rattle.tokens.proofs.remember.Goals as goal
+use Rattle.tokens.proofs.remember.Goals.{then-slot-eq-LAST_PLACE, else-slot-eq-LAST_PLACE}
 
 pub returns-then-width-text : goal.returns-then-width-text
 returns-then-width-text c =
@@ -73,4 +72,7 @@ returns c =
     let w = short_reference a.text.now a.place a.width c.if-width-text.false in
     remembered a.seen.now c.requires.seen_len.0 slot c.moved_up.result (64 - 8 * a.width) a.start a.count a.opened c.if-slot-eq-LAST_PLACE.seen c.requires.seen_len.1 a.text.now
     a.place a.width w.0 w.1 refl (c.moved_up.ensures ∙ ap (moved_up (64 - 8 * a.width)) c.word.ensures)
-    (⊎_elim (λ v. next_first c.if-slot-eq-LAST_PLACE.seen v.1) (λ v. next_after slot c.if-slot-eq-LAST_PLACE.seen c.requires.seen_len.1 v.0.left v.1) c.if-slot-eq-LAST_PLACE.branch)
+    (elim c.if-slot-eq-LAST_PLACE.branch [
+      | then-slot-eq-LAST_PLACE v ↦ next_first c.if-slot-eq-LAST_PLACE.seen v.seen-is
+      | else-slot-eq-LAST_PLACE v ↦ next_after slot c.if-slot-eq-LAST_PLACE.seen c.requires.seen_len.1 v.if-slot-eq-LAST_PLACE.false v.seen-is
+    ])

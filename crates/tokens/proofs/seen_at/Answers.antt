@@ -2,9 +2,8 @@
 use lib.ListN.{get_or}
 use mathlib.Core.Path.{sym, ap, ◌∙◌}
 use native.Mathlib.Omega.{arith}
-use borrow.Author.Rules.{rules}
 use Rattle.tokens.specs.Seen.{moved_up}
-use Prim.Native.Nat.{◌≤◌, ◌-◌, ℕ, zero-le, ◌+◌}
+use Prim.Native.Nat.{ℕ, zero-le, ◌+◌}
 use Rattle.tokens.proofs.seen_at.Goals as goal
 
 pub returns-then-text-at-lt8 : goal.returns-then-text-at-lt8

@@ -1,9 +1,4 @@
-use lib.ListN.{get_or}
-use mathlib.Core.Path.{sym, ap, ◌∙◌}
-use native.Mathlib.Omega.{arith}
-use borrow.Author.Rules.{rules}
-use Rattle.tokens.specs.Seen.{moved_up}
-use Prim.Native.Nat.{◌≤◌, ◌-◌, ℕ, zero-le, ◌+◌}
+use Prim.Native.Nat.{◌≤◌, ◌-◌}
 use Rattle.tokens.proofs.seen_at.Given as goal
 
 abbrev pub invariant-loop-k : goal.invariant-loop-k

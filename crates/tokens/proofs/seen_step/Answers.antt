@@ -3,13 +3,10 @@
 use Prim.Native.Nat.{◌+◌}
 use lib.ListN.{length, get_or, take, drop}
 use Rattle.tokens.proofs.Repeats.{again_none}
-use mathlib.Core.Path.{◌≡◌, refl, ap, ◌∙◌}
-use mathlib.Core.List.{◌++◌}
-use mathlib.Core.Logic.{⊎_elim}
+use mathlib.Core.Path.{refl, ap, ◌∙◌}
 use native.Mathlib.Omega.{arith}
-use Rattle.output.specs.Over.{over}
-use borrow.Author.Rules.{rules}
 use Rattle.tokens.proofs.seen_step.Goals as goal
+use Rattle.tokens.proofs.seen_step.Goals.{then-len-out+else-out-len, else-len-out}
 
 pub overflow_add-made-then-k-lt-PLACES : goal.overflow_add-made-then-k-lt-PLACES
 overflow_add-made-then-k-lt-PLACES c =
@@ -27,7 +24,8 @@ overflow_sub-result c =
     omega (arith, c.requires.kept.shifts c.seen_at-k.result c.if-k-lt-PLACES.true)
 
 pub shape_of-out-then-made-limit : goal.shape_of-out-then-made-limit
-shape_of-out-then-made-limit c = ⊎_elim (λ w. ap length w.7 ∙ w.4.ensures.0) (λ w. ap length w.1) c.if-len-out.branch
+shape_of-out-then-made-limit c =
+    elim c.if-len-out.branch [ then-len-out+else-out-len w ↦ ap length w.out-is ∙ w.put_again.ensures.0 | else-len-out w ↦ ap length w.out-is ]
 
 pub returns-then-made-limit : goal.returns-then-made-limit
 returns-then-made-limit c =
@@ -45,13 +43,12 @@ returns-then-made-limit c =
       size = refl;
       opens = refl;
       within = omega (arith, c.if-made-limit.true);
-      same_length = ⊎_elim {C = length out ≡ length a.out.now} (λ w. ap length w.7 ∙ w.4.ensures.0) (λ w. ap length w.1) c.if-len-out.branch;
+      same_length = elim c.if-len-out.branch [ then-len-out+else-out-len w ↦ ap length w.out-is ∙ w.put_again.ensures.0 | else-len-out w ↦ ap length w.out-is ];
       writes = λ value whole e n.
-          ⊎_elim
-          {C = out ≡ over (value ++ take count (drop start value)) whole}
-          (λ w. w.7 ∙ w.4.ensures.1 value whole e n)
-          (λ w. w.1 ∙ again_none value (take count (drop start value)) whole a.len e n w.0.left)
-          c.if-len-out.branch;
+          elim c.if-len-out.branch [
+            | then-len-out+else-out-len w ↦ w.out-is ∙ w.put_again.ensures.1 value whole e n
+            | else-len-out w ↦ w.out-is ∙ again_none value (take count (drop start value)) whole a.len e n w.if-len-out.false
+          ];
     }
 
 pub returns-else-made-limit : goal.returns-else-made-limit

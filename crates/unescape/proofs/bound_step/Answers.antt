@@ -3,7 +3,6 @@
 use mathlib.Core.Path.{sym, ap, subst}
 use Rattle.entity.specs.Binding.{Lies, bound_to}
 use Rattle.unescape.proofs.Stops.{named_text, named_external, named_predefined, named_unknown}
-use borrow.Author.Rules.{rules}
 use Rattle.unescape.proofs.bound_step.Goals as goal
 
 pub slice_bounds-put_over-count : goal.slice_bounds-put_over-count

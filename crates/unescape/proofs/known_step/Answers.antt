@@ -7,7 +7,6 @@ use Rattle.entity.specs.Binding.{Bound, binding}
 use Rattle.tokens.proofs.Repeats.{repeated, unwritten}
 use Rattle.unescape.proofs.Known.{known_again, known_once, known_kept}
 use Rattle.unescape.proofs.Turns.{referred_as}
-use borrow.Author.Rules.{rules}
 use Rattle.unescape.proofs.known_step.Goals as goal
 use Rattle.unescape.proofs.known_step.Goals.{Start}
 

@@ -1,6 +1,5 @@
 use mathlib.Core.Path.{refl}
 use Rattle.unescape.proofs.Stops.{named_as}
-use borrow.Author.Rules.{rules}
 use Rattle.unescape.proofs.name_step.Goals as goal
 
 pub returns-then-name-lt8 : goal.returns-then-name-lt8

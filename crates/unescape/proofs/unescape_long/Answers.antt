@@ -11,7 +11,6 @@ use Rattle.tokens.specs.Walking.{Walked}
 use Rattle.tokens.proofs.Finished.{ended_call, ended_refused, ended_short, ended_written}
 use Rattle.unescape.specs.Unescape.{unescape}
 use Rattle.unescape.proofs.Turns.{counted_none}
-use borrow.Author.Rules.{rules}
 use Rattle.unescape.proofs.unescape_long.Goals as goal
 use Rattle.unescape.proofs.unescape_long.Goals.{Start}
 

@@ -8,7 +8,6 @@ use borrow.Rule.Slice.PartMut.{put_mid}
 use Rattle.entity.specs.Binding.{Bound, binding}
 use Rattle.tokens.proofs.Steps.{walked_length}
 use Rattle.unescape.proofs.Turns.{Ran, ran_start, ran_length, ran_inside, ran_kept, ran_run, ran_near, ran_step, ran_refused, ran_end, amp_here}
-use borrow.Author.Rules.{rules}
 use Rattle.unescape.proofs.unescape_runs.Goals as goal
 use Rattle.unescape.proofs.unescape_runs.Goals.{After-known_step, After-run_to_amp-e, Start}
 
@@ -66,22 +65,22 @@ known_step-requires c =
 -- the step after the run
 pub overflow_add-len-in-Next : goal.overflow_add-len-in-Next
 overflow_add-len-in-Next c =
-    let n = ran_near (ran_on (goal.at.overflow_add-len-in-Next c).After-run_to_amp-e) c.Known-step.ensures c.in-Next.is in
+    let n = ran_near (ran_on (goal.at.overflow_add-len-in-Next c).After-run_to_amp-e) c.known_step.ensures c.in-Next.is in
     omega (arith, (ran_on (goal.at.overflow_add-len-in-Next c).After-run_to_amp-e).short, n.2, c.run_to_amp-e.ensures.0.run.to, c.requires.text_len_bound)
 
 pub loop-seen-smaller : goal.loop-seen-smaller
 loop-seen-smaller c =
-    let n = ran_near (ran_on (goal.at.loop-seen-smaller c).After-run_to_amp-e) c.Known-step.ensures c.in-Next.is in
+    let n = ran_near (ran_on (goal.at.loop-seen-smaller c).After-run_to_amp-e) c.known_step.ensures c.in-Next.is in
     omega (arith, n.0, n.1, c.run_to_amp-e.ensures.0.run.from)
 
 pub loop-seen-preserved : goal.loop-seen-preserved
 loop-seen-preserved c =
-    ran_step (ran_on (goal.at.loop-seen-preserved c).After-run_to_amp-e) c.Known-step.ensures (here (goal.at.loop-seen-preserved c).After-known_step) c.in-Next.is
+    ran_step (ran_on (goal.at.loop-seen-preserved c).After-run_to_amp-e) c.known_step.ensures (here (goal.at.loop-seen-preserved c).After-known_step) c.in-Next.is
 
 pub shape_of-out-in-Stopped : goal.shape_of-out-in-Stopped
 shape_of-out-in-Stopped c =
-    walked_length (ran_refused (ran_on (goal.at.shape_of-out-in-Stopped c).After-run_to_amp-e) c.Known-step.ensures (here (goal.at.shape_of-out-in-Stopped c).After-known_step) c.in-Stopped.is)
+    walked_length (ran_refused (ran_on (goal.at.shape_of-out-in-Stopped c).After-run_to_amp-e) c.known_step.ensures (here (goal.at.shape_of-out-in-Stopped c).After-known_step) c.in-Stopped.is)
 
 pub returns-in-Stopped : goal.returns-in-Stopped
 returns-in-Stopped c =
-    ran_refused (ran_on (goal.at.returns-in-Stopped c).After-run_to_amp-e) c.Known-step.ensures (here (goal.at.returns-in-Stopped c).After-known_step) c.in-Stopped.is
+    ran_refused (ran_on (goal.at.returns-in-Stopped c).After-run_to_amp-e) c.known_step.ensures (here (goal.at.returns-in-Stopped c).After-known_step) c.in-Stopped.is

@@ -1,12 +1,7 @@
-use native.Mathlib.Omega.{arith}
-use mathlib.Core.List.{List}
-use Prim.Native.Nat.{ℕ, ◌+◌, ◌-◌, ◌<◌}
+use Prim.Native.Nat.{◌-◌}
 use lib.ListN.{length}
-use borrow.Rule.Slice.PartMut.{put_mid}
-use Rattle.entity.specs.Binding.{Bound, binding}
-use Rattle.tokens.proofs.Steps.{walked_length}
-use Rattle.unescape.proofs.Turns.{Ran, ran_start, ran_length, ran_inside, ran_kept, ran_run, ran_near, ran_step, ran_refused, ran_end, amp_here}
-use borrow.Author.Rules.{rules}
+use Rattle.entity.specs.Binding.{binding}
+use Rattle.unescape.proofs.Turns.{Ran}
 use Rattle.unescape.proofs.unescape_runs.Given as goal
 
 abbrev pub invariant-loop-seen : goal.invariant-loop-seen

@@ -7,7 +7,6 @@ use Prim.Native.Nat.{ℕ}
 use Rattle.entity.specs.Binding.{Bound, binding}
 use Rattle.tokens.proofs.References.{digits_from}
 use Rattle.unescape.proofs.Stops.{referred_none, referred_number, referred_name, referred_char}
-use borrow.Author.Rules.{rules}
 use Rattle.unescape.proofs.unescape_step.Goals as goal
 use Rattle.unescape.proofs.unescape_step.Goals.{Start}
 

@@ -12,7 +12,6 @@ use Rattle.unescape.proofs.Turns.{own_value}
 use Prim.Native.Nat.{ℕ}
 use Rattle.entity.specs.Binding.{Bound, binding}
 use native.Mathlib.Omega.{arith}
-use borrow.Author.Rules.{rules}
 use Rattle.unescape.proofs.unescape_with.Goals as goal
 use Rattle.unescape.proofs.unescape_with.Goals.{Start}
 
@@ -43,12 +42,12 @@ returns-then-out-len c =
 
 pub slice_bounds-put_run-end : goal.slice_bounds-put_run-end
 slice_bounds-put_run-end c =
-    sym (length-take-le c.in-Done.len c.unescape_runs-counted.last.1.1.1.0 (omega (arith, c.if-len-le128.true, c.unescape_runs-counted.kept.1.1.1.0)))
+    sym (length-take-le c.in-Done.len c.unescape_runs-counted.new.out (omega (arith, c.if-len-le128.true, c.unescape_runs-counted.auto.out)))
 
 pub put_run-requires : goal.put_run-requires
 put_run-requires c =
-    rw (length-take-le c.in-Done.len c.unescape_runs-counted.last.1.1.1.0
-    (omega (arith, c.if-len-le128.true, c.unescape_runs-counted.kept.1.1.1.0))) (omega (arith, c.if-out-len.false))
+    rw (length-take-le c.in-Done.len c.unescape_runs-counted.new.out
+    (omega (arith, c.if-len-le128.true, c.unescape_runs-counted.auto.out))) (omega (arith, c.if-out-len.false))
 
 pub returns-then-len-le128 : goal.returns-then-len-le128
 returns-then-len-le128 c =

@@ -1,8 +1,5 @@
 -- `any_closing` tests `count` bytes with no branch (`Missed`): where nothing hit, `]]>` stands at none of them. Assumes nothing.
-use Prim.Native.Nat.{ℕ, ◌+◌, ◌-◌}
-use Rattle.text.proofs.Missed.{Missed, missed_start, missed_more, missed_all}
-use Rattle.utils.specs.Blocks.{closes_at}
-use borrow.Author.Rules.{rules}
+use Rattle.text.proofs.Missed.{missed_start, missed_more, missed_all}
 use Rattle.utils.proofs.any_closing.Goals as goal
 
 pub loop-k-init : goal.loop-k-init

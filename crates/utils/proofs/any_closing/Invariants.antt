@@ -1,7 +1,6 @@
 use Prim.Native.Nat.{ℕ, ◌+◌, ◌-◌}
-use Rattle.text.proofs.Missed.{Missed, missed_start, missed_more, missed_all}
+use Rattle.text.proofs.Missed.{Missed}
 use Rattle.utils.specs.Blocks.{closes_at}
-use borrow.Author.Rules.{rules}
 use Rattle.utils.proofs.any_closing.Given as goal
 
 abbrev pub invariant-loop-k : goal.invariant-loop-k

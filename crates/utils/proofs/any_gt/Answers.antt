@@ -1,11 +1,8 @@
 -- `any_gt` tests `count` bytes with no branch (`Missed`): where none is `>`, no `]]>` ends there. Assumes nothing.
-use Prim.Native.Nat.{ℕ, ◌+◌, ◌-◌}
+use Prim.Native.Nat.{◌+◌}
 use mathlib.Core.Path.{refl}
-use lib.Dec.{eqb}
-use lib.ListN.{get_or}
-use Rattle.text.proofs.Missed.{Missed, missed_start, missed_more, missed_all}
+use Rattle.text.proofs.Missed.{missed_start, missed_more, missed_all}
 use Rattle.utils.proofs.Cuts.{no_gt}
-use borrow.Author.Rules.{rules}
 use Rattle.utils.proofs.any_gt.Goals as goal
 
 pub loop-k-init : goal.loop-k-init

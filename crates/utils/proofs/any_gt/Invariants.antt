@@ -1,10 +1,7 @@
 use Prim.Native.Nat.{ℕ, ◌+◌, ◌-◌}
-use mathlib.Core.Path.{refl}
 use lib.Dec.{eqb}
 use lib.ListN.{get_or}
-use Rattle.text.proofs.Missed.{Missed, missed_start, missed_more, missed_all}
-use Rattle.utils.proofs.Cuts.{no_gt}
-use borrow.Author.Rules.{rules}
+use Rattle.text.proofs.Missed.{Missed}
 use Rattle.utils.proofs.any_gt.Given as goal
 
 abbrev pub invariant-loop-k : goal.invariant-loop-k

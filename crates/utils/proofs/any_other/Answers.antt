@@ -1,12 +1,8 @@
 -- `any_other` tests 32 bytes with no branch (`Missed`): where nothing hit, each of them is white space. Assumes nothing.
-use Prim.Native.Nat.{ℕ, ◌+◌, ◌-◌}
 use mathlib.Core.Path.{ap}
 use mathlib.Core.Bool.{not}
-use lib.ListN.{get_or}
 use borrow.Author.Tests.{not-false}
-use Rattle.text.proofs.Missed.{Missed, missed_start, missed_more, missed_all}
-use Rattle.utils.specs.Trim.{is_whitespace}
-use borrow.Author.Rules.{rules}
+use Rattle.text.proofs.Missed.{missed_start, missed_more, missed_all}
 use Rattle.utils.proofs.any_other.Goals as goal
 
 pub loop-k-init : goal.loop-k-init

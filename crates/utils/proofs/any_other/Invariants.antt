@@ -1,11 +1,8 @@
 use Prim.Native.Nat.{ℕ, ◌+◌, ◌-◌}
-use mathlib.Core.Path.{ap}
 use mathlib.Core.Bool.{not}
 use lib.ListN.{get_or}
-use borrow.Author.Tests.{not-false}
-use Rattle.text.proofs.Missed.{Missed, missed_start, missed_more, missed_all}
+use Rattle.text.proofs.Missed.{Missed}
 use Rattle.utils.specs.Trim.{is_whitespace}
-use borrow.Author.Rules.{rules}
 use Rattle.utils.proofs.any_other.Given as goal
 
 abbrev pub invariant-loop-k : goal.invariant-loop-k

@@ -4,7 +4,6 @@ use mathlib.Core.Path.{◌≡◌, sym, ◌∙◌}
 use mathlib.Core.Bool.{false}
 use Rattle.utils.specs.CData.{outside}
 use Rattle.utils.proofs.Cuts.{inside_le, step_outside, step_finished, step_last, step_cut}
-use borrow.Author.Rules.{rules}
 use Rattle.utils.proofs.cdata_step.Goals as goal
 use Rattle.utils.proofs.cdata_step.Goals.{Else-is_outside}
 

@@ -1,8 +1,6 @@
 -- `utils::drop_blanks` passes blocks of white space at the end. The invariant: the bytes passed are white space. Assumes nothing.
 use native.Mathlib.Omega.{arith}
-use Rattle.utils.specs.Blocks.{Dropped}
 use Rattle.utils.proofs.Trim.{dropped_block, dropped_none}
-use borrow.Author.Rules.{rules}
 use Rattle.utils.proofs.drop_blanks.Goals as goal
 
 pub returns-then-end-lt32 : goal.returns-then-end-lt32

@@ -1,7 +1,4 @@
-use native.Mathlib.Omega.{arith}
 use Rattle.utils.specs.Blocks.{Dropped}
-use Rattle.utils.proofs.Trim.{dropped_block, dropped_none}
-use borrow.Author.Rules.{rules}
 use Rattle.utils.proofs.drop_blanks.Given as goal
 
 abbrev pub invariant-loop-end : goal.invariant-loop-end

@@ -5,7 +5,6 @@ use Prim.Native.Nat.{◌-◌}
 use native.Mathlib.Omega.{arith}
 use lib.ListN.{length}
 use Rattle.utils.proofs.Cuts.{clear_part, not_true}
-use borrow.Author.Rules.{rules}
 use Rattle.utils.proofs.ends_clear.Goals as goal
 
 pub returns-then-text-lt34 : goal.returns-then-text-lt34

@@ -4,7 +4,6 @@ use native.Mathlib.Omega.{arith}
 use borrow.Author.Tests.{lt-ltb, le-ltb}
 use Rattle.utils.specs.CData.{outside}
 use Rattle.utils.proofs.Cuts.{at_end}
-use borrow.Author.Rules.{rules}
 use Rattle.utils.proofs.is_outside.Goals as goal
 
 pub returns-then-length-offset : goal.returns-then-length-offset

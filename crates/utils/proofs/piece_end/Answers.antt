@@ -1,11 +1,8 @@
 -- `utils::piece_end` finds the first cut. The invariant: the piece goes on to where the loop is. Assumes nothing.
-use Prim.Native.Nat.{◌-◌}
 use native.Mathlib.Omega.{arith}
 use mathlib.Core.Path.{sym, ◌∙◌}
-use lib.ListN.{length}
 use Rattle.utils.specs.Blocks.{Passed}
 use Rattle.utils.proofs.Cuts.{passed_on, passed_block, end_cut, end_last, end_clear, clear_one}
-use borrow.Author.Rules.{rules}
 use Rattle.utils.proofs.piece_end.Goals as goal
 use Rattle.utils.proofs.piece_end.Goals.{After-skip_blocks-i}
 

@@ -1,10 +1,6 @@
 -- `utils::skip_blanks` passes blocks of white space at the start. The invariant: the bytes passed are white space. Assumes nothing.
-use Prim.Native.Nat.{◌-◌}
 use native.Mathlib.Omega.{arith}
-use lib.ListN.{length}
-use Rattle.utils.specs.Blocks.{Skipped}
 use Rattle.utils.proofs.Trim.{skipped_block, skipped_none}
-use borrow.Author.Rules.{rules}
 use Rattle.utils.proofs.skip_blanks.Goals as goal
 
 pub returns-then-text-lt32 : goal.returns-then-text-lt32

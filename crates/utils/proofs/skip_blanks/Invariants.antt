@@ -1,9 +1,6 @@
 use Prim.Native.Nat.{◌-◌}
-use native.Mathlib.Omega.{arith}
 use lib.ListN.{length}
 use Rattle.utils.specs.Blocks.{Skipped}
-use Rattle.utils.proofs.Trim.{skipped_block, skipped_none}
-use borrow.Author.Rules.{rules}
 use Rattle.utils.proofs.skip_blanks.Given as goal
 
 abbrev pub invariant-loop-i : goal.invariant-loop-i

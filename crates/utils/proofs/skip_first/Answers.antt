@@ -1,7 +1,6 @@
 use native.Mathlib.Omega.{arith}
 use mathlib.Core.Path.{refl}
 use Rattle.utils.proofs.Cuts.{passed_block}
-use borrow.Author.Rules.{rules}
 use Rattle.utils.proofs.skip_first.Goals as goal
 
 pub returns : goal.returns

@@ -1,10 +1,7 @@
 -- `utils::trim_xml_end` counts from the end. The invariant: the bytes passed are white space. Assumes nothing.
 use native.Mathlib.Omega.{arith}
 use mathlib.Core.Path.{sym, ◌∙◌}
-use borrow.Author.Tests.{not-true, not-false}
-use Rattle.utils.specs.Blocks.{Dropped}
 use Rattle.utils.proofs.Trim.{kept_on, kept_stop, end_at}
-use borrow.Author.Rules.{rules}
 use Rattle.utils.proofs.trim_xml_end.Goals as goal
 
 pub loop-end-init : goal.loop-end-init

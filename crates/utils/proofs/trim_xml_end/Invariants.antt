@@ -1,9 +1,4 @@
-use native.Mathlib.Omega.{arith}
-use mathlib.Core.Path.{sym, ◌∙◌}
-use borrow.Author.Tests.{not-true, not-false}
 use Rattle.utils.specs.Blocks.{Dropped}
-use Rattle.utils.proofs.Trim.{kept_on, kept_stop, end_at}
-use borrow.Author.Rules.{rules}
 use Rattle.utils.proofs.trim_xml_end.Given as goal
 
 abbrev pub invariant-loop-end : goal.invariant-loop-end

@@ -1,6 +1,5 @@
 -- `utils::trim_xml_spaces` trims the end of what `trim_xml_start` leaves. Assumes nothing.
 use Rattle.utils.proofs.Trim.{start_fits, spaces_at}
-use borrow.Author.Rules.{rules}
 use Rattle.utils.proofs.trim_xml_spaces.Goals as goal
 
 pub slice_bounds-trim_xml_end-count : goal.slice_bounds-trim_xml_end-count

@@ -1,12 +1,7 @@
 -- `utils::trim_xml_start` counts the white space in front. The invariant: the bytes passed are white space. Assumes nothing.
-use Prim.Native.Nat.{◌-◌}
 use native.Mathlib.Omega.{arith}
 use mathlib.Core.Path.{sym, ◌∙◌}
-use lib.ListN.{length}
-use borrow.Author.Tests.{not-true, not-false}
-use Rattle.utils.specs.Blocks.{Skipped}
 use Rattle.utils.proofs.Trim.{blank_on, blank_stop, blank_over, start_at, start_none}
-use borrow.Author.Rules.{rules}
 use Rattle.utils.proofs.trim_xml_start.Goals as goal
 
 pub loop-i-init : goal.loop-i-init

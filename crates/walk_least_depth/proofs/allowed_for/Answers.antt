@@ -1,6 +1,5 @@
 -- The version gives how the value is read, the mark how the texts of the list are.
 use mathlib.Core.Path.{sym, ◌∙◌}
-use borrow.Author.Rules.{rules}
 use Rattle.walk_least_depth.proofs.allowed_for.Goals as goal
 
 pub returns-then-is_marked : goal.returns-then-is_marked

@@ -2,7 +2,6 @@
 use mathlib.Core.Path.{sym, ap}
 use borrow.Author.Tests.{ne_eqb}
 use Rattle.walk_least_depth.specs.Allowance.{least_answer}
-use borrow.Author.Rules.{rules}
 use Rattle.walk_least_depth.proofs.answer_of.Goals as goal
 
 pub returns-in-Enough : goal.returns-in-Enough

@@ -1,5 +1,4 @@
 -- By the one test.
-use mathlib.Core.Path.{refl}
 use borrow.Author.Tests.{lt-ltb, le-ltb}
 use Rattle.walk_least_depth.proofs.how_of.Goals as goal
 

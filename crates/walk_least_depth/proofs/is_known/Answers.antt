@@ -2,11 +2,10 @@
 use native.Mathlib.Omega.{arith}
 use mathlib.Core.Path.{sym}
 use mathlib.Core.Bool.{true≢false}
-use lib.ListN.{length, get_or}
+use lib.ListN.{get_or}
 use Prim.Native.Nat.{◌+◌}
 use borrow.Author.Tests.{leb-true}
 use Rattle.memory.proofs.Hits.{hit_tests}
-use borrow.Author.Rules.{rules}
 use Rattle.walk_least_depth.proofs.is_known.Goals as goal
 
 pub returns-then-room-slot : goal.returns-then-room-slot

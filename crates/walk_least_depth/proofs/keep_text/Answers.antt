@@ -1,13 +1,12 @@
 -- The front of the room is kept in and put back, then the text is made known: `room_kept`.
-use mathlib.Core.Path.{◌≡◌, sym, ap, subst, ◌∙◌}
+use mathlib.Core.Path.{◌≡◌, sym, subst, ◌∙◌}
 use mathlib.Core.List.{List}
 use Prim.Native.Nat.{ℕ}
 use native.Mathlib.Omega.{arith}
-use lib.ListN.{length, drop}
+use lib.ListN.{length}
 use lib.Seq.{length-take-le}
-use borrow.Author.Rules.{rules}
 use Rattle.memory.proofs.Keeping.{kept_length}
-use Rattle.walk_least_depth.specs.Allowance.{Remembers, known_in}
+use Rattle.walk_least_depth.specs.Allowance.{Remembers}
 use Rattle.walk_least_depth.proofs.NeedRooms.{room_kept, front_length}
 use Rattle.walk_least_depth.proofs.keep_text.Goals as goal
 use Rattle.walk_least_depth.proofs.keep_text.Goals.{After-keep, After-know}

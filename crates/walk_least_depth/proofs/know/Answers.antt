@@ -1,7 +1,6 @@
 -- Four stores, one after the other.
 use native.Mathlib.Omega.{arith}
 use lib.ListN.{length-set}
-use borrow.Author.Rules.{rules}
 use Rattle.walk_least_depth.proofs.know.Goals as goal
 
 pub bounds-room-slot-2 : goal.bounds-room-slot-2

@@ -1,10 +1,9 @@
 -- A simple text needs no depth (`simple_least`); of one without halts, and of any other, what is said is the definition's answer
 -- (`least_said`), since the outcomes are those of the definition (`smooth_are`, `outcomes_are`).
-use mathlib.Core.Path.{◌≡◌, sym, ◌∙◌, ap, subst}
+use mathlib.Core.Path.{sym, ◌∙◌, ap, subst}
 use native.Mathlib.Omega.{arith}
 use Prim.Native.Nat.{ℕ}
 use lib.Dec.{ltb}
-use borrow.Author.Rules.{rules}
 use Rattle.text.specs.Version.{rule_of}
 use Rattle.halts.specs.Halts.{Smooth}
 use Rattle.attribute.specs.Walk.{walk, reading_of}

@@ -1,5 +1,4 @@
 -- Words that are 0 are a room that keeps nothing (`new_room`).
-use borrow.Author.Rules.{rules}
 use Rattle.walk_least_depth.specs.Allowance.{outcomes}
 use Rattle.walk_least_depth.proofs.LeastAnswers.{new_room, keeps_says}
 use Rattle.walk_least_depth.proofs.need_of.Goals as goal

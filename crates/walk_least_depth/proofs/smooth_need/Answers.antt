@@ -1,17 +1,13 @@
 -- Without a stop the text is its own value at every depth (`smooth_none`); else depth 0 is used up, and depth 1 is enough (`smooth_some`).
-use mathlib.Core.Path.{◌≡◌, ◌∙◌, sym, ap, subst}
+use mathlib.Core.Path.{◌∙◌, sym, ap, subst}
 use mathlib.Core.Bool.{Bool}
-use Prim.Native.Nat.{ℕ}
-use lib.Dec.{eqb}
 use lib.ListN.{length}
-use borrow.Author.Tests.{not-true, not-false}
 use Rattle.halts.specs.Halts.{Smooth, any_stop, stop_byte}
 use Rattle.attribute.specs.Walk.{walk}
 use Rattle.attribute.specs.Steps.{read_by}
 use Rattle.walk_least_depth.specs.declared.Need.{Need}
 use Rattle.walk_least_depth.specs.Allowance.{Says}
 use Rattle.walk_least_depth.proofs.SmoothNeeds.{smooth_none, smooth_some, stops_deep}
-use borrow.Author.Rules.{rules}
 use Rattle.walk_least_depth.proofs.smooth_need.Goals as goal
 
 pub returns-then-not-has_stop : goal.returns-then-not-has_stop

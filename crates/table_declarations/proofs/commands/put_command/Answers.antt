@@ -1,9 +1,5 @@
 -- `put_command` writes the twelve bytes of the definition, each a remainder of a quotient.
 use Rattle.table_grammar.specs.TableWritten.{command_at}
-use borrow.Author.Rules.{rules}
-use Rattle.table_declarations.proofs.commands.put_command.Reads as reads
-use Rattle.table_declarations.proofs.commands.put_command.Lts as lts
-use Rattle.output.proofs.put_over.Reads as put-over-reads
 use Rattle.table_declarations.proofs.commands.put_command.Goals as goal
 
 pub returns : goal.returns

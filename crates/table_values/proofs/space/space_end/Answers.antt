@@ -1,8 +1,6 @@
 -- `space_end`: what was passed is white space (`Spacing`), until none stands there (`spacing_end`) or the text ends (`spacing_over`).
-use Prim.Native.Nat.{◌-◌}
 use native.Mathlib.Omega.{arith}
-use lib.ListN.{length}
-use Rattle.table_values.proofs.WhiteSpace.{Spacing, spacing_start, spacing_more, spacing_end, spacing_over}
+use Rattle.table_values.proofs.WhiteSpace.{spacing_start, spacing_more, spacing_end, spacing_over}
 use Rattle.table_values.proofs.space.space_end.Goals as goal
 
 pub loop-i-init : goal.loop-i-init

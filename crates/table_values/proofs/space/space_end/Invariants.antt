@@ -1,7 +1,6 @@
 use Prim.Native.Nat.{◌-◌}
-use native.Mathlib.Omega.{arith}
 use lib.ListN.{length}
-use Rattle.table_values.proofs.WhiteSpace.{Spacing, spacing_start, spacing_more, spacing_end, spacing_over}
+use Rattle.table_values.proofs.WhiteSpace.{Spacing}
 use Rattle.table_values.proofs.space.space_end.Given as goal
 
 abbrev pub invariant-loop-i : goal.invariant-loop-i

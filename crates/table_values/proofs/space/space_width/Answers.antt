@@ -1,5 +1,4 @@
 -- `space_width`: SPACE and TAB by themselves (`white_blank`), all else by whether a line end stands there (`white_line`).
-use borrow.Author.Rules.{rules}
 use Rattle.table_values.proofs.WhiteSpace.{white_blank, white_line}
 use Rattle.table_values.proofs.space.space_width.Goals as goal
 

@@ -2,7 +2,6 @@
 use mathlib.Core.Path.{refl}
 use Rattle.unescape.proofs.Stops.{named_as}
 use Rattle.unescape.proofs.Lending.{lent_kept}
-use borrow.Author.Rules.{rules}
 use Rattle.unescape.proofs.indexed.found_step.Goals as goal
 
 pub bound_step-requires : goal.bound_step-requires

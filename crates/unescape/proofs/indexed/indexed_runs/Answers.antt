@@ -11,8 +11,7 @@ use Rattle.runs.specs.RunEnds.{RunEnd, is_amp}
 use Rattle.tokens.proofs.Steps.{walked_length}
 use Rattle.unescape.proofs.Known.{Known}
 use Rattle.unescape.proofs.Turns.{Ran, ran_start, ran_length, ran_inside, ran_run, ran_near, ran_step, ran_refused, ran_end, amp_here}
-use Rattle.unescape.proofs.Lending.{Indexed, unkept, known_indexed}
-use borrow.Author.Rules.{rules}
+use Rattle.unescape.proofs.Lending.{unkept, known_indexed}
 use Rattle.unescape.proofs.indexed.indexed_runs.Goals as goal
 use Rattle.unescape.proofs.indexed.indexed_runs.Goals.{After-indexed_step, After-put_over, Start}
 

@@ -1,6 +1,5 @@
 use native.Mathlib.Omega.{arith}
 use Rattle.unescape.proofs.Lending.{lent_zeros}
-use borrow.Author.Rules.{rules}
 use Rattle.unescape.proofs.indexed.unescape_few.Goals as goal
 
 pub indexed_twice-requires : goal.indexed_twice-requires
