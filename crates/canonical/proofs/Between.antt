@@ -1,6 +1,6 @@
 -- The canonical form run by run: a run without U+0085 and U+2028 is written as level 3, each of those by its reference. Assumes nothing.
 use mathlib.Core.Path.{◌≡◌, refl, sym, ap, ap₂, ◌∙◌}
-use mathlib.Core.Bool.{Bool, true, false, not, true≢false}
+use mathlib.Core.Bool.{Bool, true, false, true≢false}
 use mathlib.Core.List.{List, [], ◌∷◌, ◌++◌, append_assoc}
 use Prim.Native.Nat.{ℕ, zero, suc, ◌+◌, ◌-◌, ◌*◌, ◌≤◌, ◌<◌}
 use native.Mathlib.Omega.{arith}
@@ -16,7 +16,7 @@ use Rattle.eols.specs.Stops.{rule_for}
 use Rattle.text.proofs.Patterns.{begins_fits}
 use Rattle.escape.specs.Escape.{attribute, level_set, write, write_byte}
 use Rattle.escape.proofs.Levels.{escape_most}
-use Rattle.canonical.specs.Canonical.{canonical_byte, covered, canonical_from, canonical}
+use Rattle.canonical.specs.Canonical.{canonical_byte, covered, canonical_from}
 use Rattle.runs.specs.Specials.{special, Common}
 use Rattle.canonical.specs.Runs.{special_reference}
 
@@ -82,16 +82,16 @@ special_fits t i h =
 -- ---- runs
 
 -- the older version has none at all
-pub common_older : (newer : Bool) (t : List ℕ) (i : ℕ) → not newer ≡ true → i ≤ length t → Common (rule_for newer) t i (length t)
+pub common_older : (newer : Bool) (t : List ℕ) (i : ℕ) → newer ≡ false → i ≤ length t → Common (rule_for newer) t i (length t)
 common_older false t i e h = record { from = h; to = omega arith; none = λ k a b. refl }
-common_older true t i e h = absurd (true≢false (sym e))
+common_older true t i e h = absurd (true≢false e)
 
-pub common_newer : (newer : Bool) (t : List ℕ) (i e : ℕ) → not newer ≡ false → Common xml11 t i e → Common (rule_for newer) t i e
-common_newer false t i e h p = absurd (true≢false h)
+pub common_newer : (newer : Bool) (t : List ℕ) (i e : ℕ) → newer ≡ true → Common xml11 t i e → Common (rule_for newer) t i e
+common_newer false t i e h p = absurd (true≢false (sym h))
 common_newer true t i e h p = p
 
-pub newer_special : (newer : Bool) (l : List ℕ) → not newer ≡ false → 0 < special xml11 l → 0 < special (rule_for newer) l
-newer_special false l h p = absurd (true≢false h)
+pub newer_special : (newer : Bool) (l : List ℕ) → newer ≡ true → 0 < special xml11 l → 0 < special (rule_for newer) l
+newer_special false l h p = absurd (true≢false (sym h))
 newer_special true l h p = p
 
 -- a run, and then the rest

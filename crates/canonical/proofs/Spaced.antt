@@ -14,9 +14,11 @@ use Rattle.text.specs.Bytes.{pick, begins}
 use Rattle.text.specs.Version.{Rule, xml10, xml11}
 use Rattle.text.proofs.Bytes.{or_left, or_right}
 use Rattle.halts.specs.Halts.{halts, Smooth, spaced, blanks_spaced}
+use Rattle.eols.specs.Stops.{rule_for}
 use Rattle.runs.specs.Specials.{special, Common}
 use Rattle.escape.specs.Escape.{Replacements, full, attribute, level_set, write, write_byte}
 use Rattle.escape.specs.Scan.{chars_set, level_chars, shown, Shows}
+use Rattle.escape.specs.declared.EscapeChars.{EscapeChars}
 use Rattle.escape.proofs.View.{Kind, Other, is_lt, is_gt, is_amp_lem, is_apos, is_quot, is_cr_lem, is_lf, is_tab, is_other, kind}
 use Rattle.escape.proofs.Levels.{chars_level}
 use Rattle.escape.proofs.Shown.{shown_length, shown_mid}
@@ -65,6 +67,21 @@ shown_special true r t i = ap (special r) (sym (spaced_drop i t)) ∙ spaced_spe
 pub shown_common : (s : Bool) {r : Rule} {t : List ℕ} {i e : ℕ} → Common r t i e → Common r (shown s t) i e
 shown_common s {r} {t} p =
     record { from = p.from; to = rw (shown_length s t) p.to; none = λ k g h. shown_special s r t k ∙ p.none k g h }
+
+-- where a run that is not the last ends: one of the two, so many bytes wide
+pub record Stop (newer : Bool) (t : List ℕ) (e width : ℕ) : Type 0 where
+  pub inside : e < length t
+  pub some : 0 < special (rule_for newer) (drop e t)
+  pub width_is : width ≡ special xml11 (drop e t)
+
+pub shown_stop : (newer s : Bool) (t : List ℕ) {e width : ℕ} → e < length t → (e < length t → 0 < special (rule_for newer) (drop e t))
+    → width ≡ special xml11 (drop e t) → Stop newer (shown s t) e width
+shown_stop newer s t {e} h some w =
+    record {
+      inside = omega (arith, h, shown_length s t);
+      some = omega (arith, shown_special s (rule_for newer) t e, some h);
+      width_is = w ∙ sym (shown_special s xml11 t e);
+    }
 
 -- ---- what is written
 
@@ -128,6 +145,10 @@ part_written s i n t = go s ∙ ap (write (level_set attribute)) (shown_mid s i 
     go : (s : Bool) → write (chars_set (level_chars (pick s full attribute))) (shown s (mid_of i n t)) ≡ write (level_set attribute) (shown s (mid_of i n t))
     go false = ap (λ (set : Replacements). write set (mid_of i n t)) (chars_level attribute)
     go true = ap (λ (set : Replacements). write set (blanks_spaced (mid_of i n t))) (chars_level full) ∙ spaced_write (mid_of i n t)
+
+pub part_of : (s : Bool) (i n : ℕ) (t : List ℕ) {chars : EscapeChars} → chars ≡ level_chars (pick s full attribute)
+    → write (chars_set chars) (shown s (mid_of i n t)) ≡ write (level_set attribute) (mid_of i n (shown s t))
+part_of s i n t e = ap (λ (chars : EscapeChars). write (chars_set chars) (shown s (mid_of i n t))) e ∙ part_written s i n t
 
 pub part_counted : (s : Bool) (l : List ℕ)
     → length (write (chars_set (level_chars (pick s full attribute))) l) ≡ length (write (chars_set (level_chars (pick s full attribute))) (shown s l))

@@ -24,7 +24,7 @@ use Rattle.memory.specs.Levels.{settings_of, Level, level_of, inner_level, Came,
 use Rattle.memory.specs.declared.Reading.{Reading}
 use Rattle.memory.specs.declared.Place.{Place}
 use Rattle.memory.specs.declared.Reached.{Reached}
-use Rattle.memory.specs.declared.Reached.TheVariants.{End, Opening}
+use Rattle.memory.specs.declared.Reached.TheVariants.{End, Opening, Paused}
 use Rattle.memory.specs.declared.Reached.TheVariants.{Stopped as Refusal}
 use Rattle.memory.proofs.Keeping.{kept_length}
 use Rattle.memory.proofs.Levels.{refuses_some, Sound, place_of, opened_plain, came_room, opens_lent, lent_on}
@@ -94,6 +94,9 @@ pub record Goes (l : Level) (base : ℕ) (p : Place) (old seen out words : List 
   pub came : (v whole : List ℕ) (begun : ℕ) → length v ≡ base → Came l v whole begun old seen p.at p.len p.openings
       → Came l v whole begun out words at len made
 
+pub goes_start : (l : Level) (base at len made : ℕ) (old seen : List ℕ) → Goes l base (place_of at len made) old seen old seen at len made
+goes_start l base at len made old seen = record { buffer = refl; kept = refl; came = λ v whole begun e c. c }
+
 -- at the reference to a text that is to be opened: what the step and what is kept of it ask
 pub record AtOpening (r : Reading) (list pool text : List ℕ) (at next command slot before made : ℕ) (words : List ℕ) : Type 0 where
   pub on : at < next
@@ -152,6 +155,12 @@ module _ (r : Reading) (list pool text : List ℕ) (p : Place) {old seen out wor
           words = f.words ∙ g.kept;
           finishes = λ v whole begun e c. turn_stopped level (refuses_some (reached is v whole begun e c));
         }
+
+    -- with a memory nothing is paused at
+    pub never_paused : {i before now : ℕ} → x ≡ Paused i before now → 84 ≤ length seen → ⊥
+    never_paused is full =
+        let o = subst (Onward (length text) at words) is f.onward in
+        omega (arith, full, g.kept, o.2)
 
     -- ---- an opening
 

@@ -4,7 +4,7 @@
 -- which walk a call asks for (`walk_for`, `call_bottom`, `call_spaced`, `call_barred`, `call_read`, `call_utf8`). Assumes nothing.
 use mathlib.Core.Path.{◌≡◌, refl, sym, ap, subst, ◌∙◌}
 use mathlib.Core.Logic.{◌≢◌}
-use mathlib.Core.Bool.{Bool, true, false, not}
+use mathlib.Core.Bool.{Bool, true, false}
 use mathlib.Core.List.{List, []}
 use Prim.Native.Nat.{ℕ, zero, suc, ◌+◌, ◌-◌, ◌*◌, ◌≤◌, ◌<◌}
 use native.Mathlib.Omega.{arith}
@@ -50,7 +50,7 @@ use Rattle.memory.specs.declared.Reached.TheVariants.{End, Opening, Paused, Stop
 use Rattle.memory.proofs.Shaped.{shaped_plain, shaped_form, shaped_most}
 use Rattle.memory.proofs.Fitted.{fitted_start}
 use Rattle.flat.specs.Between.{Writes}
-use Rattle.memory.proofs.Keeping.{memory_start, memory_zeros, memory_none, memory_forgot, memory_trusts}
+use Rattle.memory.proofs.Keeping.{memory_start, memory_none, memory_forgot, memory_trusts}
 use Rattle.halts.proofs.Spaces.{spaced_length}
 use Rattle.memory.proofs.Stretches.{smooth_part, smooth_run, smooth_whole}
 use Rattle.memory.proofs.Readings.{by_utf8}
@@ -317,14 +317,6 @@ form_laid short more out w h =
     form_written short more out w.0 fits ((w.1.fits [] out refl (fitted_start out)).holds fits)
 
 -- ---- the walk that a call asks for
-
-pub not_true : (x : Bool) → not x ≡ true → x ≡ false
-not_true true e = sym e
-not_true false e = refl
-
-pub not_false : (x : Bool) → not x ≡ false → x ≡ true
-not_false true e = refl
-not_false false e = sym e
 
 -- the value itself is written
 pub shown_plain : (o : Outcome) → written_in 0 false o ≡ o

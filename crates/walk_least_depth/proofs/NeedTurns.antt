@@ -21,7 +21,7 @@ use Rattle.memory.specs.Slots.{opening, shaped, slot_of, Stands, Memory}
 use Rattle.memory.specs.Levels.{Level, level_of, at_depth, left, Whole, Opens, Lent, FlatKeeps}
 use Rattle.memory.specs.declared.Reading.{Reading}
 use Rattle.memory.specs.declared.Reached.{Reached}
-use Rattle.memory.specs.declared.Reached.TheVariants.{End, Opening, Stopped}
+use Rattle.memory.specs.declared.Reached.TheVariants.{End, Opening, Paused, Stopped}
 use Rattle.memory.proofs.Slots.{opening_one, opening_within, stands_opened}
 use Rattle.memory.proofs.Levels.{place_of, Sound, opening_brief, text_short, walk_left, came_start, came_refused, came_room, opens_place, inner_room}
 use Rattle.memory.proofs.Readings.{by_inner, by_limit}
@@ -173,6 +173,12 @@ module _ (r : Reading) (list pool text : List ℕ) (openings : ℕ) where
                   refusal_same (all_left r.depth)
                   (needs_refused level refl g.v [] refl openings r.base g.at_base mine r.depth number a b now t.allowed (told q));
             }
+
+        -- with a memory nothing is paused at
+        pub never_paused : {i before now : ℕ} → x ≡ Paused i before now → ⊥
+        never_paused q =
+            let o = (told q).onward in
+            omega (arith, front_size, o.2)
 
         -- ---- an opening
 

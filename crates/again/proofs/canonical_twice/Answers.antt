@@ -2,7 +2,6 @@
 -- (`canonical_fits`), and what the second call leaves is that form (`canonical_read`).
 use Rattle.demands.specs.Demands.{Asked}
 use Rattle.demands.proofs.Again.{asked, canonical_stops, canonical_fits, canonical_read, taken_size}
-use borrow.Author.Rules.{rules}
 use Rattle.again.proofs.canonical_twice.Goals as goal
 use Rattle.again.proofs.canonical_twice.Goals.{After-govlezna_canonical_form-number}
 

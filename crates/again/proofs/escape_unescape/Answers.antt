@@ -1,7 +1,6 @@
 -- `escape_unescape`: a refusal of the first call is the answer (`escape_stops`); else the form lies in the first bytes of `out`
 -- (`escape_fits`), and what the second call leaves is the text (`escape_read`).
 use Rattle.demands.proofs.Again.{escape_stops, escape_fits, escape_read, taken_size}
-use borrow.Author.Rules.{rules}
 use Rattle.again.proofs.escape_unescape.Goals as goal
 
 pub returns-then-number-ne0 : goal.returns-then-number-ne0

@@ -1,10 +1,6 @@
 -- `any_changed_16` tests 16 bytes with no branch (`Missed`): where nothing hit, none of them is changed. Assumes nothing.
-use Prim.Native.Nat.{ℕ, ◌+◌, ◌-◌}
-use lib.ListN.{get_or}
-use Rattle.text.proofs.Missed.{Missed, missed_start, missed_more, missed_all}
+use Rattle.text.proofs.Missed.{missed_start, missed_more, missed_all}
 use Rattle.output.proofs.Runs.{plain_of}
-use Rattle.canonical.specs.Runs.{changed_by}
-use borrow.Author.Rules.{rules}
 use Rattle.canonical.proofs.any_changed_16.Goals as goal
 
 pub loop-k-init : goal.loop-k-init

@@ -1,9 +1,7 @@
 use Prim.Native.Nat.{ℕ, ◌+◌, ◌-◌}
 use lib.ListN.{get_or}
-use Rattle.text.proofs.Missed.{Missed, missed_start, missed_more, missed_all}
-use Rattle.output.proofs.Runs.{plain_of}
+use Rattle.text.proofs.Missed.{Missed}
 use Rattle.canonical.specs.Runs.{changed_by}
-use borrow.Author.Rules.{rules}
 use Rattle.canonical.proofs.any_changed_8.Given as goal
 
 abbrev pub invariant-loop-k : goal.invariant-loop-k

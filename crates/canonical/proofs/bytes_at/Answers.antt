@@ -1,9 +1,8 @@
 -- `bytes_at`: the first i bytes are there (`bytes_next`), so that the rest decides. Assumes nothing.
 use mathlib.Core.Path.{◌≡◌, refl, sym, ◌∙◌}
 use native.Mathlib.Omega.{arith}
-use Prim.Native.Nat.{◌+◌, ◌-◌, ◌≤◌, ◌<◌}
+use Prim.Native.Nat.{◌+◌, ◌<◌}
 use lib.ListN.{length, drop}
-use Rattle.text.specs.Bytes.{begins}
 use Rattle.canonical.proofs.LastCharacter.{bytes_next, bytes_differ, bytes_over}
 use Rattle.canonical.proofs.bytes_at.Goals as goal
 

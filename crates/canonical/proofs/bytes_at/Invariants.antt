@@ -1,9 +1,7 @@
-use mathlib.Core.Path.{◌≡◌, refl, sym, ◌∙◌}
-use native.Mathlib.Omega.{arith}
-use Prim.Native.Nat.{◌+◌, ◌-◌, ◌≤◌, ◌<◌}
+use mathlib.Core.Path.{◌≡◌}
+use Prim.Native.Nat.{◌+◌, ◌-◌, ◌≤◌}
 use lib.ListN.{length, drop}
 use Rattle.text.specs.Bytes.{begins}
-use Rattle.canonical.proofs.LastCharacter.{bytes_next, bytes_differ, bytes_over}
 use Rattle.canonical.proofs.bytes_at.Given as goal
 
 abbrev pub invariant-loop-i : goal.invariant-loop-i

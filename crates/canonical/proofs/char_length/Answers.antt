@@ -4,7 +4,6 @@ use native.Mathlib.Omega.{arith}
 use lib.ListN.{length}
 use Rattle.eols.specs.Stops.{rule_for}
 use Rattle.canonical.proofs.Characters.{char_added, char_special, apart, char_plain}
-use borrow.Author.Rules.{rules}
 use Rattle.canonical.proofs.char_length.Goals as goal
 
 pub returns-then-c-lt128 : goal.returns-then-c-lt128

@@ -1,6 +1,5 @@
 -- `ends_with`: a form that is shorter ends with none of the bytes (`ends_short`). Assumes nothing.
 use Rattle.canonical.proofs.LastCharacter.{ends_short}
-use borrow.Author.Rules.{rules}
 use Rattle.canonical.proofs.ends_with.Goals as goal
 
 pub returns-then-form-bytes : goal.returns-then-form-bytes

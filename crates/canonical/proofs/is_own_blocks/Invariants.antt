@@ -1,12 +1,7 @@
-use mathlib.Core.Path.{sym}
-use mathlib.Core.Bool.{true≢false}
-use Prim.Native.Nat.{◌-◌, zero-le}
-use native.Mathlib.Omega.{arith}
+use Prim.Native.Nat.{◌-◌}
 use lib.ListN.{length}
 use Rattle.output.specs.Runs.{Plain}
-use Rattle.output.proofs.Runs.{plain_none}
 use Rattle.canonical.specs.Runs.{changed_by}
-use Rattle.canonical.proofs.Own.{block_more, block_last}
 use Rattle.canonical.proofs.is_own_blocks.Given as goal
 
 abbrev pub invariant-loop-newer : goal.invariant-loop-newer

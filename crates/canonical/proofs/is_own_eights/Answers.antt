@@ -1,12 +1,9 @@
 -- `is_own_eights`: no byte before i is changed; the last block starts before i where the run is no multiple of 8. Assumes nothing.
 use mathlib.Core.Path.{sym}
 use mathlib.Core.Bool.{true≢false}
-use Prim.Native.Nat.{◌-◌, zero-le}
+use Prim.Native.Nat.{zero-le}
 use native.Mathlib.Omega.{arith}
-use lib.ListN.{length}
-use Rattle.output.specs.Runs.{Plain}
 use Rattle.output.proofs.Runs.{plain_none}
-use Rattle.canonical.specs.Runs.{changed_by}
 use Rattle.canonical.proofs.Own.{block_more, block_last}
 use Rattle.canonical.proofs.is_own_eights.Goals as goal
 

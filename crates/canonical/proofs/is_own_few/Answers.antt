@@ -1,13 +1,9 @@
 -- `is_own_few`: no byte before i is changed. Assumes nothing.
 use mathlib.Core.Path.{sym, ◌∙◌}
 use mathlib.Core.Bool.{true≢false}
-use Prim.Native.Nat.{◌-◌, zero-le}
-use lib.ListN.{length}
-use Rattle.output.specs.Runs.{Plain}
+use Prim.Native.Nat.{zero-le}
 use Rattle.output.proofs.Runs.{plain_none, plain_byte, plain_join}
-use Rattle.canonical.specs.Runs.{changed_by}
 use Rattle.canonical.proofs.Own.{plain_whole}
-use borrow.Author.Rules.{rules}
 use Rattle.canonical.proofs.is_own_few.Goals as goal
 
 pub loop-i-init : goal.loop-i-init

@@ -1,12 +1,7 @@
-use mathlib.Core.Path.{sym, ◌∙◌}
-use mathlib.Core.Bool.{true≢false}
-use Prim.Native.Nat.{◌-◌, zero-le}
+use Prim.Native.Nat.{◌-◌}
 use lib.ListN.{length}
 use Rattle.output.specs.Runs.{Plain}
-use Rattle.output.proofs.Runs.{plain_none, plain_byte, plain_join}
 use Rattle.canonical.specs.Runs.{changed_by}
-use Rattle.canonical.proofs.Own.{plain_whole}
-use borrow.Author.Rules.{rules}
 use Rattle.canonical.proofs.is_own_few.Given as goal
 
 abbrev pub invariant-loop-i : goal.invariant-loop-i

@@ -1,6 +1,5 @@
 -- Whichever way tests the run: where none of its bytes is changed it is its own form (`own_form`). Assumes nothing.
 use Rattle.canonical.proofs.Own.{own_form}
-use borrow.Author.Rules.{rules}
 use Rattle.canonical.proofs.is_own_form.Goals as goal
 
 pub returns-then-n-lt8 : goal.returns-then-n-lt8

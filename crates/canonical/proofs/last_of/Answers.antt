@@ -1,11 +1,9 @@
 -- `last_of`: a `;` at the end is that of a reference, or the character (`last_named_lem`); else the character stands there (`ends_as_is`). Assumes nothing.
 use mathlib.Core.Path.{sym, ap, ◌∙◌}
-use Prim.Native.Nat.{◌-◌}
 use native.Mathlib.Omega.{arith}
 use borrow.Author.Tests.{eq-eqb, ne_eqb}
 use Rattle.canonical.specs.LastCharacter.{filled_up}
 use Rattle.canonical.proofs.LastCharacter.{ending, form_some, ends_as_is, ends_raw, last_named_lem}
-use borrow.Author.Rules.{rules}
 use Rattle.canonical.proofs.last_of.Goals as goal
 
 pub overflow_sub-form : goal.overflow_sub-form

@@ -1,10 +1,8 @@
 -- `next_special`: under XML 1.0 there is none (`common_older`); else what is passed stays without one, by blocks and then byte by byte.
 use mathlib.Core.Path.{sym, ◌∙◌}
 use native.Mathlib.Omega.{arith}
-use Prim.Native.Nat.{◌-◌}
-use lib.ListN.{length, drop}
+use lib.ListN.{drop}
 use Rattle.text.specs.Version.{xml11}
-use Rattle.runs.specs.Specials.{Common}
 use Rattle.runs.proofs.Specials.{common_join, common_one}
 use Rattle.canonical.proofs.Between.{common_older, common_newer, newer_special}
 use Rattle.canonical.proofs.next_special.Goals as goal

@@ -5,7 +5,6 @@ use native.Mathlib.Omega.{arith}
 use lib.ListN.{length}
 use lib.Seq.{sets, lt-length-sets}
 use Rattle.canonical.proofs.LastCharacter.{hand_laid}
-use borrow.Author.Rules.{rules}
 use Rattle.canonical.proofs.put_hand.Goals as goal
 use Rattle.canonical.proofs.put_hand.Goals.{After-last_of-hand}
 

@@ -1,6 +1,5 @@
 use mathlib.Core.Path.{◌∙◌}
 use borrow.Author.Tests.{eq-eqb, ne_eqb}
-use borrow.Author.Rules.{rules}
 use Rattle.canonical.proofs.put_special.Goals as goal
 
 pub put_run-requires : goal.put_run-requires

@@ -1,10 +1,8 @@
 -- `raw_hand`: the bytes at the end tell how many of them are the character (`Back`). Assumes nothing.
 use mathlib.Core.Path.{sym, ap, ◌∙◌}
 use native.Mathlib.Omega.{arith}
-use Prim.Native.Nat.{◌-◌}
 use Rattle.canonical.specs.LastCharacter.{filled_up}
 use Rattle.canonical.proofs.LastCharacter.{Back, seen, back_some, back_one, more_than_1, back_two, more_than_2, back_three, more_than_3, back_four}
-use borrow.Author.Rules.{rules}
 use Rattle.canonical.proofs.raw_hand.Goals as goal
 use Rattle.canonical.proofs.raw_hand.Goals.{Start}
 

@@ -4,7 +4,6 @@ use mathlib.Core.Bool.{Bool}
 use Rattle.text.specs.Bytes.{pick}
 use Rattle.escape.specs.Escape.{full, attribute, level_of}
 use Rattle.escape.specs.Scan.{level_chars}
-use borrow.Author.Rules.{rules}
 use Rattle.canonical.proofs.run_chars.Goals as goal
 
 pub returns-then-spaces : goal.returns-then-spaces

@@ -4,7 +4,6 @@ use lib.ListN.{drop}
 use mathlib.Core.List.{[], ◌∷◌}
 use Rattle.runs.proofs.Specials.{special_nel, special_ls, special_none}
 use Rattle.text.proofs.Patterns.{begins_cons}
-use borrow.Author.Rules.{rules}
 use Rattle.canonical.proofs.special_width.Goals as goal
 
 pub returns-then-two_at : goal.returns-then-two_at

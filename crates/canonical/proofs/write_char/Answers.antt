@@ -1,5 +1,5 @@
 -- `write_char`: each way out by the law of its kind of character (proofs/Characters.antt). Assumes nothing.
-use mathlib.Core.Path.{◌≡◌, ap}
+use mathlib.Core.Path.{◌≡◌}
 use native.Mathlib.Omega.{arith}
 use Rattle.eols.specs.Stops.{rule_for}
 use Rattle.charref.specs.CharRef.{encode}
@@ -7,7 +7,6 @@ use Rattle.canonical.specs.Canonical.{canonical}
 use Rattle.canonical.proofs.Characters.{char_reference, char_special, apart, char_plain}
 use Rattle.escape.proofs.Levels.{reference_room, reference_put}
 use Rattle.escape.specs.Scan.{reference_by}
-use borrow.Author.Rules.{rules}
 use Rattle.canonical.proofs.write_char.Goals as goal
 use Rattle.canonical.proofs.write_char.Goals.{Else-newer-c-2}
 

@@ -1,21 +1,9 @@
-use mathlib.Core.Path.{◌≡◌, sym, ap, ◌∙◌}
-use native.Mathlib.Omega.{arith}
-use mathlib.Core.List.{List}
-use Prim.Native.Nat.{ℕ, ◌+◌, ◌-◌, ◌≤◌, ◌<◌}
+use Prim.Native.Nat.{◌-◌, ◌≤◌}
 use lib.ListN.{length, drop}
-use borrow.Rule.Slice.PartMut.{mid_of, put_mid}
-use Rattle.text.specs.Version.{xml11}
 use Rattle.eols.specs.Stops.{rule_for}
-use Rattle.output.proofs.Written.{Written, written_start, written_as, written_all, written_end, to_come, same_length as same}
-use Rattle.runs.specs.Specials.{special, Common}
-use Rattle.escape.specs.Escape.{attribute, level_set, write}
-use Rattle.escape.specs.Scan.{chars_set, shown}
-use Rattle.escape.specs.declared.EscapeChars.{EscapeChars}
-use Rattle.escape.proofs.Shown.{shown_length}
+use Rattle.output.proofs.Written.{Written}
+use Rattle.escape.specs.Scan.{shown}
 use Rattle.canonical.specs.Canonical.{canonical_from, canonical}
-use Rattle.canonical.proofs.Between.{canonical_over, run_room, run_written, own_least, own_inside, own_room, own_written}
-use Rattle.canonical.proofs.Spaced.{shown_special, shown_common, run_shows, part_written}
-use borrow.Author.Rules.{rules}
 use Rattle.canonical.proofs.write_form.Given as goal
 
 abbrev pub invariant-loop-chars : goal.invariant-loop-chars

@@ -3,7 +3,6 @@ use native.Mathlib.Omega.{arith}
 use lib.ListN.{take}
 use Rattle.register.specs.Places.{entries_in}
 use Rattle.changes.proofs.Leaves.{append_refuses, append_leaves}
-use borrow.Author.Rules.{rules}
 use Rattle.changes.proofs.append.Goals as goal
 
 pub returns-then-buffer-used-lt8 : goal.returns-then-buffer-used-lt8

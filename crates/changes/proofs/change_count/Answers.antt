@@ -2,7 +2,6 @@
 use lib.ListN.{take}
 use Rattle.register.specs.Places.{entries_in}
 use Rattle.changes.proofs.Leaves.{count_leaves}
-use borrow.Author.Rules.{rules}
 use Rattle.changes.proofs.change_count.Goals as goal
 
 pub returns : goal.returns

@@ -1,8 +1,7 @@
 -- `clear` keeps: the first i bytes are zeros laid over the part (`Laying`).
 use Prim.Native.Nat.{◌-◌}
 use native.Mathlib.Omega.{arith}
-use lib.ListN.{length, replicate}
-use Rattle.output.proofs.Laid.{Laying, laying_none}
+use Rattle.output.proofs.Laid.{laying_none}
 use Rattle.changes.proofs.Writing.{zero_next, zero_all}
 use Rattle.changes.proofs.clear.Goals as goal
 

@@ -1,8 +1,6 @@
 use Prim.Native.Nat.{◌-◌}
-use native.Mathlib.Omega.{arith}
 use lib.ListN.{length, replicate}
-use Rattle.output.proofs.Laid.{Laying, laying_none}
-use Rattle.changes.proofs.Writing.{zero_next, zero_all}
+use Rattle.output.proofs.Laid.{Laying}
 use Rattle.changes.proofs.clear.Given as goal
 
 abbrev pub invariant-loop-i : goal.invariant-loop-i

@@ -2,7 +2,7 @@
 use Prim.Native.Nat.{◌-◌}
 use native.Mathlib.Omega.{arith}
 use lib.ListN.{drop, length-drop}
-use Rattle.output.proofs.Laid.{Laying, laying_none, laying_all}
+use Rattle.output.proofs.Laid.{laying_none, laying_all}
 use Rattle.changes.proofs.Writing.{gap_next}
 use Rattle.changes.proofs.close_gap.Goals as goal
 

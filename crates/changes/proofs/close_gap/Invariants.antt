@@ -1,8 +1,6 @@
 use Prim.Native.Nat.{◌-◌}
-use native.Mathlib.Omega.{arith}
-use lib.ListN.{drop, length-drop}
-use Rattle.output.proofs.Laid.{Laying, laying_none, laying_all}
-use Rattle.changes.proofs.Writing.{gap_next}
+use lib.ListN.{drop}
+use Rattle.output.proofs.Laid.{Laying}
 use Rattle.changes.proofs.close_gap.Given as goal
 
 abbrev pub invariant-loop-i : goal.invariant-loop-i

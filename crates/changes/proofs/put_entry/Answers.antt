@@ -1,6 +1,5 @@
 -- `put_entry`: length, count and form, one after the other (`entry_laid`).
 use Rattle.changes.proofs.Writing.{entry_laid}
-use borrow.Author.Rules.{rules}
 use Rattle.changes.proofs.put_entry.Goals as goal
 
 pub returns : goal.returns

@@ -3,7 +3,6 @@ use native.Mathlib.Omega.{arith}
 use lib.ListN.{set}
 use lib.Seq.{lt-length-set}
 use Rattle.changes.proofs.Writing.{u32_laid}
-use borrow.Author.Rules.{rules}
 use Rattle.changes.proofs.put_u32.Goals as goal
 
 pub bounds-out-1 : goal.bounds-out-1

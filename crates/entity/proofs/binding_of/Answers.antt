@@ -1,6 +1,5 @@
 -- `binding_of` is a referent without the command, case by case (`refers_resolved`).
 use Rattle.entity.proofs.Referents.{refers_resolved}
-use borrow.Author.Rules.{rules}
 use Rattle.entity.proofs.binding_of.Goals as goal
 
 pub returns-in-Text : goal.returns-in-Text

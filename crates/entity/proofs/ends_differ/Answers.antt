@@ -5,7 +5,6 @@ use borrow.Author.Tests.{not-true, eqb-false}
 use lib.ListN.{length}
 use Prim.Native.Nat.{◌-◌}
 use Rattle.entity.proofs.Lookup.{differ_u32}
-use borrow.Author.Rules.{rules}
 use Rattle.entity.proofs.ends_differ.Goals as goal
 
 pub returns-then-name-lt4 : goal.returns-then-name-lt4

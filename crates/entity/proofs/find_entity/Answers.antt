@@ -2,8 +2,6 @@
 -- on (`refers_moved`).
 use mathlib.Core.Path.{◌≡◌, sym, ◌∙◌}
 use native.Mathlib.Omega.{arith}
-use borrow.Author.Rules.{rules}
-use borrow.Author.Tests.{not-true, not-false}
 use Rattle.entity.specs.Table.{mark_size}
 use Rattle.entity.proofs.Commands.{mark_fits, mark_is}
 use Rattle.entity.proofs.Lookup.{begin, begin_rest}
@@ -13,12 +11,12 @@ use Rattle.entity.proofs.find_entity.Goals.{Else-not-is_marked}
 
 -- the mark takes up one byte
 one : (c : Else-not-is_marked) → 1 ≡ mark_size c.args.list.now
-one c = mark_is c.args.list.now (sym (not-false c.is_marked.result c.if-not-is_marked.false) ∙ c.is_marked.ensures)
+one c = mark_is c.args.list.now (sym c.if-not-is_marked.false ∙ c.is_marked.ensures)
 
 pub find_unmarked-requires : goal.find_unmarked-requires
 find_unmarked-requires c =
     let list = c.args.list.now in
-    begin list c.args.pool.now c.args.name.now c.requires (mark_is list (sym (not-true c.is_marked.result c.if-not-is_marked.true) ∙ c.is_marked.ensures))
+    begin list c.args.pool.now c.args.name.now c.requires (mark_is list (sym c.if-not-is_marked.true ∙ c.is_marked.ensures))
 
 pub slice_bounds-find_unmarked-count : goal.slice_bounds-find_unmarked-count
 slice_bounds-find_unmarked-count c = omega (arith, one c, mark_fits c.args.list.now)

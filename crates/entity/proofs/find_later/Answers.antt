@@ -3,17 +3,16 @@
 use mathlib.Core.Path.{◌≡◌, refl, sym, ◌∙◌}
 use mathlib.Core.Bool.{true, false}
 use native.Mathlib.Omega.{arith}
-use borrow.Author.Rules.{rules}
 use lib.ListN.{length, get_or}
 use Prim.Native.Nat.{ℕ, ◌+◌, ◌-◌, ◌≤◌}
 use Rattle.text.specs.Bytes.{same_bytes}
 use Rattle.entity.specs.Table.{little_endian, part, declares}
-use Rattle.entity.specs.Steps.{command_size, Agree, Here}
+use Rattle.entity.specs.Steps.{command_size, Here}
 use Rattle.entity.proofs.Commands.{size_some, size_one}
 use Rattle.entity.proofs.Lookup.{in_list, over, end_declares, here_declares, Declared, declared, passed_by, agree_more, same_all, differ_length, differ_at, same_part}
 use Rattle.entity.proofs.Referents.{refers_hit}
 use Rattle.entity.proofs.find_later.Goals as goal
-use Rattle.entity.proofs.find_later.Goals.{After-u32_at-first, Else-ends_differ, Else-i-length, Else-length-name, Else-list-at-eq0}
+use Rattle.entity.proofs.find_later.Goals.{After-u32_at-first, Else-list-at-eq0}
 
 -- the command's byte declares; its operands are in the list, its name in the pool
 is : (c : Else-list-at-eq0) → declares (get_or c.args.list.now c.commands.at 0) ≡ true
@@ -23,24 +22,24 @@ known : (c : Else-list-at-eq0) → Declared c.args.list.now c.args.pool.now c.co
 known c = declared c.commands.invariant (is c)
 
 six : (c : Else-list-at-eq0) → c.commands.at + 6 ≤ length c.args.list.now
-six c = omega (arith, (known c).ranges, size_some (get_or c.args.list.now c.commands.at 0))
+six c = omega (arith, (known c).fits, size_some (get_or c.args.list.now c.commands.at 0))
 
 -- the name's bytes are in the pool
 inside : (c : After-u32_at-first) → c.u32_at-first.result + length c.args.name.now ≤ length c.args.pool.now
 inside c = omega (arith, (declared c.commands.invariant (here_declares c.commands.invariant c.if-list-at-eq0.false)).name, c.u32_at-first.ensures.0, c.wide-length.ensures.0, c.if-length-name.false)
 
 -- past a command of another name: inside the list, nearer to its end, and the lookup stands there
-module _ (c : Else-list-at-eq0) {size : ℕ} (w : size ≡ command_size (get_or (entry c).args.list.now (turn c).commands.at 0)) where
-  past : (turn c).commands.at + size ≤ length (entry c).args.list.now
-  past = omega (arith, (known c).ranges, w)
+module _ (c : Else-list-at-eq0) {size : ℕ} (w : size ≡ command_size (get_or c.args.list.now c.commands.at 0)) where
+  past : c.commands.at + size ≤ length c.args.list.now
+  past = omega (arith, (known c).fits, w)
 
   wide_step : 6 ≤ size
-  wide_step = omega (arith, w, size_some (get_or (entry c).args.list.now (turn c).commands.at 0))
+  wide_step = omega (arith, w, size_some (get_or c.args.list.now c.commands.at 0))
 
-  passes : {start n : ℕ} → start ≡ little_endian (entry c).args.list.now ((turn c).commands.at + 1) 4 → n ≡ get_or (entry c).args.list.now ((turn c).commands.at + 5) 0
-      → same_bytes (part (entry c).args.pool.now start n) (entry c).args.name.now ≡ false
-      → Here (entry c).args.list.now (entry c).args.pool.now (entry c).args.name.now ((turn c).commands.at + size)
-  passes s n e = passed_by (turn c).commands.invariant (is c) w (same_part (entry c).args.pool.now (entry c).args.name.now s n e)
+  passes : {start n : ℕ} → start ≡ little_endian c.args.list.now (c.commands.at + 1) 4 → n ≡ get_or c.args.list.now (c.commands.at + 5) 0
+      → same_bytes (part c.args.pool.now start n) c.args.name.now ≡ false
+      → Here c.args.list.now c.args.pool.now c.args.name.now (c.commands.at + size)
+  passes s n e = passed_by c.commands.invariant (is c) w (same_part c.args.pool.now c.args.name.now s n e)
 
 pub commands-init : goal.commands-init
 commands-init c = c.requires
@@ -49,7 +48,7 @@ pub bounds-list-at : goal.bounds-list-at
 bounds-list-at c = in_list c.commands.invariant
 
 pub overflow_add-at : goal.overflow_add-at
-overflow_add-at c = omega (arith, six c)
+overflow_add-at c = omega (arith, six (goal.at.overflow_add-at c).Else-list-at-eq0)
 
 pub bounds-list-at-in-commands : goal.bounds-list-at-in-commands
 bounds-list-at-in-commands c = omega (arith, six (goal.at.bounds-list-at-in-commands c).Else-list-at-eq0)
@@ -59,17 +58,17 @@ pub bounds-list-at-then-length-name : goal.bounds-list-at-then-length-name
 bounds-list-at-then-length-name c = in_list c.commands.invariant
 
 pub overflow_add-at-then-length-name : goal.overflow_add-at-then-length-name
-overflow_add-at-then-length-name c = omega (arith, past c c.command_size-at.ensures.0)
+overflow_add-at-then-length-name c = omega (arith, past (goal.at.overflow_add-at-then-length-name c).Else-list-at-eq0 c.command_size-at.ensures.0)
 
 pub commands-smaller-then-length-name : goal.commands-smaller-then-length-name
 commands-smaller-then-length-name c =
-    omega (arith, in_list c.commands.invariant, wide_step c c.command_size-at.ensures.0)
+    omega (arith, in_list c.commands.invariant, wide_step (goal.at.commands-smaller-then-length-name c).Else-list-at-eq0 c.command_size-at.ensures.0)
 
 pub commands-preserved-then-length-name : goal.commands-preserved-then-length-name
 commands-preserved-then-length-name c =
     let asked = c.args in
     let start = little_endian asked.list.now (c.commands.at + 1) 4 in
-    passes c c.command_size-at.ensures.0 refl c.wide-length.ensures.0
+    passes (goal.at.commands-preserved-then-length-name c).Else-list-at-eq0 c.command_size-at.ensures.0 refl c.wide-length.ensures.0
     (differ_length asked.pool.now start asked.name.now c.wide-length.result (omega (arith, (known (goal.at.commands-preserved-then-length-name c).Else-list-at-eq0).name, c.wide-length.ensures.0)) c.if-length-name.true)
 
 pub overflow_add-at-in-commands : goal.overflow_add-at-in-commands
@@ -86,15 +85,15 @@ pub bounds-list-at-then-ends_differ : goal.bounds-list-at-then-ends_differ
 bounds-list-at-then-ends_differ c = in_list c.commands.invariant
 
 pub overflow_add-at-then-ends_differ : goal.overflow_add-at-then-ends_differ
-overflow_add-at-then-ends_differ c = omega (arith, past c c.command_size-at-then-ends_differ.ensures.0)
+overflow_add-at-then-ends_differ c = omega (arith, past (goal.at.overflow_add-at-then-ends_differ c).Else-list-at-eq0 c.command_size-at-then-ends_differ.ensures.0)
 
 pub commands-smaller-then-ends_differ : goal.commands-smaller-then-ends_differ
 commands-smaller-then-ends_differ c =
-    omega (arith, in_list c.commands.invariant, wide_step c c.command_size-at-then-ends_differ.ensures.0)
+    omega (arith, in_list c.commands.invariant, wide_step (goal.at.commands-smaller-then-ends_differ c).Else-list-at-eq0 c.command_size-at-then-ends_differ.ensures.0)
 
 pub commands-preserved-then-ends_differ : goal.commands-preserved-then-ends_differ
 commands-preserved-then-ends_differ c =
-    passes c c.command_size-at-then-ends_differ.ensures.0 c.u32_at-first.ensures.0 (sym c.if-length-name.false ∙ c.wide-length.ensures.0)
+    passes (goal.at.commands-preserved-then-ends_differ c).Else-list-at-eq0 c.command_size-at-then-ends_differ.ensures.0 c.u32_at-first.ensures.0 (sym c.if-length-name.false ∙ c.wide-length.ensures.0)
     (c.ends_differ.ensures c.if-ends_differ.true)
 
 pub referent_at-found-requires : goal.referent_at-found-requires
@@ -136,16 +135,16 @@ pub bounds-list-at-in-commands-2 : goal.bounds-list-at-in-commands-2
 bounds-list-at-in-commands-2 c = in_list c.commands.invariant
 
 pub overflow_add-at-in-commands-2 : goal.overflow_add-at-in-commands-2
-overflow_add-at-in-commands-2 c = omega (arith, past c c.command_size-at-in-commands.ensures.0)
+overflow_add-at-in-commands-2 c = omega (arith, past (goal.at.overflow_add-at-in-commands-2 c).Else-list-at-eq0 c.command_size-at-in-commands.ensures.0)
 
 pub commands-smaller : goal.commands-smaller
 commands-smaller c =
-    omega (arith, in_list c.commands.invariant, wide_step c c.command_size-at-in-commands.ensures.0)
+    omega (arith, in_list c.commands.invariant, wide_step (goal.at.commands-smaller c).Else-list-at-eq0 c.command_size-at-in-commands.ensures.0)
 
 pub commands-preserved : goal.commands-preserved
 commands-preserved c =
     let asked = c.args in
-    passes c c.command_size-at-in-commands.ensures.0 c.u32_at-first.ensures.0 c.wide-length.ensures.0
+    passes (goal.at.commands-preserved c).Else-list-at-eq0 c.command_size-at-in-commands.ensures.0 c.u32_at-first.ensures.0 c.wide-length.ensures.0
     (differ_at asked.pool.now c.u32_at-first.result asked.name.now c.wide-length.result c.bytes.i (omega (arith, c.bytes.invariant.fits, c.if-i-length.false, c.if-length-name.false)) c.if-pool-first.true)
 
 -- no command has the name

@@ -3,16 +3,15 @@
 use mathlib.Core.Path.{refl, sym, ap, ◌∙◌}
 use mathlib.Core.List.{List}
 use native.Mathlib.Omega.{arith}
-use borrow.Author.Rules.{rules}
 use lib.ListN.{length}
 use Prim.Native.Nat.{ℕ, ◌+◌, ◌-◌, ◌≤◌}
 use Rattle.entity.specs.Table.{little_endian}
 use Rattle.entity.specs.Commands.{Refers}
-use Rattle.entity.specs.Steps.{Agree, Here}
+use Rattle.entity.specs.Steps.{Here}
 use Rattle.entity.proofs.Lookup.{whole_part, as_parts, of_parts, in_list, over, last_over, Command, command, on, agree_more, same_all, differ_length, differ_at, same_part}
 use Rattle.entity.proofs.Referents.{defines_hit}
 use Rattle.entity.proofs.find_unmarked.Goals as goal
-use Rattle.entity.proofs.find_unmarked.Goals.{After-u32_at-start, Else-ends_differ, Else-i-length, Else-length-name, Else-list-at-ne1}
+use Rattle.entity.proofs.find_unmarked.Goals.{After-u32_at-start, Else-list-at-ne1}
 
 -- the command's operands are in the list, name and text in the pool
 known : (c : Else-list-at-ne1) → Command c.args.list.now c.args.pool.now c.commands.at

@@ -7,7 +7,6 @@ use native.Mathlib.Omega.{arith}
 use lib.Dec.{eqb}
 use lib.ListN.{length, get_or}
 use Rattle.entity.specs.Table.{marked}
-use borrow.Author.Rules.{rules}
 use Rattle.entity.proofs.is_marked.Goals as goal
 
 of_none : (list : List ℕ) → length list ≡ 0 → false ≡ marked list

@@ -1,11 +1,9 @@
 -- `is_named` compares the lengths, then the bytes, eight by eight and the rest one by one: the loop keeps `Agree`.
-use mathlib.Core.Path.{◌≡◌, sym}
+use mathlib.Core.Path.{sym}
 use native.Mathlib.Omega.{arith}
-use borrow.Author.Rules.{rules}
 use lib.ListN.{length}
 use Prim.Native.Nat.{◌+◌, ◌-◌, ◌≤◌}
 use Rattle.entity.specs.Table.{little_endian}
-use Rattle.entity.specs.Steps.{Agree}
 use Rattle.entity.proofs.Lookup.{agree_more, same_all, differ_length, differ_at, same_part}
 use Rattle.entity.proofs.is_named.Goals as goal
 use Rattle.entity.proofs.is_named.Goals.{After-u32_at-start}

@@ -1,11 +1,6 @@
-use mathlib.Core.Path.{◌≡◌, sym}
-use native.Mathlib.Omega.{arith}
-use borrow.Author.Rules.{rules}
 use lib.ListN.{length}
-use Prim.Native.Nat.{◌+◌, ◌-◌, ◌≤◌}
-use Rattle.entity.specs.Table.{little_endian}
+use Prim.Native.Nat.{◌-◌}
 use Rattle.entity.specs.Steps.{Agree}
-use Rattle.entity.proofs.Lookup.{agree_more, same_all, differ_length, differ_at, same_part}
 use Rattle.entity.proofs.is_named.Given as goal
 
 abbrev pub invariant-loop-i : goal.invariant-loop-i

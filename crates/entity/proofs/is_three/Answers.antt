@@ -1,7 +1,6 @@
 use mathlib.Core.Path.{sym}
 use mathlib.Core.List.{[], ◌∷◌}
 use Rattle.entity.proofs.Predefined.{unlike, same_three}
-use borrow.Author.Rules.{rules}
 use Rattle.entity.proofs.is_three.Goals as goal
 
 pub returns-then-name-ne3 : goal.returns-then-name-ne3

@@ -1,7 +1,6 @@
 -- `mark_size` is `mark_size`, by its one test.
 use mathlib.Core.Path.{sym, ◌∙◌}
 use Rattle.entity.proofs.Commands.{mark_is}
-use borrow.Author.Rules.{rules}
 use Rattle.entity.proofs.mark_size.Goals as goal
 
 pub returns-then-is_marked : goal.returns-then-is_marked

@@ -1,5 +1,4 @@
 -- `plain_referent` answers as the predefined lookup does (`refers_plain`).
-use borrow.Author.Rules.{rules}
 use Rattle.entity.proofs.Referents.{refers_plain}
 use Rattle.entity.proofs.plain_referent.Goals as goal
 

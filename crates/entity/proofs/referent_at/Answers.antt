@@ -1,5 +1,4 @@
 -- `referent_at` reads the text of a command 1; any other command at which a lookup stops is external.
-use borrow.Author.Rules.{rules}
 use Rattle.entity.proofs.referent_at.Goals as goal
 
 pub text_start-start-requires : goal.text_start-start-requires

@@ -1,5 +1,4 @@
 -- `resolve_entity` is `find_entity` without the command (`binding_of`).
-use borrow.Author.Rules.{rules}
 use Rattle.entity.proofs.resolve_entity.Goals as goal
 
 pub returns : goal.returns

@@ -2,15 +2,14 @@
 use mathlib.Core.Path.{refl, ap, sym, ◌∙◌}
 use mathlib.Core.List.{List}
 use native.Mathlib.Omega.{arith}
-use borrow.Author.Rules.{rules}
 use lib.ListN.{length}
 use Prim.Native.Nat.{ℕ, ◌+◌, ◌-◌, ◌≤◌}
 use Rattle.entity.specs.Table.{little_endian}
 use Rattle.entity.specs.Commands.{Refers}
-use Rattle.entity.specs.Steps.{Agree, Here}
+use Rattle.entity.specs.Steps.{Here}
 use Rattle.entity.proofs.Lookup.{whole_part, as_parts, of_parts, begin, in_list, over, other_declares, Command, command, on, hit, agree_none, agree_more, same_all, differ_length, differ_at}
 use Rattle.entity.proofs.resolve_short.Goals as goal
-use Rattle.entity.proofs.resolve_short.Goals.{After-u32_at-from, Else-k-length, Else-length-name, Else-list-at-ne1}
+use Rattle.entity.proofs.resolve_short.Goals.{After-u32_at-from, Else-list-at-ne1}
 
 -- the command's operands are in the list, name and text in the pool
 known : (c : Else-list-at-ne1) → Command c.args.list.now c.args.pool.now c.commands.at

@@ -6,7 +6,6 @@ use lib.Dec.{lit<}
 use lib.ListN.{get_or}
 use mathlib.Core.List.{List}
 use Rattle.entity.proofs.Predefined.{is_lt, is_gt, is_amp_lem, is_apos, is_quot, none_two, none_four, none_else}
-use borrow.Author.Rules.{rules}
 use Rattle.entity.proofs.resolve_xml_entity.Goals as goal
 use Rattle.entity.proofs.resolve_xml_entity.Goals.{After-shared_slice_known-1}
 

@@ -1,9 +1,7 @@
 -- `same_words` keeps `Agree`, eight bytes further at each turn (`agree_word`).
 use mathlib.Core.Path.{sym, ◌∙◌}
 use native.Mathlib.Omega.{arith}
-use lib.ListN.{length}
 use Prim.Native.Nat.{◌-◌}
-use Rattle.entity.specs.Steps.{Agree}
 use Rattle.entity.proofs.Lookup.{agree_none, agree_word}
 use Rattle.entity.proofs.same_words.Goals as goal
 

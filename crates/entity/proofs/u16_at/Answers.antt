@@ -1,6 +1,5 @@
 use Rattle.entity.proofs.Reading.{u16_sum}
 use native.Mathlib.Omega.{arith}
-use borrow.Author.Rules.{rules}
 use Rattle.entity.proofs.u16_at.Goals as goal
 
 pub returns : goal.returns

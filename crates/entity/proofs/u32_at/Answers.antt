@@ -1,7 +1,6 @@
 -- `u32_at`: no sum overflows, as each part is a byte times its place; the sum is `u32_sum`.
 use Rattle.entity.proofs.Reading.{u32_sum}
 use native.Mathlib.Omega.{arith}
-use borrow.Author.Rules.{rules}
 use Rattle.entity.proofs.u32_at.Goals as goal
 
 pub returns : goal.returns

@@ -1,6 +1,5 @@
 -- Past line ends one byte (`halt_past`), else the line end (`halt_lines`).
 use Rattle.attribute.proofs.Blanks.{halt_past, halt_lines}
-use borrow.Author.Rules.{rules}
 use Rattle.flat.proofs.blank_width.Goals as goal
 
 pub returns-then-how-eq2 : goal.returns-then-how-eq2

@@ -8,7 +8,6 @@ use Rattle.memory.proofs.Readings.{lent_within, lent_room, lent_trusts}
 use Rattle.flat.specs.Between.{Means}
 use Rattle.flat.specs.declared.Meaning.{Meaning}
 use Rattle.flat.proofs.Halting.{halt_blank, halt_plain, plain_ascii, halt_char, halt_refused}
-use borrow.Author.Rules.{rules}
 use Rattle.flat.proofs.halt_step.Goals as goal
 use Rattle.flat.proofs.halt_step.Goals.{After-read_reference}
 

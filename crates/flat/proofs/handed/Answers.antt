@@ -1,7 +1,6 @@
 -- Each of the two cases is `handed_to` of the answer as it was matched.
 use mathlib.Core.Path.{sym, ap}
 use Rattle.flat.specs.Between.{handed_to}
-use borrow.Author.Rules.{rules}
 use Rattle.flat.proofs.handed.Goals as goal
 
 pub returns-in-Done : goal.returns-in-Done

@@ -2,10 +2,9 @@
 use mathlib.Core.Path.{sym, subst}
 use mathlib.Core.Bool.{true≢false}
 use lib.ListN.{length}
-use borrow.Author.Tests.{eqb-true, not-false}
+use borrow.Author.Tests.{eqb-true}
 use Rattle.legal.specs.FirstFault.{Clean}
 use Rattle.attribute.specs.Steps.{fault_by}
-use borrow.Author.Rules.{rules}
 use Rattle.flat.proofs.is_leaf.Goals as goal
 
 pub returns-then-n-gt64 : goal.returns-then-n-gt64

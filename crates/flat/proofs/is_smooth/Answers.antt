@@ -7,7 +7,6 @@ use lib.ListN.{length}
 use borrow.Author.Tests.{leb-true, ltb-true, eqb-true, not-true}
 use Rattle.text.proofs.Bytes.{and_left, and_right}
 use Rattle.halts.specs.Halts.{Smooth}
-use borrow.Author.Rules.{rules}
 use Rattle.flat.proofs.is_smooth.Goals as goal
 
 pub clear_short-requires : goal.clear_short-requires

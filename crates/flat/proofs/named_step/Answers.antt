@@ -10,7 +10,6 @@ use Rattle.memory.specs.Levels.{Level, level_of}
 use Rattle.memory.proofs.Readings.{lent_within, lent_room, lent_bounds, lent_indexed}
 use Rattle.flat.specs.Between.{name_of}
 use Rattle.flat.proofs.Halting.{referred, halt_indexed, halt_external, halt_unknown, halt_predefined, valid_short, refers_part}
-use borrow.Author.Rules.{rules}
 use Rattle.flat.proofs.named_step.Goals as goal
 use Rattle.flat.proofs.named_step.Goals.{After-refers_to}
 

@@ -6,16 +6,15 @@ use mathlib.Core.List.{List}
 use Rattle.legal.specs.FirstFault.{Clean}
 use Rattle.attribute.specs.Steps.{fault_by}
 use Rattle.flat.specs.declared.Halted.{Halted}
-use borrow.Author.Rules.{rules}
 use Rattle.memory.specs.Levels.{level_of}
 use Rattle.flat.specs.Between.{HaltKeeps}
 use Prim.Native.Nat.{ℕ, ◌+◌, ◌-◌, ◌≤◌, ◌<◌}
 use Rattle.memory.proofs.Levels.{place_of}
 use lib.ListN.{length}
-use Rattle.flat.proofs.Going.{Going, going_start, going_barred, going_room, going_within, run_lent, run_room}
+use Rattle.flat.proofs.Going.{going_start, going_barred, going_room, going_within, run_lent, run_room}
 use Rattle.flat.proofs.Going.{going_end, going_opens, going_paused, going_stopped, going_sum, going_made, going_next}
 use Rattle.flat.proofs.normalize_flat.Goals as goal
-use Rattle.flat.proofs.normalize_flat.Goals.{After-halt_step, After-run_fault-fault, After-write_run-written, At-loop-end, In-Next}
+use Rattle.flat.proofs.normalize_flat.Goals.{After-halt_step, After-write_run-written, At-loop-end}
 
 -- the output after the run; the output and the memory after the halt
 abbrev out_ran : After-write_run-written → List ℕ

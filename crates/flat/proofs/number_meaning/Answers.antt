@@ -2,7 +2,6 @@
 use mathlib.Core.Path.{sym, ap, ◌∙◌}
 use Rattle.flat.specs.Between.{handed_to}
 use Rattle.flat.proofs.References.{number_char, number_refused}
-use borrow.Author.Rules.{rules}
 use Rattle.flat.proofs.number_meaning.Goals as goal
 
 pub returns-in_default : goal.returns-in_default

@@ -3,7 +3,6 @@ use mathlib.Core.Path.{refl}
 use native.Mathlib.Omega.{arith}
 use Rattle.entity.specs.Binding.{predefined_of}
 use Rattle.flat.proofs.References.{plain_two}
-use borrow.Author.Rules.{rules}
 use Rattle.flat.proofs.quick_plain.Goals as goal
 
 pub returns-then-text-at-lt4 : goal.returns-then-text-at-lt4

@@ -5,7 +5,6 @@ use lib.ListN.{length, get_or}
 use mathlib.Core.Path.{◌≡◌, sym, ◌∙◌}
 use native.Mathlib.Omega.{arith}
 use Rattle.flat.proofs.References.{means_none, means_number, means_amp, means_name, means_quick, past_hash}
-use borrow.Author.Rules.{rules}
 use Rattle.flat.proofs.read_reference.Goals as goal
 use Rattle.flat.proofs.read_reference.Goals.{After-shared_slice_known-2-1}
 

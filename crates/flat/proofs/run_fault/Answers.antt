@@ -7,7 +7,6 @@ use native.Mathlib.Nat.{le_refl}
 use lib.ListN.{length}
 use Rattle.legal.specs.FirstFault.{FirstFault}
 use Rattle.attribute.specs.Steps.{fault_by}
-use borrow.Author.Rules.{rules}
 use Rattle.flat.proofs.run_fault.Goals as goal
 
 none_found : (t : List ℕ) (from to guard : ℕ) → from ≤ to → to ≤ length t → guard ≡ 0 → FirstFault (fault_by guard) t from to to

@@ -12,7 +12,6 @@ use Rattle.memory.specs.declared.Had.{Had}
 use Rattle.flat.specs.Between.{Writes, HaltKeeps, Referred}
 use Rattle.flat.specs.declared.Halted.TheVariants.{Opening}
 use Rattle.flat.proofs.Halting.{halt_limit, halt_again, halt_opens, halt_leaf}
-use borrow.Author.Rules.{rules}
 use Rattle.flat.proofs.text_step.Goals as goal
 use Rattle.flat.proofs.text_step.Goals.{After-again, In_default}
 

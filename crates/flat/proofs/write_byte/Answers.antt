@@ -11,7 +11,6 @@ use Rattle.memory.specs.Levels.{Adds}
 use Rattle.memory.proofs.Fitted.{adds_byte}
 use Rattle.flat.specs.Between.{Writes}
 use Rattle.flat.proofs.Writing.{writes_plain, writes_form}
-use borrow.Author.Rules.{rules}
 use Rattle.flat.proofs.write_byte.Goals as goal
 
 pub returns-then-form-ne0 : goal.returns-then-form-ne0

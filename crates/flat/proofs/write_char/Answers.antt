@@ -9,7 +9,6 @@ use Rattle.charref.proofs.Encoding.{encode_1}
 use Rattle.memory.specs.Levels.{Adds}
 use Rattle.memory.proofs.Fitted.{adds_byte}
 use Rattle.flat.proofs.Writing.{writes_plain, writes_form}
-use borrow.Author.Rules.{rules}
 use Rattle.flat.proofs.write_char.Goals as goal
 
 pub returns-then-form-ne0 : goal.returns-then-form-ne0

@@ -6,7 +6,6 @@ use Rattle.canonical.proofs.Canonical.{canonical_length}
 use Rattle.charref.specs.CharRef.{encode}
 use Rattle.charref.proofs.Encoding.{encode_at_most}
 use Rattle.flat.proofs.Writing.{writes_piece, writes_none, rest_room}
-use borrow.Author.Rules.{rules}
 use Rattle.flat.proofs.write_char_form.Goals as goal
 
 pub overflow_add-len : goal.overflow_add-len

@@ -6,7 +6,6 @@ use Rattle.eols.specs.Stops.{rule_for}
 use Rattle.canonical.specs.Canonical.{canonical}
 use Rattle.halts.specs.Halts.{blanks_spaced}
 use Rattle.flat.proofs.Writing.{writes_own, writes_piece, writes_none, form_most, rest_room}
-use borrow.Author.Rules.{rules}
 use Rattle.flat.proofs.write_form.Goals as goal
 
 pub returns-then-is_own_form : goal.returns-then-is_own_form

@@ -7,7 +7,6 @@ use lib.ListN.{take, drop}
 use Prim.Native.Nat.{◌-◌}
 use Rattle.flat.specs.Between.{Writes}
 use Rattle.flat.proofs.Writing.{writes_plain, writes_form, writes_nothing, run_empty}
-use borrow.Author.Rules.{rules}
 use Rattle.flat.proofs.write_run.Goals as goal
 
 pub returns-then-n-eq0 : goal.returns-then-n-eq0

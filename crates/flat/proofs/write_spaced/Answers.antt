@@ -4,7 +4,6 @@ use native.Mathlib.Omega.{arith}
 use Rattle.halts.specs.Halts.{blanks_spaced}
 use Rattle.halts.proofs.Spaces.{spaced_length}
 use Rattle.flat.proofs.Writing.{writes_piece, writes_none}
-use borrow.Author.Rules.{rules}
 use Rattle.flat.proofs.write_spaced.Goals as goal
 
 pub returns-then-len-n : goal.returns-then-len-n

@@ -4,7 +4,6 @@ use Rattle.eols.specs.Stops.{rule_for}
 use Rattle.canonical.specs.Canonical.{canonical}
 use Rattle.canonical.proofs.Canonical.{canonical_length}
 use Rattle.flat.proofs.Writing.{writes_piece, writes_none, rest_room}
-use borrow.Author.Rules.{rules}
 use Rattle.flat.proofs.write_value.Goals as goal
 
 pub overflow_add-len : goal.overflow_add-len

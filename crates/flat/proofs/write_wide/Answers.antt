@@ -3,7 +3,6 @@ use native.Mathlib.Omega.{arith}
 use Rattle.charref.specs.CharRef.{encode}
 use Rattle.charref.proofs.Encoding.{encode_at_most}
 use Rattle.memory.proofs.Fitted.{adds_piece, adds_none}
-use borrow.Author.Rules.{rules}
 use Rattle.flat.proofs.write_wide.Goals as goal
 
 pub overflow_add-len : goal.overflow_add-len

@@ -1,7 +1,6 @@
 -- `cdata_next` leaves what `checked_piece` answers.
 use mathlib.Core.Path.{◌∙◌}
 use Rattle.govlezna.proofs.Lent.{cursor_left_lem}
-use borrow.Author.Rules.{rules}
 use Rattle.govlezna.proofs.cdata_next.Goals as goal
 
 pub returns : goal.returns

@@ -1,7 +1,6 @@
 -- `govlezna_c14n_attribute` answers as `c14n` does.
 use mathlib.Core.Path.{◌∙◌}
 use Rattle.govlezna.specs.Calls.{c14n_attribute_call}
-use borrow.Author.Rules.{rules}
 use Rattle.govlezna.proofs.govlezna_c14n_attribute.Goals as goal
 
 pub returns : goal.returns

@@ -1,7 +1,6 @@
 -- `govlezna_c14n_text` answers as `c14n` does.
 use mathlib.Core.Path.{◌∙◌}
 use Rattle.govlezna.specs.Calls.{c14n_text_call}
-use borrow.Author.Rules.{rules}
 use Rattle.govlezna.proofs.govlezna_c14n_text.Goals as goal
 
 pub returns : goal.returns

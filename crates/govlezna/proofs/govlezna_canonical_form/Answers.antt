@@ -7,7 +7,6 @@ use Rattle.attribute.specs.Strict.{reading_by}
 use Rattle.govlezna.specs.Calls.{canonical_form_call}
 use Rattle.govlezna.proofs.Passing.{passed_walk}
 use mathlib.Core.Bool.{true≢false}
-use borrow.Author.Rules.{rules}
 use Rattle.govlezna.proofs.govlezna_canonical_form.Goals as goal
 
 pub check_walk-form_checked-requires : goal.check_walk-form_checked-requires

@@ -6,7 +6,6 @@ use Rattle.text.proofs.Call.{halts, passes}
 use Rattle.govlezna.specs.Calls.{canonical_form_strict_call}
 use Rattle.govlezna.proofs.Passing.{passed_walk}
 use mathlib.Core.Bool.{true≢false}
-use borrow.Author.Rules.{rules}
 use Rattle.govlezna.proofs.govlezna_canonical_form_strict.Goals as goal
 
 pub check_walk-strict_form_checked-requires : goal.check_walk-strict_form_checked-requires

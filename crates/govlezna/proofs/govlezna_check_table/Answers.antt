@@ -3,7 +3,6 @@ use mathlib.Core.List.{[]}
 use Rattle.text.specs.declared.Answer.{Answer}
 use Rattle.text.specs.Call.{call_of}
 use Rattle.govlezna.specs.Calls.{check_table_call}
-use borrow.Author.Rules.{rules}
 use Rattle.govlezna.proofs.govlezna_check_table.Goals as goal
 
 pub returns : goal.returns

@@ -7,7 +7,6 @@ use Rattle.text.specs.declared.Answer.{Answer}
 use Rattle.text.specs.declared.Answer.TheVariants.{Done}
 use Rattle.govlezna.specs.Calls.{check_utf8_call}
 use Rattle.govlezna.proofs.Passing.{guards}
-use borrow.Author.Rules.{rules}
 use Rattle.govlezna.proofs.govlezna_check_utf8.Goals as goal
 
 pub returns : goal.returns

@@ -3,7 +3,6 @@ use mathlib.Core.Path.{sym, ◌∙◌}
 use mathlib.Core.List.{[], ◌∷◌}
 use Rattle.text.proofs.Call.{halts, passes, checked_length}
 use Rattle.govlezna.specs.Calls.{escape_call}
-use borrow.Author.Rules.{rules}
 use Rattle.govlezna.proofs.govlezna_escape.Goals as goal
 
 pub returns-in_default : goal.returns-in_default

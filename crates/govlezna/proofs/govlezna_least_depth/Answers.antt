@@ -6,7 +6,6 @@ use Rattle.text.specs.Call.{call_of}
 use Rattle.text.specs.declared.Answer.{Answer}
 use Rattle.govlezna.specs.Calls.{least_depth_call}
 use Rattle.govlezna.proofs.Passing.{passed_walk}
-use borrow.Author.Rules.{rules}
 use Rattle.govlezna.proofs.govlezna_least_depth.Goals as goal
 
 pub returns-in_default : goal.returns-in_default

@@ -1,7 +1,6 @@
 -- `govlezna_next_nmtoken` puts the answer of `checked_token` and stores the offset that it leaves (`offset_left`).
 use mathlib.Core.Path.{◌∙◌}
 use Rattle.govlezna.proofs.Lent.{offset_left}
-use borrow.Author.Rules.{rules}
 use Rattle.govlezna.proofs.govlezna_next_nmtoken.Goals as goal
 
 pub returns : goal.returns

@@ -5,7 +5,6 @@ use Rattle.text.proofs.Call.{halts, passes}
 use Rattle.attribute.specs.Strict.{reading_by}
 use Rattle.govlezna.specs.Calls.{normalize_attribute_value_call}
 use Rattle.govlezna.proofs.Passing.{passed_walk}
-use borrow.Author.Rules.{rules}
 use Rattle.govlezna.proofs.govlezna_normalize_attribute_value.Goals as goal
 
 pub returns-in_default : goal.returns-in_default

@@ -4,7 +4,6 @@ use mathlib.Core.List.{[], ◌∷◌}
 use Rattle.text.proofs.Call.{halts, passes}
 use Rattle.govlezna.specs.Calls.{normalize_attribute_value_strict_call}
 use Rattle.govlezna.proofs.Passing.{passed_walk}
-use borrow.Author.Rules.{rules}
 use Rattle.govlezna.proofs.govlezna_normalize_attribute_value_strict.Goals as goal
 
 pub returns-in_default : goal.returns-in_default

@@ -3,7 +3,6 @@ use mathlib.Core.Path.{◌∙◌}
 use mathlib.Core.List.{[], ◌∷◌}
 use Rattle.text.proofs.Call.{halts, passes}
 use Rattle.govlezna.specs.Calls.{normalize_eols_call}
-use borrow.Author.Rules.{rules}
 use Rattle.govlezna.proofs.govlezna_normalize_eols.Goals as goal
 
 pub returns-in_default : goal.returns-in_default

@@ -6,7 +6,6 @@ use Rattle.text.specs.Call.{call_of, text_check}
 use Rattle.text.specs.declared.Answer.{Answer}
 use Rattle.govlezna.specs.Calls.{parse_number_call}
 use Rattle.govlezna.proofs.Passing.{guards}
-use borrow.Author.Rules.{rules}
 use Rattle.govlezna.proofs.govlezna_parse_number.Goals as goal
 
 pub returns : goal.returns

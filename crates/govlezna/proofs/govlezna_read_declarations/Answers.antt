@@ -3,7 +3,6 @@ use mathlib.Core.Path.{sym, ◌∙◌}
 use mathlib.Core.List.{[], ◌∷◌}
 use Rattle.text.proofs.Call.{halts, passes, checked_length}
 use Rattle.govlezna.specs.Calls.{read_declarations_call}
-use borrow.Author.Rules.{rules}
 use Rattle.govlezna.proofs.govlezna_read_declarations.Goals as goal
 
 pub returns-in_default : goal.returns-in_default

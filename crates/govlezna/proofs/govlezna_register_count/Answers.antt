@@ -1,7 +1,6 @@
 -- `govlezna_register_count` puts what `count` answers.
 use mathlib.Core.Path.{◌∙◌}
 use mathlib.Core.List.{[]}
-use borrow.Author.Rules.{rules}
 use Rattle.govlezna.proofs.govlezna_register_count.Goals as goal
 
 pub returns : goal.returns

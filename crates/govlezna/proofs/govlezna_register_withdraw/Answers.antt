@@ -1,6 +1,5 @@
 -- `govlezna_register_withdraw`: what `withdraw` answers, stored (`stored`): the used length first, then words and number.
 use Rattle.registers.proofs.Storing.{stored}
-use borrow.Author.Rules.{rules}
 use Rattle.govlezna.proofs.govlezna_register_withdraw.Goals as goal
 
 pub returns : goal.returns

@@ -1,7 +1,7 @@
 -- `govlezna_rehearse`: a turn copies a span out of the lent slice and calls `count_value`; the start, a turn and the end are laws of walk_rehearsal's
 -- Turning.antt (`standing`, `ready_at`, `over_turn`, `rehearsed`).
-use Rattle.std.proofs.Common.{◌≡◌, ◌<◌, ◌∙◌, ℕ, length, refl, sym, arith}
-use Rattle.walk_rehearsal.proofs.Turning.{over, Standing, over_turn, over_done, ready_at, turn_within, count_most, standing, begun_within, rehearsed}
+use Rattle.std.proofs.Common.{◌<◌, ◌∙◌, length, refl, arith}
+use Rattle.walk_rehearsal.proofs.Turning.{Standing, over_turn, over_done, ready_at, turn_within, count_most, standing, begun_within, rehearsed}
 use Rattle.govlezna.specs.Calls.{rehearse_call}
 use Rattle.govlezna.proofs.govlezna_rehearse.Goals as goal
 use Rattle.govlezna.proofs.govlezna_rehearse.Goals.{In-loop-i}

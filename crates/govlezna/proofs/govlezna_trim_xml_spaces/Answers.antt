@@ -3,7 +3,6 @@ use mathlib.Core.Path.{◌∙◌}
 use mathlib.Core.List.{[]}
 use Rattle.utils.specs.Trim.{trim_spaces}
 use Rattle.govlezna.proofs.Passing.{trims}
-use borrow.Author.Rules.{rules}
 use Rattle.govlezna.proofs.govlezna_trim_xml_spaces.Goals as goal
 
 pub returns : goal.returns

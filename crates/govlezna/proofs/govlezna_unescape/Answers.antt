@@ -7,7 +7,6 @@ use Rattle.text.proofs.Call.{halts, passes}
 use Rattle.entity.specs.Table.{table_check}
 use Rattle.govlezna.specs.Calls.{unescape_call}
 use Rattle.govlezna.proofs.Passing.{passed_table, passed_length}
-use borrow.Author.Rules.{rules}
 use Rattle.govlezna.proofs.govlezna_unescape.Goals as goal
 use Rattle.govlezna.proofs.govlezna_unescape.Goals.{After-check_with_table-table_checked}
 

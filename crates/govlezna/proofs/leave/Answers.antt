@@ -2,7 +2,6 @@
 use mathlib.Core.Path.{sym, ap}
 use Rattle.text.specs.declared.Answer.{Answer}
 use Rattle.govlezna.specs.Calls.{cursor_left}
-use borrow.Author.Rules.{rules}
 use Rattle.govlezna.proofs.leave.Goals as goal
 
 pub returns-in-Done : goal.returns-in-Done

@@ -9,7 +9,6 @@ use Rattle.tokens.specs.Walking.{Ended}
 use Rattle.normalize.specs.Calls.{outcome_for}
 use Rattle.normalize.proofs.Texts.{ended_same, shown_plain}
 use Rattle.nmtokens.proofs.Filled.{Filled, filled, collapsed_refused, collapsed_written}
-use borrow.Author.Rules.{rules}
 use Rattle.nmtokens.proofs.normalize_nmtokens.Goals as goal
 use Rattle.nmtokens.proofs.normalize_nmtokens.Goals.{After-normalized-filled, In-Done}
 

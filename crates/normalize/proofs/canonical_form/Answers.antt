@@ -1,6 +1,6 @@
--- The call is refused as the walk is, for want of a scratch, or of room (`hand_refused`); else its output begins with the form (`form-made`), off
+-- The call is refused as the walk is, for want of a scratch, or of room (`hand_refused`); else its output begins with the form (`form_made`), off
 -- the end of which the last character of the value is read.
-use mathlib.Core.Path.{sym, ap, ◌∙◌}
+use mathlib.Core.Path.{◌≡◌, sym, ap, ◌∙◌}
 use mathlib.Core.List.{List, [], ◌∷◌}
 use Prim.Native.Nat.{ℕ}
 use lib.Seq.{length-take-le}
@@ -12,30 +12,26 @@ use Rattle.tokens.specs.Outcome.{Outcome}
 use Rattle.normalize.specs.Calls.{outcome_for}
 use Rattle.normalize.proofs.Texts.{call_utf8}
 use Rattle.normalize.proofs.Hand.{form_is, Made, hand_refused, hand_made, made_form}
-use borrow.Author.Rules.{rules}
 use Rattle.normalize.proofs.canonical_form.Goals as goal
-use Rattle.normalize.proofs.canonical_form.Goals.{After-normalized-written, In-Done-2}
+use Rattle.normalize.proofs.canonical_form.Goals.{After-normalized-written}
 
 abbrev outcome : After-normalized-written → Outcome
 outcome c =
     let a = c.args in
     outcome_for a.wanted a.list.now a.pool.now a.text.now
 
--- the output after the walk
-abbrev out-left : After-normalized-written → List ℕ
-out-left c = c.normalized-written.new.out
-
 -- the output begins with the form
-form-made : (c : In-Done-2) → Made (rule_of c.args.wanted.version) (let a = c.args in outcome_for a.wanted a.list.now a.pool.now a.text.now) c.args.scratch.now c.args.out.now (c.normalized-written.new.out) c.in-Done.len c.in-Done.second
-form-made c =
+form_made : (c : After-normalized-written) {len second : ℕ} → c.normalized-written.result ≡ Done len second
+    → Made (rule_of c.args.wanted.version) (outcome c) c.args.scratch.now c.args.out.now c.normalized-written.new.out len second
+form_made c is =
     let a = c.args in
-    hand_made (rule_of a.wanted.version) c.form_for-form.result (form_is a.wanted.version c.form_for-form.ensures)
-    (let a = c.args in outcome_for a.wanted a.list.now a.pool.now a.text.now) a.scratch.now a.out.now c.normalized-written.ensures c.in-Done.is
+    hand_made (rule_of a.wanted.version) c.form_for-form.result (form_is a.wanted.version c.form_for-form.ensures) (outcome c) a.scratch.now a.out.now
+    c.normalized-written.ensures is
 
-value-utf8 : (c : In-Done-2) → WellFormed (form-made c).value
-value-utf8 c =
+value_utf8 : (c : After-normalized-written) {len second : ℕ} (is : c.normalized-written.result ≡ Done len second) → WellFormed (form_made c is).value
+value_utf8 c is =
     let a = c.args in
-    call_utf8 a.wanted a.list.now a.pool.now a.text.now (form-made c).whole c.requires.valid_table c.requires.well_formed
+    call_utf8 a.wanted a.list.now a.pool.now a.text.now (form_made c is).whole c.requires.valid_table c.requires.well_formed
 
 pub returns-in_default : goal.returns-in_default
 returns-in_default c =
@@ -44,22 +40,23 @@ returns-in_default c =
     (outcome (goal.at.returns-in_default c).After-normalized-written) a.scratch.now a.out.now c.normalized-written.ensures c.in_default.is
 
 pub slice_bounds-put_last-end : goal.slice_bounds-put_last-end
-slice_bounds-put_last-end c = (form-made (goal.at.slice_bounds-put_last-end c).In-Done-2).fits
+slice_bounds-put_last-end c = (form_made (goal.at.slice_bounds-put_last-end c).After-normalized-written c.in-Done.is).fits
 
 pub slice_bounds-put_last-end-2 : goal.slice_bounds-put_last-end-2
 slice_bounds-put_last-end-2 c =
-    sym (length-take-le c.in-Done.len (out-left (goal.at.slice_bounds-put_last-end-2 c).After-normalized-written) (form-made (goal.at.slice_bounds-put_last-end-2 c).In-Done-2).ranges)
+    let made = form_made (goal.at.slice_bounds-put_last-end-2 c).After-normalized-written c.in-Done.is in
+    sym (length-take-le c.in-Done.len c.normalized-written.new.out made.fits)
 
 pub put_last-requires : goal.put_last-requires
 put_last-requires c =
-    let made = form-made (goal.at.put_last-requires c).In-Done-2 in
-    record { in_bounds = made.enough; form_of = made_form made (value-utf8 (goal.at.put_last-requires c).In-Done-2) }
+    let at = (goal.at.put_last-requires c).After-normalized-written in
+    let made = form_made at c.in-Done.is in
+    record { in_bounds = made.enough; form_of = made_form made (value_utf8 at c.in-Done.is) }
 
 pub returns : goal.returns
 returns c =
-    let made = form-made (goal.at.returns c).In-Done-2 in
-    let a = c.args in
-    let out = out-left (goal.at.returns c).After-normalized-written in
-    ap (λ (l : List ℕ). call_of (Done c.in-Done.len c.in-Done.second) (l ∷ out ∷ []))
-    (c.put_last.ensures (rule_of a.wanted.version) made.value (value-utf8 (goal.at.returns c).In-Done-2) made.taken)
+    let at = (goal.at.returns c).After-normalized-written in
+    let made = form_made at c.in-Done.is in
+    ap (λ (l : List ℕ). call_of (Done c.in-Done.len c.in-Done.second) (l ∷ c.normalized-written.new.out ∷ []))
+    (c.put_last.ensures (rule_of c.args.wanted.version) made.value (value_utf8 at c.in-Done.is) made.taken)
     ∙ made.call

@@ -1,7 +1,6 @@
 -- `forget` keeps: the first k words are cleared, and no other changed (`Forgetting`, Rooms.antt).
-use Prim.Native.Nat.{◌-◌}
 use native.Mathlib.Omega.{arith}
-use Rattle.normalize.proofs.Rooms.{Forgetting, forgetting_none, forgetting_one, forgetting_all}
+use Rattle.normalize.proofs.Rooms.{forgetting_none, forgetting_one, forgetting_all}
 use Rattle.normalize.proofs.forget.Goals as goal
 
 pub loop-k-init : goal.loop-k-init

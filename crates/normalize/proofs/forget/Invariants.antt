@@ -1,6 +1,5 @@
 use Prim.Native.Nat.{◌-◌}
-use native.Mathlib.Omega.{arith}
-use Rattle.normalize.proofs.Rooms.{Forgetting, forgetting_none, forgetting_one, forgetting_all}
+use Rattle.normalize.proofs.Rooms.{Forgetting}
 use Rattle.normalize.proofs.forget.Given as goal
 
 abbrev pub invariant-loop-k : goal.invariant-loop-k

@@ -4,7 +4,6 @@ use native.Mathlib.Omega.{arith}
 use Rattle.tokens.specs.Outcome.{Outcome}
 use Rattle.normalize.specs.Calls.{walk_of, form_of}
 use Rattle.normalize.proofs.Texts.{lacks_refused, lacks_counted, lacks_none, walks_short, walks_written}
-use borrow.Author.Rules.{rules}
 use Rattle.normalize.proofs.form_counted.Goals as goal
 use Rattle.normalize.proofs.form_counted.Goals.{After-normalize_text-counted}
 

@@ -4,8 +4,6 @@ use Rattle.eols.specs.Stops.{rule_for}
 use Rattle.canonical.specs.Canonical.{canonical}
 use Rattle.halts.specs.Halts.{blanks_spaced}
 use Rattle.normalize.proofs.Texts.{form_left_lem, form_laid}
-use borrow.Author.Rules.{rules}
-use Rattle.normalize.proofs.form_spaced.Lts as lts
 use Rattle.normalize.proofs.form_spaced.Goals as goal
 
 pub returns-then-out-length : goal.returns-then-out-length

@@ -5,7 +5,6 @@ use Rattle.tokens.specs.Walking.{Ended}
 use Rattle.tokens.proofs.Finished.{ended_call}
 use Rattle.normalize.specs.Calls.{outcome_for}
 use Rattle.normalize.proofs.Texts.{simple_value, ended_same, shown_plain}
-use borrow.Author.Rules.{rules}
 use Rattle.normalize.proofs.normalize_attribute_value.Goals as goal
 
 pub returns-then-simple : goal.returns-then-simple

@@ -7,7 +7,6 @@ use Rattle.attribute.specs.Steps.{read_by}
 use Rattle.cycle.proofs.Exhausted.{exhausted_any, exhausted_none}
 use Rattle.normalize.specs.Calls.{written_in}
 use Rattle.normalize.proofs.Texts.{ended_same, ended_stopped, lacks_done, lacks_none, form_ended, plain_ended}
-use borrow.Author.Rules.{rules}
 use Rattle.normalize.proofs.normalize_bottom.Goals as goal
 use Rattle.normalize.proofs.normalize_bottom.Goals.{Else-has_stop}
 

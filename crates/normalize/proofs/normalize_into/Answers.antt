@@ -6,7 +6,6 @@ use lib.Seq.{length-take-le}
 use Rattle.tokens.specs.Outcome.{Outcome}
 use Rattle.normalize.specs.Calls.{walk_of, form_of}
 use Rattle.normalize.proofs.Texts.{lacks_refused, lacks_counted, lacks_none, walks_short, walks_held, walks_written}
-use borrow.Author.Rules.{rules}
 use Rattle.normalize.proofs.normalize_into.Goals as goal
 use Rattle.normalize.proofs.normalize_into.Goals.{After-normalize_text-counted}
 

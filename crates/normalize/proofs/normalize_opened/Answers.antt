@@ -1,7 +1,6 @@
 -- `normalize_opened` hands the walker 84 words that are 0, which keep nothing yet (`opened_lent`, `opened_walks`).
 use native.Mathlib.Omega.{arith}
 use Rattle.normalize.proofs.Texts.{opened_lent, opened_walks}
-use borrow.Author.Rules.{rules}
 use Rattle.normalize.proofs.normalize_opened.Goals as goal
 
 pub normalize_attr_steps-requires : goal.normalize_attr_steps-requires

@@ -1,6 +1,5 @@
 -- `normalize_text` makes a first pass without a memory, and goes on with one from a text to open or a pause (Texts.antt).
 use Rattle.normalize.proofs.Texts.{start_lent, text_end, text_stopped, text_opens, text_pauses, on_lent, on_walks}
-use borrow.Author.Rules.{rules}
 use Rattle.normalize.proofs.normalize_text.Goals as goal
 
 pub normalize_flat-requires : goal.normalize_flat-requires

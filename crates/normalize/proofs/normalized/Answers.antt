@@ -1,7 +1,6 @@
 -- `normalized` takes one of five ways: depth 0, the walk, with a count of the value alone first or not, and of a text without halts a character
 -- that may not stand, or a copy; each is the walk that the call asks for (Texts.antt).
 use Rattle.normalize.proofs.Texts.{call_bottom, read_asked, call_read, call_barred, call_spaced}
-use borrow.Author.Rules.{rules}
 use Rattle.normalize.proofs.normalized.Goals as goal
 
 pub returns-then-wanted-eq0 : goal.returns-then-wanted-eq0
@@ -13,8 +12,8 @@ returns-then-wanted-eq0 c =
 pub form_into-requires : goal.form_into-requires
 form_into-requires c =
     let a = c.args in
-    let deep = c.if-wanted-eq0.false in
-    (c.requires.valid_table, read_asked a.wanted a.list.now a.pool.now a.text.now a.form a.lacks c.reading_for-reading.ensures deep c.requires.limit_bound c.requires.text_len_bound c.requires.well_formed c.first_halt-first.ensures)
+    let p = read_asked a.wanted a.list.now a.pool.now a.text.now a.form a.lacks c.reading_for-reading.ensures c.if-wanted-eq0.false c.requires.limit_bound c.requires.text_len_bound c.requires.well_formed c.first_halt-first.ensures in
+    record { valid_table = c.requires.valid_table; base_value = p.0; halt_at = p.1.0; well_formed = p.1.1 }
 
 pub returns-then-form-text : goal.returns-then-form-text
 returns-then-form-text c =
@@ -24,8 +23,8 @@ returns-then-form-text c =
 pub normalize_into-requires : goal.normalize_into-requires
 normalize_into-requires c =
     let a = c.args in
-    let deep = c.if-wanted-eq0.false in
-    (c.requires.valid_table, read_asked a.wanted a.list.now a.pool.now a.text.now a.form a.lacks c.reading_for-reading.ensures deep c.requires.limit_bound c.requires.text_len_bound c.requires.well_formed c.first_halt-first.ensures)
+    let p = read_asked a.wanted a.list.now a.pool.now a.text.now a.form a.lacks c.reading_for-reading.ensures c.if-wanted-eq0.false c.requires.limit_bound c.requires.text_len_bound c.requires.well_formed c.first_halt-first.ensures in
+    record { valid_table = c.requires.valid_table; base_value = p.0; halt_at = p.1.0; well_formed = p.1.1 }
 
 pub returns-then-first-text : goal.returns-then-first-text
 returns-then-first-text c =

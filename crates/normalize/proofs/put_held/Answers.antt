@@ -5,7 +5,7 @@ use Prim.Native.Nat.{◌+◌, ◌-◌}
 use lib.ListN.{length}
 use Rattle.output.proofs.Clip.{over_fits}
 use Rattle.output.proofs.Laid.{laid_length}
-use Rattle.normalize.proofs.Held.{Holding, holding_start, holding_block, holding_room, holding_next, holding_end}
+use Rattle.normalize.proofs.Held.{holding_start, holding_block, holding_room, holding_next, holding_end}
 use Rattle.normalize.proofs.put_held.Goals as goal
 
 pub put_over-requires : goal.put_over-requires

@@ -1,10 +1,6 @@
-use mathlib.Core.Path.{refl, ap, ◌∙◌}
-use native.Mathlib.Omega.{arith}
-use Prim.Native.Nat.{◌+◌, ◌-◌}
+use Prim.Native.Nat.{◌-◌}
 use lib.ListN.{length}
-use Rattle.output.proofs.Clip.{over_fits}
-use Rattle.output.proofs.Laid.{laid_length}
-use Rattle.normalize.proofs.Held.{Holding, holding_start, holding_block, holding_room, holding_next, holding_end}
+use Rattle.normalize.proofs.Held.{Holding}
 use Rattle.normalize.proofs.put_held.Given as goal
 
 abbrev pub invariant-loop-i : goal.invariant-loop-i

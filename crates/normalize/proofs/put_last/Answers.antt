@@ -1,7 +1,6 @@
 -- An empty form is of an empty value, which leaves the scratch (`hand_empty`); else the last character goes there (`handed_laid`).
 use mathlib.Core.Path.{◌∙◌}
 use Rattle.normalize.proofs.Hand.{hand_empty, hand_some, handed_laid}
-use borrow.Author.Rules.{rules}
 use Rattle.normalize.proofs.put_last.Goals as goal
 
 pub returns-then-form-eq0 : goal.returns-then-form-eq0

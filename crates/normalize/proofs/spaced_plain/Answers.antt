@@ -1,8 +1,6 @@
 -- `spaced_plain` writes as many bytes as the text has, where the buffer has room for them.
 use native.Mathlib.Omega.{arith}
 use Rattle.normalize.proofs.Texts.{spaced_short, spaced_written}
-use borrow.Author.Rules.{rules}
-use Rattle.normalize.proofs.spaced_plain.Lts as lts
 use Rattle.normalize.proofs.spaced_plain.Goals as goal
 
 pub returns-then-out-n : goal.returns-then-out-n

@@ -2,7 +2,6 @@
 use Rattle.halts.specs.Halts.{blanks_spaced}
 use Rattle.tokens.specs.Outcome.{done}
 use Rattle.normalize.proofs.Texts.{lacks_done, lacks_none, plain_ended, form_ended}
-use borrow.Author.Rules.{rules}
 use Rattle.normalize.proofs.spaced_whole.Goals as goal
 
 pub returns-then-lacks : goal.returns-then-lacks

@@ -1,10 +1,5 @@
 use native.Mathlib.Omega.{arith}
 use Rattle.normalize.proofs.Texts.{long_lent, long_walks, long_lasts}
-use borrow.Author.Rules.{rules}
-use Rattle.normalize.proofs.walk_lent.Reads as reads
-use Rattle.normalize.proofs.walk_lent.Lts as lts
-use Rattle.cycle.proofs.normalize_attr_steps.Reads as normalize-attr-steps-reads
-use Rattle.normalize.proofs.forget.Reads as forget-reads
 use Rattle.normalize.proofs.walk_lent.Goals as goal
 
 -- src/lib.rt:185:5

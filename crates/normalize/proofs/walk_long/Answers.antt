@@ -3,7 +3,6 @@ use native.Mathlib.Omega.{arith}
 use Prim.Native.Nat.{ℕ}
 use lib.ListN.{length-replicate}
 use Rattle.normalize.proofs.Rooms.{room_new}
-use borrow.Author.Rules.{rules}
 use Rattle.normalize.proofs.walk_long.Goals as goal
 
 pub walk_into-requires : goal.walk_into-requires

@@ -1,6 +1,5 @@
 -- `check_command`: what is no command 1 is a command 2 (`other_two`).
 use Rattle.tables.proofs.Commands.{other_two}
-use borrow.Author.Rules.{rules}
 use Rattle.tables.proofs.check_command.Goals as goal
 
 pub check_external-requires : goal.check_external-requires

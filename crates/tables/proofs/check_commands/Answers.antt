@@ -1,11 +1,8 @@
 -- `check_commands` keeps `Standing`: the answer of the commands from here on, with those counted before them, is the table's.
 use mathlib.Core.Path.{◌≡◌, sym, ◌∙◌}
 use native.Mathlib.Omega.{arith}
-use borrow.Author.Rules.{rules}
-use borrow.Author.Tests.{eqb-true}
-use lib.ListN.{length, get_or}
+use lib.ListN.{get_or}
 use Prim.Native.Nat.{◌-◌}
-use Rattle.tables.specs.Steps.{Standing}
 use Rattle.entity.proofs.Commands.{size_one, declares_one}
 use Rattle.tables.proofs.Commands.{start, refuses, goes_on}
 use Rattle.tables.proofs.check_commands.Goals as goal
@@ -13,7 +10,7 @@ use Rattle.tables.proofs.check_commands.Goals.{After-check_text-checked}
 
 -- the command's byte is 1
 one : (c : After-check_text-checked) → get_or c.args.list.now c.loop-at.at 0 ≡ 1
-one c = eqb-true _ _ c.if-list-at-eq1.true
+one c = c.if-list-at-eq1.true
 
 pub ascii_of-ascii-requires : goal.ascii_of-ascii-requires
 ascii_of-ascii-requires c = c.requires.0
@@ -27,7 +24,7 @@ bounds-list-at c = c.loop-at-test.true
 
 pub check_text-checked-requires : goal.check_text-checked-requires
 check_text-checked-requires c =
-    record { at_in_bounds = (c.loop-at-test.true, eqb-true _ _ c.if-list-at-eq1.true); ascii = c.ascii_of-ascii.ensures }
+    record { at_in_bounds = (c.loop-at-test.true, c.if-list-at-eq1.true); ascii = c.ascii_of-ascii.ensures }
 
 -- a command that is refused
 pub returns-in_default : goal.returns-in_default

@@ -1,7 +1,6 @@
 use mathlib.Core.Path.{◌∙◌}
 use native.Mathlib.Omega.{arith}
 use Rattle.tables.proofs.Commands.{last_none, last_other, last_more, last_end}
-use borrow.Author.Rules.{rules}
 use Rattle.tables.proofs.check_end.Goals as goal
 
 pub returns-then-at-list : goal.returns-then-at-list

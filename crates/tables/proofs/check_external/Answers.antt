@@ -2,7 +2,6 @@
 use mathlib.Core.Path.{◌∙◌}
 use native.Mathlib.Omega.{arith}
 use Rattle.tables.proofs.Commands.{command_cut, external_whole, size_two}
-use borrow.Author.Rules.{rules}
 use Rattle.tables.proofs.check_external.Goals as goal
 
 pub returns-then-list-at-lt6 : goal.returns-then-list-at-lt6

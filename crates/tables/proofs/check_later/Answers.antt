@@ -1,17 +1,14 @@
 -- `check_later` keeps `Standing`, as `check_commands` does, over commands of both kinds.
 use mathlib.Core.Path.{◌≡◌, sym, ◌∙◌}
-use mathlib.Core.Logic.{⊎_elim}
 use mathlib.Core.Bool.{true}
 use native.Mathlib.Omega.{arith}
-use borrow.Author.Rules.{rules}
-use lib.ListN.{length, get_or}
+use lib.ListN.{get_or}
 use Prim.Native.Nat.{◌-◌}
 use Rattle.entity.specs.Table.{declares}
-use Rattle.tables.specs.Steps.{Standing}
 use Rattle.entity.proofs.Commands.{size_some}
 use Rattle.tables.proofs.Commands.{declares_by, finish, refuses, goes_on}
 use Rattle.tables.proofs.check_later.Goals as goal
-use Rattle.tables.proofs.check_later.Goals.{After-check_command-checked}
+use Rattle.tables.proofs.check_later.Goals.{After-check_command-checked, else-loop-at-test, then-loop-at-test+else-list-at}
 
 -- the command's byte declares
 is : (c : After-check_command-checked) → declares (get_or c.args.list.now c.loop-at.at 0) ≡ true
@@ -64,4 +61,8 @@ returns c =
     let asked = c.args in
     c.check_end.ensures
     ∙ finish asked.list.now asked.pool.now c.loop-at.at c.loop-at.count c.loop-at.invariant
-    (λ h. ⊎_elim (λ w. declares_by _ _ _ w.3.left (omega arith) (omega arith)) (λ w. absurd (omega (arith, w.left, h))) c.loop-at-test.branch)
+    (λ h.
+    elim c.loop-at-test.branch [
+      | then-loop-at-test+else-list-at w ↦ declares_by _ _ _ w.if-list-at.false (omega arith) (omega arith)
+      | else-loop-at-test w ↦ absurd (omega (arith, w.loop-at-test.false, h))
+    ])

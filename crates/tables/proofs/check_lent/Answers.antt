@@ -1,8 +1,6 @@
 use mathlib.Core.Path.{◌∙◌}
-use native.Mathlib.Omega.{arith}
 use Rattle.entity.proofs.Commands.{mark_fits}
 use Rattle.tables.proofs.Commands.{short_list}
-use borrow.Author.Rules.{rules}
 use Rattle.tables.proofs.check_lent.Goals as goal
 
 pub check_end-requires : goal.check_end-requires

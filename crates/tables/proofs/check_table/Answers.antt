@@ -2,7 +2,6 @@ use mathlib.Core.Path.{◌∙◌}
 use native.Mathlib.Omega.{arith}
 use Rattle.entity.proofs.Commands.{long_list}
 use Rattle.tables.proofs.Commands.{long_pool}
-use borrow.Author.Rules.{rules}
 use Rattle.tables.proofs.check_table.Goals as goal
 
 pub returns-then-list-gt49154 : goal.returns-then-list-gt49154

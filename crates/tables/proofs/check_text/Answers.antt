@@ -3,7 +3,6 @@ use mathlib.Core.Path.{◌∙◌}
 use native.Mathlib.Omega.{arith}
 use Rattle.entity.proofs.Commands.{size_one}
 use Rattle.tables.proofs.Commands.{command_cut, text_whole}
-use borrow.Author.Rules.{rules}
 use Rattle.tables.proofs.check_text.Goals as goal
 
 pub returns-then-list-at-lt12 : goal.returns-then-list-at-lt12

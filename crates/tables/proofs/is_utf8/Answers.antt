@@ -1,5 +1,4 @@
 use Rattle.tables.proofs.Parts.{utf8_tested}
-use borrow.Author.Rules.{rules}
 use Rattle.tables.proofs.is_utf8.Goals as goal
 
 pub returns : goal.returns

@@ -1,6 +1,5 @@
 use mathlib.Core.Path.{◌∙◌}
 use Rattle.text.proofs.Call.{stops, goes_on}
-use borrow.Author.Rules.{rules}
 use Rattle.text.proofs.check_text.Goals as goal
 
 pub returns-in_default : goal.returns-in_default

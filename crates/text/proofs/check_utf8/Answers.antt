@@ -1,7 +1,6 @@
 use mathlib.Core.Path.{sym}
 use borrow.Author.Tests.{eq-eqb, ne_eqb}
 use Rattle.text.specs.Call.{utf8_check}
-use borrow.Author.Rules.{rules}
 use Rattle.text.proofs.check_utf8.Goals as goal
 
 pub returns-then-end-text : goal.returns-then-end-text

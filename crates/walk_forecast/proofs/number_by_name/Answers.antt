@@ -1,11 +1,11 @@
 -- The first definition with the command's name: the search keeps `Seeking`, and ends, since the name is bound to a text (`lent_bound`).
-use mathlib.Core.Path.{◌≡◌, sym, ◌∙◌}
+use mathlib.Core.Path.{sym, ◌∙◌}
 use native.Mathlib.Omega.{arith}
-use lib.ListN.{length, get_or, take, drop}
+use lib.ListN.{get_or}
 use Rattle.entity.proofs.Commands.{size_some}
 use Rattle.flat.proofs.Halting.{valid_short}
 use Rattle.walk_forecast.proofs.Standing.{standing_inside}
-use Rattle.walk_forecast.proofs.Seeking.{lent_bound, Seeking, seeking_start, seeking_named, seeking_next, seeking_found}
+use Rattle.walk_forecast.proofs.Seeking.{lent_bound, seeking_start, seeking_named, seeking_next, seeking_found}
 use Prim.Native.Nat.{◌-◌}
 use Rattle.walk_forecast.proofs.number_by_name.Goals as goal
 

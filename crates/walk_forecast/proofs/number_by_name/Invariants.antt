@@ -1,10 +1,5 @@
-use mathlib.Core.Path.{◌≡◌, sym, ◌∙◌}
-use native.Mathlib.Omega.{arith}
-use lib.ListN.{length, get_or, take, drop}
-use Rattle.entity.proofs.Commands.{size_some}
-use Rattle.flat.proofs.Halting.{valid_short}
-use Rattle.walk_forecast.proofs.Standing.{standing_inside}
-use Rattle.walk_forecast.proofs.Seeking.{lent_bound, Seeking, seeking_start, seeking_named, seeking_next, seeking_found}
+use lib.ListN.{length, take, drop}
+use Rattle.walk_forecast.proofs.Seeking.{Seeking}
 use Prim.Native.Nat.{◌-◌}
 use Rattle.walk_forecast.proofs.number_by_name.Given as goal
 

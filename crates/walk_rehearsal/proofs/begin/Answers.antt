@@ -2,7 +2,6 @@
 use mathlib.Core.Path.{sym, ap, ◌∙◌}
 use Rattle.text.specs.declared.Answer.{Answer}
 use Rattle.walk_rehearsal.specs.Turns.{job_for, cleared_by}
-use borrow.Author.Rules.{rules}
 use Rattle.walk_rehearsal.proofs.begin.Reads as reads
 use Rattle.walk_rehearsal.proofs.begin.Lts as lts
 use Rattle.walk_rehearsal.proofs.check_job.Reads as check-job-reads

@@ -2,7 +2,6 @@
 use mathlib.Core.Path.{sym, ◌∙◌}
 use mathlib.Core.Bool.{true≢false}
 use Rattle.text.proofs.Call.{stops, goes_on}
-use borrow.Author.Rules.{rules}
 use Rattle.walk_rehearsal.proofs.check_job.Reads as reads
 use Rattle.walk_rehearsal.proofs.check_job.Lts as lts
 use Rattle.checks.proofs.check_walk.Reads as check-walk-reads

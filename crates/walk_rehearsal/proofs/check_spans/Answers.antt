@@ -1,6 +1,5 @@
 -- `check_spans`: the tests of `spans_by` in their order.
 use borrow.Author.Tests.{lt-ltb, le-ltb}
-use borrow.Author.Rules.{rules}
 use Rattle.walk_rehearsal.proofs.check_spans.Reads as reads
 use Rattle.walk_rehearsal.proofs.check_spans.Lts as lts
 use Rattle.walk_rehearsal.proofs.check_spans.Goals as goal

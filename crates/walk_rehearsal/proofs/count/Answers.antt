@@ -1,14 +1,12 @@
 -- `count` raises the words that `counted` raises; no sum reaches 2^64 (`Countable`).
 use mathlib.Core.Path.{sym, ap, subst}
-use mathlib.Core.List.{List}
-use Prim.Native.Nat.{ℕ, ◌+◌}
+use Prim.Native.Nat.{◌+◌}
 use native.Mathlib.Omega.{arith}
 use lib.ListN.{get_or}
 use lib.Seq.{get_or-set_other}
 use Rattle.walk_rehearsal.specs.declared.Verdict.{Verdict}
 use Rattle.walk_rehearsal.specs.Rehearsal.{counted}
 use Rattle.walk_rehearsal.specs.Turns.{Modest}
-use borrow.Author.Rules.{rules}
 use Rattle.walk_rehearsal.proofs.count.Reads as reads
 use Rattle.walk_rehearsal.proofs.count.Lts as lts
 use Rattle.walk_rehearsal.proofs.count.Goals as goal

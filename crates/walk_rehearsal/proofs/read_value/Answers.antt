@@ -1,12 +1,8 @@
 -- `read_value`: a simple text is its own value (`verdict_simple`), one that is not UTF-8 falls by 5 (`verdict_utf8`), and of any other normalization
 -- without room gives the verdict (`verdict_read`).
-use mathlib.Core.Path.{◌≡◌, sym, ap, ◌∙◌}
-use mathlib.Core.List.{List, []}
-use Prim.Native.Nat.{ℕ, ◌<◌}
+use mathlib.Core.Path.{sym, ap, ◌∙◌}
+use mathlib.Core.List.{[]}
 use native.Mathlib.Omega.{arith}
-use lib.ListN.{get_or}
-use Rattle.text.specs.Utf8.{WellFormed}
-use Rattle.text.specs.declared.Answer.{Answer}
 use Rattle.text.proofs.Longest.{end_whole}
 use Rattle.text.proofs.Printable.{simple_well_formed}
 use Rattle.tokens.specs.Outcome.{Outcome, answer_in}
@@ -14,7 +10,6 @@ use Rattle.normalize.specs.Calls.{outcome_for}
 use Rattle.normalize.proofs.Texts.{simple_value, shown_plain}
 use Rattle.walk_rehearsal.specs.Turns.{settings_of, verdict_by}
 use Rattle.walk_rehearsal.proofs.Verdicts.{wanted_for, lenient, reads_so, verdict_simple, verdict_utf8, verdict_read}
-use borrow.Author.Rules.{rules}
 use Rattle.walk_rehearsal.proofs.read_value.Reads as reads
 use Rattle.walk_rehearsal.proofs.read_value.Lts as lts
 use Rattle.normalize.proofs.normalized.Reads as normalized-reads

@@ -2,7 +2,6 @@
 use mathlib.Core.Path.{sym, ap}
 use borrow.Author.Tests.{eq-eqb, ne_eqb}
 use Rattle.walk_rehearsal.specs.Turns.{verdict_by}
-use borrow.Author.Rules.{rules}
 use Rattle.walk_rehearsal.proofs.verdict_by.Reads as reads
 use Rattle.walk_rehearsal.proofs.verdict_by.Lts as lts
 use Rattle.walk_rehearsal.proofs.verdict_by.Goals as goal

@@ -1,6 +1,5 @@
 use mathlib.Core.List.{[]}
 use Rattle.text.proofs.Patterns.{begins_out, begins_one}
-use borrow.Author.Rules.{rules}
 use Rattle.text.proofs.pattern.byte_at.Goals as goal
 
 pub returns-then-text-i : goal.returns-then-text-i

@@ -1,6 +1,5 @@
 use mathlib.Core.Path.{sym, ◌∙◌}
 use Rattle.text.proofs.Patterns.{begins_two, begins_not}
-use borrow.Author.Rules.{rules}
 use Rattle.text.proofs.pattern.two_at.Goals as goal
 
 pub returns-then-byte_at : goal.returns-then-byte_at

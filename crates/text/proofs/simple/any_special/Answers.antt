@@ -1,9 +1,8 @@
 -- `any_special`: where neither accumulator is set every byte passed is simple (`looked_more`). Assumes nothing.
 use mathlib.Core.Path.{◌≡◌}
-use mathlib.Core.Bool.{◌||◌}
 use native.Mathlib.Omega.{arith}
 use Prim.Native.Nat.{◌-◌}
-use Rattle.text.proofs.Printable.{LookedSimple, looked_none, looked_more}
+use Rattle.text.proofs.Printable.{looked_none, looked_more}
 use Rattle.text.proofs.simple.any_special.Goals as goal
 
 pub loop-k-init : goal.loop-k-init

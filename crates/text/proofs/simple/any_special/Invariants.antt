@@ -1,8 +1,6 @@
-use mathlib.Core.Path.{◌≡◌}
 use mathlib.Core.Bool.{◌||◌}
-use native.Mathlib.Omega.{arith}
 use Prim.Native.Nat.{◌-◌}
-use Rattle.text.proofs.Printable.{LookedSimple, looked_none, looked_more}
+use Rattle.text.proofs.Printable.{LookedSimple}
 use Rattle.text.proofs.simple.any_special.Given as goal
 
 abbrev pub invariant-loop-k : goal.invariant-loop-k

@@ -1,10 +1,6 @@
-use mathlib.Core.Path.{sym}
-use mathlib.Core.Bool.{true≢false}
-use native.Mathlib.Omega.{arith}
-use Prim.Native.Nat.{◌-◌, zero-le}
+use Prim.Native.Nat.{◌-◌}
 use lib.ListN.{length}
 use Rattle.text.specs.Simple.{SimplePart}
-use Rattle.text.proofs.Printable.{simple_none, simple_join, simple_last}
 use Rattle.text.proofs.simple.simple_blocks.Given as goal
 
 abbrev pub invariant-loop-i : goal.invariant-loop-i

@@ -1,7 +1,6 @@
 use Prim.Native.Nat.{◌-◌}
 use Rattle.text.proofs.Blocks.{misfit_at}
-use Rattle.text.proofs.Missed.{Missed, missed_start, missed_more, missed_all}
-use borrow.Author.Rules.{rules}
+use Rattle.text.proofs.Missed.{Missed}
 use Rattle.text.proofs.validate.any_misplaced.Given as goal
 
 abbrev pub invariant-loop-k : goal.invariant-loop-k

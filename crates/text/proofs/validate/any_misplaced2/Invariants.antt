@@ -1,8 +1,6 @@
-use Rattle.text.proofs.Blocks.{misfit2_at, fits2_at}
+use Rattle.text.proofs.Blocks.{misfit2_at}
 use Prim.Native.Nat.{◌-◌}
-use native.Mathlib.Omega.{arith}
-use Rattle.text.proofs.Missed.{Missed, missed_start, missed_more, missed_all}
-use borrow.Author.Rules.{rules}
+use Rattle.text.proofs.Missed.{Missed}
 use Rattle.text.proofs.validate.any_misplaced2.Given as goal
 
 abbrev pub invariant-loop-k : goal.invariant-loop-k

@@ -1,8 +1,6 @@
-use Rattle.text.proofs.Blocks.{misfit3_at, fits3_at}
+use Rattle.text.proofs.Blocks.{misfit3_at}
 use Prim.Native.Nat.{◌-◌}
-use native.Mathlib.Omega.{arith}
-use Rattle.text.proofs.Missed.{Missed, missed_start, missed_more, missed_all}
-use borrow.Author.Rules.{rules}
+use Rattle.text.proofs.Missed.{Missed}
 use Rattle.text.proofs.validate.any_misplaced3.Given as goal
 
 abbrev pub invariant-loop-k : goal.invariant-loop-k

@@ -1,8 +1,6 @@
 -- `ascii_blocks` keeps: the bytes before i are whole characters. A block without high bits is ASCII, which makes the prefix longer (`grown`).
 use native.Mathlib.Omega.{arith}
 use Prim.Native.Nat.{◌*◌, ◌-◌}
-use lib.ListN.{length}
-use Rattle.text.specs.Blocks.{Prefix}
 use Rattle.text.proofs.Blocks.{grown, ascii_whole}
 use Rattle.text.proofs.validate.ascii_blocks.Goals as goal
 

@@ -1,8 +1,6 @@
-use native.Mathlib.Omega.{arith}
-use Prim.Native.Nat.{◌*◌, ◌-◌}
+use Prim.Native.Nat.{◌-◌}
 use lib.ListN.{length}
 use Rattle.text.specs.Blocks.{Prefix}
-use Rattle.text.proofs.Blocks.{grown, ascii_whole}
 use Rattle.text.proofs.validate.ascii_blocks.Given as goal
 
 abbrev pub invariant-loop-i : goal.invariant-loop-i

@@ -1,8 +1,5 @@
 use native.Mathlib.Omega.{arith}
-use borrow.Author.Rules.{rules}
-use lib.ListN.{length}
 use Prim.Native.Nat.{◌-◌}
-use Rattle.text.specs.Blocks.{Ascii}
 use Rattle.text.proofs.Blocks.{ascii_none, ascii_next}
 use Rattle.text.proofs.validate.ascii_end.Goals as goal
 

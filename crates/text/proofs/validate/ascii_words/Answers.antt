@@ -1,8 +1,6 @@
 -- `ascii_words` keeps: the bytes before i are ASCII; a block without high bits adds its own (`ascii_more`).
 use native.Mathlib.Omega.{arith}
 use Prim.Native.Nat.{◌-◌}
-use lib.ListN.{length}
-use Rattle.text.specs.Blocks.{Ascii}
 use Rattle.text.proofs.Blocks.{ascii_more}
 use Rattle.text.proofs.validate.ascii_words.Goals as goal
 

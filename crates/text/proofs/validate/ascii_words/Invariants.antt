@@ -1,8 +1,6 @@
-use native.Mathlib.Omega.{arith}
 use Prim.Native.Nat.{◌-◌}
 use lib.ListN.{length}
 use Rattle.text.specs.Blocks.{Ascii}
-use Rattle.text.proofs.Blocks.{ascii_more}
 use Rattle.text.proofs.validate.ascii_words.Given as goal
 
 abbrev pub invariant-loop-i : goal.invariant-loop-i

@@ -3,7 +3,6 @@
 use native.Mathlib.Omega.{arith}
 use Prim.Native.Nat.{◌+◌}
 use Rattle.text.proofs.Blocks.{ascii_whole, whole_none, edge_of}
-use borrow.Author.Rules.{rules}
 use Rattle.text.proofs.validate.block_width.Goals as goal
 
 pub returns-then-top-lt128 : goal.returns-then-top-lt128

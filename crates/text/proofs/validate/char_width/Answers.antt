@@ -6,7 +6,6 @@ use Prim.Native.Nat.{ℕ}
 use Rattle.text.specs.declared.validate.Lead.{Lead}
 use Rattle.text.proofs.Bytes.{inside, above, below}
 use Rattle.text.proofs.Characters.{char_ascii, Begun, Second, Third, no_first, no_room, two_inside, no_second, char_two, three_inside, no_third, char_three, four_inside, no_fourth, char_four}
-use borrow.Author.Rules.{rules}
 use Rattle.text.proofs.validate.char_width.Goals as goal
 use Rattle.text.proofs.validate.char_width.Goals.{Else-text-i, Else-width-eq2, Else-width-eq3}
 

@@ -1,9 +1,6 @@
-use native.Mathlib.Omega.{arith}
 use Prim.Native.Nat.{◌-◌}
 use lib.ListN.{length}
 use Rattle.text.specs.Blocks.{Prefix}
-use Rattle.text.proofs.Blocks.{grown}
-use borrow.Author.Rules.{rules}
 use Rattle.text.proofs.validate.first_chars.Given as goal
 
 abbrev pub invariant-loop-i : goal.invariant-loop-i

@@ -3,7 +3,6 @@ use Prim.Native.Nat.{ℕ}
 use native.Mathlib.Omega.{arith}
 use lib.Bits.{bit_and}
 use Rattle.text.proofs.Words.{low_word}
-use borrow.Author.Rules.{rules}
 use Rattle.text.proofs.validate.high_bits.Goals as goal
 
 pub returns : goal.returns

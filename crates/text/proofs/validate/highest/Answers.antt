@@ -1,7 +1,6 @@
-use Prim.Native.Nat.{◌-◌, ◌≤◌}
+use Prim.Native.Nat.{◌-◌}
 use native.Mathlib.Omega.{arith}
 use borrow.Author.Count.{below_none, below_more}
-use Rattle.text.specs.Blocks.{AtMost}
 use native.Mathlib.Nat.{le_trans}
 use borrow.Author.Rules.{rules}
 use Rattle.text.proofs.validate.highest.Goals as goal

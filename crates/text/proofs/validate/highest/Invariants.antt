@@ -1,9 +1,5 @@
 use Prim.Native.Nat.{◌-◌, ◌≤◌}
-use native.Mathlib.Omega.{arith}
-use borrow.Author.Count.{below_none, below_more}
 use Rattle.text.specs.Blocks.{AtMost}
-use native.Mathlib.Nat.{le_trans}
-use borrow.Author.Rules.{rules}
 use Rattle.text.proofs.validate.highest.Given as goal
 
 abbrev pub invariant-loop-k : goal.invariant-loop-k

@@ -1,9 +1,8 @@
 -- `joined_bits` keeps: if no bit is set, the bytes of the k words so far are ASCII; a word more adds its eight (`at_most_append`).
 use mathlib.Core.Path.{◌≡◌}
-use Prim.Native.Nat.{◌+◌, ◌*◌, ◌-◌, ◌≤◌}
+use Prim.Native.Nat.{◌+◌, ◌*◌, ◌-◌}
 use native.Mathlib.Omega.{arith}
 use borrow.Author.Count.{below_none}
-use Rattle.text.specs.Blocks.{AtMost}
 use Rattle.text.proofs.Words.{or_none, at_most_append}
 use borrow.Author.Rules.{rules}
 use Rattle.text.proofs.validate.joined_bits.Goals as goal

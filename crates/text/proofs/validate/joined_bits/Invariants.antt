@@ -1,10 +1,6 @@
 use mathlib.Core.Path.{◌≡◌}
-use Prim.Native.Nat.{◌+◌, ◌*◌, ◌-◌, ◌≤◌}
-use native.Mathlib.Omega.{arith}
-use borrow.Author.Count.{below_none}
+use Prim.Native.Nat.{◌*◌, ◌-◌, ◌≤◌}
 use Rattle.text.specs.Blocks.{AtMost}
-use Rattle.text.proofs.Words.{or_none, at_most_append}
-use borrow.Author.Rules.{rules}
 use Rattle.text.proofs.validate.joined_bits.Given as goal
 
 abbrev pub invariant-loop-k : goal.invariant-loop-k

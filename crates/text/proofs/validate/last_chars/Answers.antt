@@ -1,10 +1,7 @@
 use native.Mathlib.Omega.{arith}
 use Prim.Native.Nat.{◌-◌}
-use lib.ListN.{length}
-use Rattle.text.specs.Blocks.{Prefix}
 use Rattle.text.proofs.Blocks.{grown}
 use Rattle.text.proofs.Longest.{end_here, end_all}
-use borrow.Author.Rules.{rules}
 use Rattle.text.proofs.validate.last_chars.Goals as goal
 
 pub loop-i-init : goal.loop-i-init

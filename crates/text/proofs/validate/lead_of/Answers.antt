@@ -5,7 +5,6 @@ use Rattle.text.specs.Blocks.{Leads}
 use Rattle.text.specs.Utf8.{is_between, next, one, two, three, after_e0, after_ed, after_f0, after_f4}
 use Rattle.text.proofs.FirstByte.{first_low, first_one, first_e0, first_ed, first_two, first_f0, first_three, first_f4, first_high}
 use Rattle.text.proofs.Characters.{leads_none, leads}
-use borrow.Author.Rules.{rules}
 use Rattle.text.proofs.validate.lead_of.Goals as goal
 
 pub returns-then-b-lt194 : goal.returns-then-b-lt194

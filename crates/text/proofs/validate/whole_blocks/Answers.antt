@@ -1,9 +1,7 @@
 -- `whole_blocks` keeps: three bytes lie behind, and those before i are whole characters; what `block_width` passes makes them more (`grown`).
 use mathlib.Core.Path.{◌≡◌}
 use native.Mathlib.Omega.{arith}
-use Prim.Native.Nat.{◌+◌, ◌-◌, ◌≤◌}
-use lib.ListN.{length}
-use Rattle.text.specs.Blocks.{Prefix}
+use Prim.Native.Nat.{◌+◌, ◌-◌}
 use Rattle.text.proofs.Blocks.{grown}
 use Rattle.text.proofs.validate.whole_blocks.Goals as goal
 

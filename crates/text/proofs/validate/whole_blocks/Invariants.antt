@@ -1,9 +1,6 @@
-use mathlib.Core.Path.{◌≡◌}
-use native.Mathlib.Omega.{arith}
-use Prim.Native.Nat.{◌+◌, ◌-◌, ◌≤◌}
+use Prim.Native.Nat.{◌-◌, ◌≤◌}
 use lib.ListN.{length}
 use Rattle.text.specs.Blocks.{Prefix}
-use Rattle.text.proofs.Blocks.{grown}
 use Rattle.text.proofs.validate.whole_blocks.Given as goal
 
 abbrev pub invariant-loop-i : goal.invariant-loop-i

@@ -3,7 +3,6 @@ use mathlib.Core.Path.{◌≡◌}
 use Prim.Native.Nat.{◌+◌}
 use native.Mathlib.Omega.{arith}
 use Rattle.text.proofs.Blocks.{ends_before, ends_after}
-use borrow.Author.Rules.{rules}
 use Rattle.text.proofs.validate.whole_part.Goals as goal
 
 pub returns-then-text-j-ge192 : goal.returns-then-text-j-ge192
