@@ -1,6 +1,6 @@
 # make: the library, the shared library and the command line program, below target/.
 # make install PREFIX=/usr/local LIBDIR=/usr/local/lib: puts them there, with the header and a pkg-config file. DESTDIR=.. goes before both.
-# make uninstall, with the same: removes them. make clean: removes target/, and with it what is proved.
+# make uninstall, with the same: removes them. make clean: removes target/ and each crate's out/, and with them what is proved here.
 PREFIX = /usr/local
 LIBDIR = $(PREFIX)/lib
 DESTDIR =
@@ -20,7 +20,7 @@ uninstall:
 	$(here)/scripts/install --remove "$$PREFIX" "$$LIBDIR" "$$DESTDIR"
 
 clean:
-	rm -rf $(here)/target
+	rm -rf $(here)/target $(here)/crates/*/out
 
 test:
 	$(here)/test

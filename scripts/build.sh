@@ -14,12 +14,12 @@ is_older() {
     [ ! -e "$file" ] || [ -n "$(find "$@" -newer "$file" -print -quit)" ]
 }
 
-# The crates that the library is made of, lowest first, as crates.txt lists them.
+# The crates that the static library is made of, lowest first, as crates.txt lists them; the last is govlezna_c, which exports the calls.
 library_crates() {
     awk -F: '{ sub(/#.*/, "") }
-        NF == 2 { name[++count] = $1; uses[$1] = $2 }
+        NF == 2 { sub(/ .*/, "", $1); name[++count] = $1; uses[$1] = $2 }
         END {
-            needed["govlezna"] = 1
+            needed["govlezna_c"] = 1
             for (i = count; i > 0; i--)
                 if (needed[name[i]]) { parts = split(uses[name[i]], part, " "); for (k = 1; k <= parts; k++) needed[part[k]] = 1 }
             for (i = 1; i <= count; i++) if (needed[name[i]]) print name[i]
@@ -27,7 +27,7 @@ library_crates() {
 }
 
 # locked COMMAND..: runs it while no other run proves or builds here. What it starts holds the lock too, as long as it runs. The lock is on
-# this file, since rt ci empties target/; where the file system has no locks, it runs without.
+# this file, since make clean removes target/; where the file system has no locks, it runs without.
 locked() {
     local lock status=0
     if [ -n "${building:-}" ]; then
@@ -69,27 +69,22 @@ end_group() { # SIGNAL
     kill "-$1" $$
 }
 
-# Says each crate that is proved, as long as the file START is there and this script runs. rt leaves its verdict on a crate
-# in target/log/NAME.res.
-watch_proofs() { # START CRATE..
-    local start=$1 left crate
-    shift
-    left=" $* "
-    while [ -e "$start" ] && kill -0 $$ 2>/dev/null; do
-        for crate in $left; do
-            [ "$root/target/log/$crate.res" -nt "$start" ] && grep -qx proved "$root/target/log/$crate.res" || continue
-            left=${left/ $crate / }
-            set -- $left
-            echo "proved: $crate ($# left)" >&2
-            [ $# -gt 1 ] || echo "proving and compiling: $*" >&2
-        done
-        sleep 1
+# Says each crate that is proved, as long as the file START is there and this script runs. rt writes a line `crate NAME: ..` for each one
+# whose proof it has checked; of one that has not changed since, it says nothing.
+watch_proofs() { # START LOG
+    local told=0 proved=() over=
+    while [ -z "$over" ] && kill -0 $$ 2>/dev/null; do
+        [ -e "$1" ] || over=1
+        mapfile -t proved < <(sed -n 's/^crate \([a-z0-9_]*\): .*/\1/p' "$2")
+        for (( ; told < ${#proved[@]}; told++)); do echo "proved: ${proved[told]}" >&2; done
+        [ -n "$over" ] || sleep 1
     done
 }
 
-# rt check proves several crates at once, rt staticlib does not; so it is left with the last one, and the compiler.
-prove_and_compile() { # CRATE..
-    cd "$root" && rt check "$@" && rt staticlib govlezna
+# rt lib proves the crates below first. The archive of govlezna_c goes by the library's own name, and is renamed into place.
+prove_and_compile() {
+    (cd "$root/crates/govlezna_c" && rt lib) && mkdir -p "${archive%/*}" &&
+        cp "$root/crates/govlezna_c/out/libgovlezna_c.a" "$archive.new" && mv -f "$archive.new" "$archive"
 }
 
 # Is the library missing, half made, or older than a source of its crates?
@@ -125,16 +120,14 @@ build_archive() {
 
 # Another run may have built it while this one waited.
 build_archive_now() {
-    local crates watcher log=$root/target/library.log
+    local watcher log=$root/target/library.log
     archive_is_old || return 0
-    crates=$(library_crates)
-    echo "proving $(echo "$crates" | wc -l) crates and compiling the library; the first time takes some minutes" >&2
+    echo "proving $(library_crates | wc -l) crates and compiling the library; the first time takes some minutes" >&2
     touch "$started"
-    watch_proofs "$started" $crates &
+    : >"$log"
+    watch_proofs "$started" "$log" &
     watcher=$!
-    if interruptible prove_and_compile ${crates%govlezna} >"$log" 2>&1; then
-        touch "$archive"
-    else
+    if ! interruptible prove_and_compile >"$log" 2>&1; then
         tail -n 20 "$log" >&2
         rm -f "$archive"
     fi

@@ -34,3 +34,11 @@ need_compiler() {
 memchr_source() {
     ls -d /usr/share/cargo/registry/memchr-2* 2>/dev/null | sort | tail -n 1
 }
+
+# Copies these sources to target/memchr, where harness/Cargo.toml has them: rt ci refuses a link anywhere in the repository's folder. They
+# keep their times, so that cargo does not compile them anew.
+copy_memchr() {
+    [ -n "$(memchr_source)" ] || install_packages librust-memchr-dev || return 1
+    rm -rf "$root/target/memchr"
+    mkdir -p "$root/target" && cp -RLp "$(memchr_source)" "$root/target/memchr"
+}

@@ -1,4 +1,5 @@
-// The calls that C sees: integers, byte slices and references to numbers, no `requires`. Each promise is one equation.
+// The calls: integers, byte slices and references to numbers, no `requires`. Each promise is one equation. C sees them by way of the
+// static library `govlezna_c`.
 #![tactic(auto)]
 
 ghost use Rattle.std.specs.Prelude.{◌≡◌, [], ◌∷◌};
@@ -25,29 +26,21 @@ pub struct CDataNext {
 }
 
 // Is the text UTF-8? Success: its length.
-#[unsafe(no_mangle)]
-pub extern "C" fn govlezna_check_utf8(text: &[u8], answer: &mut [u64; 2]) -> u32
+pub fn govlezna_check_utf8(text: &[u8], answer: &mut [u64; 2]) -> u32
     ensures { called result answer.new [] ≡ check_utf8_call text.now }
 {
     put(checks::checked_text(text), answer)
 }
 
 // The text after `#` of a character reference. Success: the character's number.
-#[unsafe(no_mangle)]
-pub extern "C" fn govlezna_parse_number(text: &[u8], answer: &mut [u64; 2]) -> u32
+pub fn govlezna_parse_number(text: &[u8], answer: &mut [u64; 2]) -> u32
     ensures { called result answer.new [] ≡ parse_number_call text.now }
 {
     put(checks::checked_number(text), answer)
 }
 
 // The text at one of the four levels. Success: the length written.
-#[unsafe(no_mangle)]
-pub extern "C" fn govlezna_escape(
-    text: &[u8],
-    level: u8,
-    out: &mut [u8],
-    answer: &mut [u64; 2],
-) -> u32
+pub fn govlezna_escape(text: &[u8], level: u8, out: &mut [u8], answer: &mut [u64; 2]) -> u32
     ensures { called result answer.new (out.new ∷ []) ≡ escape_call text.now level out.old }
 {
     let level_checked = checks::check_escape(text, level);
@@ -62,24 +55,21 @@ pub extern "C" fn govlezna_escape(
 }
 
 // An attribute value as Canonical XML writes it. Success: the length written.
-#[unsafe(no_mangle)]
-pub extern "C" fn govlezna_c14n_attribute(text: &[u8], out: &mut [u8], answer: &mut [u64; 2]) -> u32
+pub fn govlezna_c14n_attribute(text: &[u8], out: &mut [u8], answer: &mut [u64; 2]) -> u32
     ensures { called result answer.new (out.new ∷ []) ≡ c14n_attribute_call text.now out.old }
 {
     put(c14n::c14n(text, true, out), answer)
 }
 
 // Text as Canonical XML writes it. Success: the length written.
-#[unsafe(no_mangle)]
-pub extern "C" fn govlezna_c14n_text(text: &[u8], out: &mut [u8], answer: &mut [u64; 2]) -> u32
+pub fn govlezna_c14n_text(text: &[u8], out: &mut [u8], answer: &mut [u64; 2]) -> u32
     ensures { called result answer.new (out.new ∷ []) ≡ c14n_text_call text.now out.old }
 {
     put(c14n::c14n(text, false, out), answer)
 }
 
 // Every line end of the version becomes LF. Success: the length written.
-#[unsafe(no_mangle)]
-pub extern "C" fn govlezna_normalize_eols(
+pub fn govlezna_normalize_eols(
     text: &[u8],
     version: u8,
     out: &mut [u8],
@@ -99,16 +89,14 @@ pub extern "C" fn govlezna_normalize_eols(
 }
 
 // Is the table valid? Success: the number of its declarations.
-#[unsafe(no_mangle)]
-pub extern "C" fn govlezna_check_table(list: &[u8], pool: &[u8], answer: &mut [u64; 2]) -> u32
+pub fn govlezna_check_table(list: &[u8], pool: &[u8], answer: &mut [u64; 2]) -> u32
     ensures { called result answer.new [] ≡ check_table_call list.now pool.now }
 {
     put(tables::check_table(list, pool), answer)
 }
 
 // References become what they stand for; a replacement text is copied and not opened. Success: the length written.
-#[unsafe(no_mangle)]
-pub extern "C" fn govlezna_unescape(
+pub fn govlezna_unescape(
     text: &[u8],
     list: &[u8],
     pool: &[u8],
@@ -129,8 +117,7 @@ pub extern "C" fn govlezna_unescape(
 }
 
 // The attribute value normalized. Success: the length written, the openings.
-#[unsafe(no_mangle)]
-pub extern "C" fn govlezna_normalize_attribute_value(
+pub fn govlezna_normalize_attribute_value(
     text: &[u8],
     version: u8,
     depth: u64,
@@ -170,8 +157,7 @@ pub extern "C" fn govlezna_normalize_attribute_value(
 }
 
 // The same, and every character has to be one of the version (K8). Success: the length written, the openings.
-#[unsafe(no_mangle)]
-pub extern "C" fn govlezna_normalize_attribute_value_strict(
+pub fn govlezna_normalize_attribute_value_strict(
     text: &[u8],
     version: u8,
     depth: u64,
@@ -211,8 +197,7 @@ pub extern "C" fn govlezna_normalize_attribute_value_strict(
 }
 
 // The canonical form of the normalized value, whose last character the scratch takes. Success: the length written, the openings.
-#[unsafe(no_mangle)]
-pub extern "C" fn govlezna_canonical_form(
+pub fn govlezna_canonical_form(
     text: &[u8],
     version: u8,
     depth: u64,
@@ -252,8 +237,7 @@ pub extern "C" fn govlezna_canonical_form(
 }
 
 // The canonical form of the value that is normalized so, whose last character the scratch takes. Success: the length written, the openings.
-#[unsafe(no_mangle)]
-pub extern "C" fn govlezna_canonical_form_strict(
+pub fn govlezna_canonical_form_strict(
     text: &[u8],
     version: u8,
     depth: u64,
@@ -294,8 +278,7 @@ pub extern "C" fn govlezna_canonical_form_strict(
 
 // The value normalized as a list of tokens (K5): the scratch takes it, its second stage goes to `out`. Success: the length written, the
 // openings.
-#[unsafe(no_mangle)]
-pub extern "C" fn govlezna_normalize_nmtokens(
+pub fn govlezna_normalize_nmtokens(
     text: &[u8],
     version: u8,
     depth: u64,
@@ -335,8 +318,7 @@ pub extern "C" fn govlezna_normalize_nmtokens(
 }
 
 // The next token of such a result; the offset is lent, and moves on. Success: start, length.
-#[unsafe(no_mangle)]
-pub extern "C" fn govlezna_next_nmtoken(text: &[u8], offset: &mut u64, answer: &mut [u64; 2]) -> u32
+pub fn govlezna_next_nmtoken(text: &[u8], offset: &mut u64, answer: &mut [u64; 2]) -> u32
     ensures { called result answer.new ((offset.new ∷ []) ∷ []) ≡ next_nmtoken_call text.now offset.old }
 {
     let moved = collapse::checked_token(text, *offset);
@@ -346,8 +328,7 @@ pub extern "C" fn govlezna_next_nmtoken(text: &[u8], offset: &mut u64, answer: &
 }
 
 // The text without the white space at its start. Success: start, length.
-#[unsafe(no_mangle)]
-pub extern "C" fn govlezna_trim_xml_start(text: &[u8], answer: &mut [u64; 2]) -> u32
+pub fn govlezna_trim_xml_start(text: &[u8], answer: &mut [u64; 2]) -> u32
     ensures { called result answer.new [] ≡ trim_call trim_start text.now }
 {
     put(
@@ -357,8 +338,7 @@ pub extern "C" fn govlezna_trim_xml_start(text: &[u8], answer: &mut [u64; 2]) ->
 }
 
 // The text without the white space at its end. Success: start, length.
-#[unsafe(no_mangle)]
-pub extern "C" fn govlezna_trim_xml_end(text: &[u8], answer: &mut [u64; 2]) -> u32
+pub fn govlezna_trim_xml_end(text: &[u8], answer: &mut [u64; 2]) -> u32
     ensures { called result answer.new [] ≡ trim_call trim_end text.now }
 {
     put(
@@ -368,8 +348,7 @@ pub extern "C" fn govlezna_trim_xml_end(text: &[u8], answer: &mut [u64; 2]) -> u
 }
 
 // The text without the white space at both ends. Success: start, length.
-#[unsafe(no_mangle)]
-pub extern "C" fn govlezna_trim_xml_spaces(text: &[u8], answer: &mut [u64; 2]) -> u32
+pub fn govlezna_trim_xml_spaces(text: &[u8], answer: &mut [u64; 2]) -> u32
     ensures { called result answer.new [] ≡ trim_call trim_spaces text.now }
 {
     put(
@@ -411,12 +390,7 @@ pub fn cdata_next(text: &[u8], cursor: Cursor) -> CDataNext
 }
 
 // The next piece of the text for a CDATA section; the cursor is lent, and moves on. Success: start, length.
-#[unsafe(no_mangle)]
-pub extern "C" fn govlezna_cdata_next(
-    text: &[u8],
-    cursor: &mut Cursor,
-    answer: &mut [u64; 2],
-) -> u32
+pub fn govlezna_cdata_next(text: &[u8], cursor: &mut Cursor, answer: &mut [u64; 2]) -> u32
     ensures { record { number = result; words = answer.new; next = cursor.new } ≡ cdata_next_call text.now cursor.old }
 {
     let s = cdata_next(text, *cursor);
@@ -427,8 +401,7 @@ pub extern "C" fn govlezna_cdata_next(
 }
 
 // One more of a form in a register (K10), whose used length is lent. Success: the form's count, the used length.
-#[unsafe(no_mangle)]
-pub extern "C" fn govlezna_register_add(
+pub fn govlezna_register_add(
     form: &[u8],
     buffer: &mut [u8],
     used: &mut u64,
@@ -442,8 +415,7 @@ pub extern "C" fn govlezna_register_add(
 }
 
 // One less (K10). Success: the form's count, the used length.
-#[unsafe(no_mangle)]
-pub extern "C" fn govlezna_register_withdraw(
+pub fn govlezna_register_withdraw(
     form: &[u8],
     buffer: &mut [u8],
     used: &mut u64,
@@ -457,21 +429,14 @@ pub extern "C" fn govlezna_register_withdraw(
 }
 
 // The count of a form in a register (K10). Success: the count.
-#[unsafe(no_mangle)]
-pub extern "C" fn govlezna_register_count(
-    form: &[u8],
-    buffer: &[u8],
-    used: u64,
-    answer: &mut [u64; 2],
-) -> u32
+pub fn govlezna_register_count(form: &[u8], buffer: &[u8], used: u64, answer: &mut [u64; 2]) -> u32
     ensures { called result answer.new [] ≡ register_count_call form.now buffer.now used }
 {
     put(registers::count(form, buffer, used), answer)
 }
 
 // The least depth at which the value is accepted (K14). Success: that depth.
-#[unsafe(no_mangle)]
-pub extern "C" fn govlezna_least_depth(
+pub fn govlezna_least_depth(
     text: &[u8],
     version: u8,
     limit: u64,
@@ -497,8 +462,7 @@ pub extern "C" fn govlezna_least_depth(
 }
 
 // A text of entity declarations as a table. Success: the length of the list, of the pool.
-#[unsafe(no_mangle)]
-pub extern "C" fn govlezna_read_declarations(
+pub fn govlezna_read_declarations(
     text: &[u8],
     version: u8,
     list: &mut [u8],
@@ -523,8 +487,7 @@ pub extern "C" fn govlezna_read_declarations(
 
 // How the values of a job fare (K11): a thin function over the lent spans, the turns of which are `walk_rehearsal::count_value`. Success:
 // nothing but the report.
-#[unsafe(no_mangle)]
-pub extern "C" fn govlezna_rehearse(
+pub fn govlezna_rehearse(
     text: &[u8],
     spans: &[Span],
     version: u8,

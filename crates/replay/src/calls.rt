@@ -4,7 +4,7 @@ ghost use Rattle.std.specs.Prelude.{◌<◌, ◌≤◌};
 use crate::answers::{Outcome, UNTOUCHED, UNWRITTEN, compare, compare_output};
 use crate::fields::{field, field_count};
 use crate::values::{decimals, decode_hex};
-use crate::{cdata, declared, nmtoken, registers, tables};
+use crate::{cdata, declared, nmtoken, register_calls, table_calls};
 
 // Which call field 0 of the line names: its place among these names, or 23 where it is none of them.
 fn call_number(line: &[u8]) -> usize {
@@ -34,10 +34,10 @@ pub fn replay_line(line: &[u8]) -> Outcome {
         5..=6 => replay_output(line, call),
         7 => cdata::replay_cdata(line),
         15 => nmtoken::replay_nmtoken(line),
-        16..=18 => registers::replay_register(line, call),
+        16..=18 => register_calls::replay_register(line, call),
         19..=20 => replay_writer(line, call),
         22 => declared::replay_declarations(line),
-        _ => tables::replay_table_line(line, call),
+        _ => table_calls::replay_table_line(line, call),
     }
 }
 

@@ -1,8 +1,7 @@
 // Standard input, cut into lines, and what came of them.
 use crate::answers::{Answer, Outcome};
 use crate::calls::replay_line;
-use libc::{STDIN_FILENO, STDOUT_FILENO};
-use std::num::wrapping_add_u64;
+use std::io::{Read, Result};
 
 #[derive(Drop)]
 pub struct Progress {
@@ -18,7 +17,7 @@ pub struct Progress {
 }
 
 // Replays all of standard input, by way of a buffer for one line.
-pub fn replay_all(line: &mut [u8]) -> Progress {
+pub fn replay_all(rt: &(impl Input + Print), line: &mut [u8]) -> Result<Progress> {
     let mut p = Progress {
         is_open: true,
         lines: 0,
@@ -27,51 +26,60 @@ pub fn replay_all(line: &mut [u8]) -> Progress {
         differ: 0,
         malformed: 0,
     };
+    let mut input = rt.reader();
     // Nothing says that the input ends, so the loop counts down from a number that no run uses up.
     let mut turns = u64::MAX;
     while turns > 0 && p.is_open {
-        p = replay_some(line, p);
+        p = replay_some(rt, &mut input, line, p)?;
         turns -= 1;
     }
     // A last line that no line feed ends.
     if p.used > 0 {
-        p = end_line(line, p);
+        p = end_line(rt, line, p)?;
     }
-    p
+    Ok(p)
 }
 
 // Reads once, and replays the lines that end in what came.
-fn replay_some(line: &mut [u8], before: Progress) -> Progress {
+fn replay_some<R: Read>(
+    rt: &impl Print,
+    input: &mut R,
+    line: &mut [u8],
+    before: Progress,
+) -> Result<Progress> {
     let mut p = before;
-    let mut piece = io::buffer();
-    let got = libc::read(STDIN_FILENO, &mut piece);
-    if got < 0 {
-        io::write_all(STDOUT_FILENO, b"standard input cannot be read\n");
+    let mut piece = [0u8; 4096];
+    let Ok(n) = input.read(&mut piece) else {
+        println!(rt; "standard input cannot be read")?;
         p.is_open = false;
-        return p;
-    }
-    if got == 0 {
+        return Ok(p);
+    };
+    if n == 0 {
         p.is_open = false;
-        return p;
+        return Ok(p);
     }
-    let n = io::count(got, &piece);
-    replay_piece(&piece[..n], line, p)
+    replay_piece(rt, &piece[..n], line, p)
 }
 
-fn replay_piece(piece: &[u8], line: &mut [u8], before: Progress) -> Progress {
+fn replay_piece(
+    rt: &impl Print,
+    piece: &[u8],
+    line: &mut [u8],
+    before: Progress,
+) -> Result<Progress> {
     let mut p = before;
     let mut i = 0;
     while i < piece.len() {
-        p = take_byte(piece[i], line, p);
+        p = take_byte(rt, piece[i], line, p)?;
         i += 1;
     }
-    p
+    Ok(p)
 }
 
 // Keeps a byte of the line, or ends the line.
-fn take_byte(b: u8, line: &mut [u8], before: Progress) -> Progress {
+fn take_byte(rt: &impl Print, b: u8, line: &mut [u8], before: Progress) -> Result<Progress> {
     if b == b'\n' {
-        return end_line(line, before);
+        return end_line(rt, line, before);
     }
     let mut p = before;
     let used = p.used;
@@ -81,65 +89,59 @@ fn take_byte(b: u8, line: &mut [u8], before: Progress) -> Progress {
     } else {
         p.used = line.len() + 1;
     }
-    p
+    Ok(p)
 }
 
-fn end_line(line: &[u8], before: Progress) -> Progress {
+fn end_line(rt: &impl Print, line: &[u8], before: Progress) -> Result<Progress> {
     let mut p = before;
     let used = p.used;
     p.used = 0;
-    p.lines = wrapping_add_u64(p.lines, 1);
+    p.lines = p.lines.wrapping_add(1);
     if used > line.len() {
-        return count(Outcome::Malformed, p);
+        return count(rt, Outcome::Malformed, p);
     }
-    count(replay_line(&line[0..used]), p)
+    count(rt, replay_line(&line[0..used]), p)
 }
 
 // Counts what came of the line that has just ended, and reports it where it is not as stored.
-fn count(outcome: Outcome, before: Progress) -> Progress {
+fn count(rt: &impl Print, outcome: Outcome, before: Progress) -> Result<Progress> {
     let mut p = before;
     match outcome {
-        Outcome::Nothing => p,
+        Outcome::Nothing => Ok(p),
         Outcome::Same => {
-            p.results = wrapping_add_u64(p.results, 1);
-            p
+            p.results = p.results.wrapping_add(1);
+            Ok(p)
         }
         Outcome::Differs(answer) => {
-            report_line(p.lines, b" differs: ");
-            report_answer(answer);
-            p.results = wrapping_add_u64(p.results, 1);
-            p.differ = wrapping_add_u64(p.differ, 1);
-            p
+            report_line(rt, p.lines, b" differs: ")?;
+            report_answer(rt, answer)?;
+            p.results = p.results.wrapping_add(1);
+            p.differ = p.differ.wrapping_add(1);
+            Ok(p)
         }
         Outcome::Malformed => {
-            report_line(p.lines, b" is malformed\n");
-            p.malformed = wrapping_add_u64(p.malformed, 1);
-            p
+            report_line(rt, p.lines, b" is malformed\n")?;
+            p.malformed = p.malformed.wrapping_add(1);
+            Ok(p)
         }
     }
 }
 
-fn report_line(number: u64, what: &[u8]) {
-    io::write_all(STDOUT_FILENO, b"line ");
-    io::print_decimal(STDOUT_FILENO, number);
-    io::write_all(STDOUT_FILENO, what);
+fn report_line(rt: &impl Print, number: u64, what: &[u8]) -> Result<()> {
+    print!(rt; "line {number}")?;
+    rt.write_all(what)
 }
 
-fn report_answer(answer: Answer) {
-    io::print_decimal(STDOUT_FILENO, answer.number);
-    io::write_all(STDOUT_FILENO, b" ");
-    io::print_decimal(STDOUT_FILENO, answer.first);
-    io::write_all(STDOUT_FILENO, b" ");
-    io::print_decimal(STDOUT_FILENO, answer.second);
-    io::write_all(STDOUT_FILENO, b"\n");
+fn report_answer(rt: &impl Print, answer: Answer) -> Result<()> {
+    let number = answer.number;
+    let first = answer.first;
+    let second = answer.second;
+    println!(rt; "{number} {first} {second}")
 }
 
-pub fn report_counts(p: Progress) {
-    io::write_all(STDOUT_FILENO, b"replayed ");
-    io::print_decimal(STDOUT_FILENO, p.results);
-    io::write_all(STDOUT_FILENO, b" stored results, ");
-    io::print_decimal(STDOUT_FILENO, p.differ);
-    io::write_all(STDOUT_FILENO, b" differ, ");
-    io::print_decimal(STDOUT_FILENO, p.malformed);
-    io::write_all(STDOUT_FILENO, b" malformed\n");
+pub fn report_counts(rt: &impl Print, p: Progress) -> Result<()> {
+    let results = p.results;
+    let differ = p.differ;
+    let malformed = p.malformed;
+    println!(rt; "replayed {results} stored results, {differ} differ, {malformed} malformed")
 }

@@ -11,13 +11,13 @@ mod declared;
 mod fields;
 mod lines;
 mod nmtoken;
-mod registers;
-mod tables;
+mod register_calls;
+mod table_calls;
 mod values;
 
-fn main() {
+fn main(rt: HostRuntime) -> std::io::Result<()> {
     // A text, a list, a pool, a value and an output of 2,048 bytes each take 20,480 digits.
-    let mut line = io::large_buffer();
-    let p = lines::replay_all(&mut line);
-    lines::report_counts(p);
+    let mut line = [0u8; 65536];
+    let p = lines::replay_all(&rt, &mut line)?;
+    lines::report_counts(&rt, p)
 }

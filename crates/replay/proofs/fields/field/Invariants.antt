@@ -1,5 +1,5 @@
 -- `field` goes from the end of one field to the next: `from` and `end` bound a field inside the line, and one less is left to pass.
-use Rattle.std.proofs.Common.{◌≤◌, length, rules}
+use Rattle.std.proofs.Common.{◌≤◌, length}
 use Rattle.replay.proofs.fields.field.Given as goal
 
 abbrev pub invariant-loop-left : goal.invariant-loop-left

@@ -1,10 +1,9 @@
 -- `decimal`: after i bytes n has i digits, which are the field's first i (`more_digits`); n stays below 10 ^ i (`more_room`).
 use lib.Seq.{take-length}
-use Rattle.std.proofs.Common.{◌≡◌, ◌-◌, ◌^◌, ◌<◌, ◌≤◌, length, get_or, take, ◌∙◌, arith, rules}
+use Rattle.std.proofs.Common.{◌≡◌, ◌-◌, length, get_or, ◌∙◌, arith}
 use Rattle.replay.specs.Values.{Digit}
 use Rattle.replay.specs.declared.values.Parsed.TheVariants.{Number}
 use Rattle.replay.proofs.Laws.{more_digits, more_room}
-use Rattle.io.specs.Digits.{last_digits}
 use Rattle.replay.proofs.values.decimal.Goals as goal
 
 pub loop-i-preserved : goal.loop-i-preserved

@@ -1,8 +1,4 @@
-use lib.Seq.{take-length}
-use Rattle.std.proofs.Common.{◌≡◌, ◌-◌, ◌^◌, ◌<◌, ◌≤◌, length, get_or, take, ◌∙◌, arith, rules}
-use Rattle.replay.specs.Values.{Digit}
-use Rattle.replay.specs.declared.values.Parsed.TheVariants.{Number}
-use Rattle.replay.proofs.Laws.{more_digits, more_room}
+use Rattle.std.proofs.Common.{◌≡◌, ◌-◌, ◌^◌, ◌<◌, ◌≤◌, length, take}
 use Rattle.io.specs.Digits.{last_digits}
 use Rattle.replay.proofs.values.decimal.Given as goal
 

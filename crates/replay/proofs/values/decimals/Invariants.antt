@@ -1,5 +1,5 @@
 -- `decimals` reads field after field; k stays inside `out`, which has room for three.
-use Rattle.std.proofs.Common.{◌-◌, ◌≤◌, rules}
+use Rattle.std.proofs.Common.{◌-◌, ◌≤◌}
 use Rattle.replay.proofs.values.decimals.Given as goal
 
 abbrev pub invariant-loop-k : goal.invariant-loop-k

@@ -1,5 +1,5 @@
 -- `decode_pairs`: after i pairs the first i bytes of `out` are written by the field's first 2 i digits (`more_hex`).
-use Rattle.std.proofs.Common.{◌≡◌, ◌-◌, ◌*◌, ◌≤◌, length, take, refl, ◌∙◌, arith, length-set, rules}
+use Rattle.std.proofs.Common.{◌≡◌, ◌*◌, length, refl, ◌∙◌, arith, length-set}
 use lib.Seq.{take-length}
 use Rattle.replay.specs.Values.{hex_of}
 use Rattle.replay.proofs.Laws.{more_hex}

@@ -1,7 +1,5 @@
-use Rattle.std.proofs.Common.{◌≡◌, ◌-◌, ◌*◌, ◌≤◌, length, take, refl, ◌∙◌, arith, length-set, rules}
-use lib.Seq.{take-length}
+use Rattle.std.proofs.Common.{◌≡◌, ◌-◌, ◌*◌, ◌≤◌, length, take}
 use Rattle.replay.specs.Values.{hex_of}
-use Rattle.replay.proofs.Laws.{more_hex}
 use Rattle.replay.proofs.values.decode_pairs.Given as goal
 
 abbrev pub invariant-loop-i : goal.invariant-loop-i

@@ -1,4 +1,4 @@
-use Rattle.std.proofs.Common.{arith, rules}
+use Rattle.std.proofs.Common.{arith}
 use Rattle.replay.proofs.Laws.{glyph_digit, glyph_letter}
 use Rattle.replay.proofs.values.hex_value.Goals as goal
 
