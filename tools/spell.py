@@ -17,10 +17,12 @@ import sys
 
 WORD = r"[^\s(){}.;,@\"«»\[\]\\`:|=]+"
 IMPORT = re.compile(r"(?m)^[ \t]*(?:pub |ghost )*use ([^\s{};]+)\.\{([^}]*)\}")
-DECLARED = re.compile(r"^[ \t]*((?:(?:pub|abbrev|unfoldable|open|private|mutual) )*)(%s(?: %s)*?)((?: \{[^}]*\})*) :(?= )" % (WORD, WORD))
+DECLARED = re.compile(r"^[ \t]*((?:(?:pub|abbrev|unfoldable|open|private|mutual) )*)(%s(?: %s)*?)((?: \{[^}]*\})*) :(?= |$)" % (WORD, WORD))
 GENERATED = re.compile(r":.*(\btie\.|\blts\.|-lts\.|Need-|\bstatement\b)")
 # Lemmas that the port respelled, whose name a definition gets now. `no_room` is a definition too, in another crate.
 APART = {it: it + "_lem" for it in "list_length no_table nothing_left one_more plain_at read_at trim_end trim_start walked_by".split()}
+# A parameter that the port took for a name with a type in it.
+GARBLED = {"in_List": "in_list"}
 IN_FILES = {
     "./crates/table_declarations/proofs/Outcomes.antt": {"no_room": "no_room_lem"},
 }
@@ -180,7 +182,7 @@ def main():
                 print(path)
             continue
         here = {old: new for old, new in names.items() if old not in away and (path.endswith(".antt") or old not in APART)}
-        now = turned(path, text, {**here, **IN_FILES.get(path, {})})
+        now = turned(path, text, {**here, **IN_FILES.get(path, {}), **GARBLED})
         if now != text:
             with open(path, "w", encoding="utf-8", newline="") as it:
                 it.write(now)

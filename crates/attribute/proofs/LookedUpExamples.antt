@@ -58,10 +58,10 @@ table true xml10 = (refl, refl, refl, refl, refl, refl, refl, refl, refl, refl)
 table true xml11 = (refl, refl, refl, refl, refl, refl, refl, refl, refl, refl)
 
 -- U+0001 raw and U+FFFE by number: refused by the strict reading alone, 26 and 25
-strictly-fewer :
+strictly_fewer :
     (names false xml10 1 9 (38 ∷ 108 ∷ 116 ∷ 59 ∷ 1 ∷ 38 ∷ 117 ∷ 59 ∷ []) ≡ lt ∷ u ∷ [])  -- &lt;..&u;
     × (names true xml10 1 9 (38 ∷ 108 ∷ 116 ∷ 59 ∷ 1 ∷ 38 ∷ 117 ∷ 59 ∷ []) ≡ lt ∷ [])
     × (names false xml11 1 9 (38 ∷ 35 ∷ 120 ∷ 70 ∷ 70 ∷ 70 ∷ 69 ∷ 59 ∷ 38 ∷ 117 ∷ 59 ∷ []) ≡ u ∷ [])  -- &#xFFFE;&u;
     × (names true xml11 1 9 (38 ∷ 35 ∷ 120 ∷ 70 ∷ 70 ∷ 70 ∷ 69 ∷ 59 ∷ 38 ∷ 117 ∷ 59 ∷ []) ≡ [])
 unfolding names looked_up reading_by
-strictly-fewer = (refl, refl, refl, refl)
+strictly_fewer = (refl, refl, refl, refl)

@@ -109,7 +109,7 @@ module _ (pool : List ℕ) (at b : ℕ) (bs : List ℕ) (is : declares b ≡ tru
       go false e false k = absurd (true≢false (sym k))
 
 -- a declaration at `at`, and what comes after it
-module _ (list pool : List ℕ) (at : ℕ) (in_List : at < length list) (is : declares (get_or list at 0) ≡ true) where
+module _ (list pool : List ℕ) (at : ℕ) (in_list : at < length list) (is : declares (get_or list at 0) ≡ true) where
   abbrev b : ℕ
   b = get_or list at 0
 
@@ -117,7 +117,7 @@ module _ (list pool : List ℕ) (at : ℕ) (in_List : at < length list) (is : de
   next = at + command_size b
 
   here : drop at list ≡ b ∷ drop (at + 1) list
-  here = rw (add-one at) (drop-cons list at 0 in_List)
+  here = rw (add-one at) (drop-cons list at 0 in_list)
 
   size : at + 1 + operands b ≡ next
   unfolding command_size

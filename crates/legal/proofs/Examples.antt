@@ -52,7 +52,7 @@ planes = (refl, refl, refl, refl, refl, refl, refl, refl, refl, refl)
 faults : List ℕ → List Bool
 faults bytes = faults_by 0 bytes ∷ faults_by 1 bytes ∷ faults_by 2 bytes ∷ []
 
-controls-in-bytes :
+controls_in_bytes :
     (faults (0x00 ∷ []) ≡ true ∷ true ∷ true ∷ [])  -- U+0000
     × (faults (0x01 ∷ []) ≡ true ∷ true ∷ false ∷ [])  -- U+0001
     × (faults (0x08 ∷ []) ≡ true ∷ true ∷ false ∷ [])  -- U+0008
@@ -73,9 +73,9 @@ controls-in-bytes :
     × (faults (0xC2 ∷ 0x9F ∷ []) ≡ false ∷ true ∷ false ∷ [])  -- U+009F
     × (faults (0xC2 ∷ 0xA0 ∷ []) ≡ false ∷ false ∷ false ∷ [])  -- U+00A0
 unfolding faults faults_by
-controls-in-bytes = (refl, refl, refl, refl, refl, refl, refl, refl, refl, refl, refl, refl, refl, refl, refl, refl, refl, refl, refl)
+controls_in_bytes = (refl, refl, refl, refl, refl, refl, refl, refl, refl, refl, refl, refl, refl, refl, refl, refl, refl, refl, refl)
 
-planes-in-bytes :
+planes_in_bytes :
     (faults (0xED ∷ 0x9F ∷ 0xBF ∷ []) ≡ false ∷ false ∷ false ∷ [])  -- U+D7FF
     × (faults (0xEE ∷ 0x80 ∷ 0x80 ∷ []) ≡ false ∷ false ∷ false ∷ [])  -- U+E000
     × (faults (0xEF ∷ 0xBF ∷ 0xBD ∷ []) ≡ false ∷ false ∷ false ∷ [])  -- U+FFFD
@@ -84,9 +84,9 @@ planes-in-bytes :
     × (faults (0xF0 ∷ 0x90 ∷ 0x80 ∷ 0x80 ∷ []) ≡ false ∷ false ∷ false ∷ [])  -- U+10000
     × (faults (0xF4 ∷ 0x8F ∷ 0xBF ∷ 0xBF ∷ []) ≡ false ∷ false ∷ false ∷ [])  -- U+10FFFF
 unfolding faults faults_by
-planes-in-bytes = (refl, refl, refl, refl, refl, refl, refl)
+planes_in_bytes = (refl, refl, refl, refl, refl, refl, refl)
 
-other-bytes :
+other_bytes :
     (faults (0x80 ∷ []) ≡ false ∷ false ∷ false ∷ [])  -- a byte inside of a character
     × (faults (0xBF ∷ []) ≡ false ∷ false ∷ false ∷ [])  -- the same
     × (faults (0xC2 ∷ []) ≡ false ∷ false ∷ false ∷ [])  -- a character cut short
@@ -97,4 +97,4 @@ other-bytes :
     × (faults (0x41 ∷ 0x00 ∷ []) ≡ false ∷ false ∷ false ∷ [])  -- what follows a character has no say
     × (faults (0xEF ∷ 0xBF ∷ 0xBE ∷ 0x41 ∷ []) ≡ true ∷ true ∷ true ∷ [])  -- the same
 unfolding faults faults_by
-other-bytes = (refl, refl, refl, refl, refl, refl, refl, refl, refl)
+other_bytes = (refl, refl, refl, refl, refl, refl, refl, refl, refl)

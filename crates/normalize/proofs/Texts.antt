@@ -4,7 +4,7 @@
 -- which walk a call asks for (`walk_for`, `call_bottom`, `call_spaced`, `call_barred`, `call_read`, `call_utf8`). Assumes nothing.
 use mathlib.Core.Path.{◌≡◌, refl, sym, ap, subst, ◌∙◌}
 use mathlib.Core.Logic.{◌≢◌}
-use mathlib.Core.Bool.{Bool, true, false}
+use mathlib.Core.Bool.{Bool, true, false, not}
 use mathlib.Core.List.{List, []}
 use Prim.Native.Nat.{ℕ, zero, suc, ◌+◌, ◌-◌, ◌*◌, ◌≤◌, ◌<◌}
 use native.Mathlib.Omega.{arith}
@@ -317,6 +317,14 @@ form_laid short more out w h =
     form_written short more out w.0 fits ((w.1.fits [] out refl (fitted_start out)).holds fits)
 
 -- ---- the walk that a call asks for
+
+pub not_true : (x : Bool) → not x ≡ true → x ≡ false
+not_true true e = sym e
+not_true false e = refl
+
+pub not_false : (x : Bool) → not x ≡ false → x ≡ true
+not_false true e = refl
+not_false false e = sym e
 
 -- the value itself is written
 pub shown_plain : (o : Outcome) → written_in 0 false o ≡ o

@@ -1,5 +1,5 @@
 -- The premises of the requests' theorems are met by calls with a table that defines something, by computation: K7 (`k7_met`), K8's re-reading
--- (`again_met`, `again_26_met`), the standard (`standard_met_so`), K4's tables (`k4-table-met`), K10 (`k10_met`). Assumes nothing.
+-- (`again_met`, `again_26_met`), the standard (`standard_met_so`), K4's tables (`k4_table_met`), K10 (`k10_met`). Assumes nothing.
 use mathlib.Core.Path.{◌≡◌, refl, ap}
 use Prim.Native.Nat.{ℕ, zero, suc}
 use native.Mathlib.Omega.{arith}
@@ -203,13 +203,13 @@ table_checked : (check_table_call (definition ++ 0 ∷ []) (101 ∷ 120 ∷ []) 
 unfolding check_table_call table_check
 table_checked = (refl, refl)
 
-k4-table-met :
+k4_table_met :
     (check_table_call (3 ∷ definition ++ 0 ∷ []) (101 ∷ 120 ∷ []) ≡ called 0 (1 ∷ 0 ∷ []) [])
     × (check_table_call (3 ∷ definition) (101 ∷ 120 ∷ []) ≡ called 7 (13 ∷ 0 ∷ []) [])
     × (check_table_call (definition ++ 3 ∷ 0 ∷ []) (101 ∷ 120 ∷ []) ≡ called 7 (12 ∷ 0 ∷ []) [])
     × ((t out : List ℕ) → unescape_call t (3 ∷ definition ++ 0 ∷ []) (101 ∷ 120 ∷ []) out ≡ unescape_call t (definition ++ 0 ∷ []) (101 ∷ 120 ∷ []) out)
 unfolding marked
-k4-table-met = (
+k4_table_met = (
   k4_accepted (definition ++ 0 ∷ []) (101 ∷ 120 ∷ []) refl (omega arith) table_checked.0,
   k4_refused definition (101 ∷ 120 ∷ []) refl (omega arith) table_checked.1 (λ z. omega (arith, z)) (λ z. omega (arith, z)),
   k4_middle 1 (0 ∷ 0 ∷ 0 ∷ 0 ∷ 1 ∷ 1 ∷ 0 ∷ 0 ∷ 0 ∷ 1 ∷ 0 ∷ []) (0 ∷ []) (101 ∷ 120 ∷ []) (omega arith) table_checked.0,

@@ -1,5 +1,5 @@
 -- K4, of the calls, wherever the reference stands: a text of a marked list has a space for each TAB, LF and CR (`k4_gives`, `k4_form`, `k4_list`); these
--- and `&` are its stop bytes under either version (`k4_gives`, `k4_stopped`); and the standard's own example (`k4-example`). Assumes nothing.
+-- and `&` are its stop bytes under either version (`k4_gives`, `k4_stopped`); and the standard's own example (`k4_example`). Assumes nothing.
 use mathlib.Core.Path.{◌≡◌, refl, sym, ap, ap₂, ◌∙◌}
 use Prim.Native.Nat.{ℕ, suc}
 use mathlib.Core.Bool.{Bool, true, false, ◌||◌, true≢false}
@@ -261,8 +261,8 @@ abbrev asked : List ℕ → Asked
 asked list = record { version = 1; text = example_value; list = list; pool = 100 ∷ 13 ∷ 97 ∷ 10 ∷ 100 ∷ 97 ∷ 13 ∷ 10 ∷ []; depth = 2; limit = 5 }
 
 -- marked, two spaces at the end, as the standard has it; unmarked, one
-pub k4-example :
+pub k4_example :
     (normalize_of (asked (3 ∷ example)) (0 ∷ 0 ∷ 0 ∷ 0 ∷ 0 ∷ 0 ∷ 0 ∷ 0 ∷ 0 ∷ 7 ∷ []) ≡ called 0 (9 ∷ 5 ∷ []) ((32 ∷ 32 ∷ 65 ∷ 32 ∷ 32 ∷ 32 ∷ 66 ∷ 32 ∷ 32 ∷ 7 ∷ []) ∷ []))
     × (normalize_of (asked example) (0 ∷ 0 ∷ 0 ∷ 0 ∷ 0 ∷ 0 ∷ 0 ∷ 0 ∷ 7 ∷ []) ≡ called 0 (8 ∷ 5 ∷ []) ((32 ∷ 32 ∷ 65 ∷ 32 ∷ 32 ∷ 32 ∷ 66 ∷ 32 ∷ 7 ∷ []) ∷ []))
 unfolding normalize_attribute_value_call length_check settings_check utf8_check utf8_end table_check finished normalize reading_of
-k4-example = (refl, refl)
+k4_example = (refl, refl)

@@ -1,5 +1,5 @@
 -- K13's premises are met by two tables that share nothing but what a value looks up (`edited_same`), or a job (`job_same`); and what they ask for is needed: `lt`
--- added to an empty table is no unused definition where `&lt;` is read (`lt-appended`), and the marking has a say (`marking-has-a-say`), by
+-- added to an empty table is no unused definition where `&lt;` is read (`lt_appended`), and the marking has a say (`marking_has_a_say`), by
 -- computation. Assumes nothing.
 use mathlib.Core.Path.{◌≡◌, refl}
 use mathlib.Core.Bool.{false}
@@ -99,17 +99,17 @@ normalized : List ℕ → List ℕ → List ℕ → Called
 normalized t given bytes = call_with (normalizing false t 0 2 2 (7 ∷ 7 ∷ [])) given bytes
 
 -- what is left, after which byte is kept
-lt-appended :
+lt_appended :
     (normalized (38 ∷ 101 ∷ 59 ∷ []) edited edited_pool ≡ called 0 (1 ∷ 2 ∷ []) ((120 ∷ 7 ∷ []) ∷ []))  -- &e;
     × (normalized (38 ∷ 108 ∷ 116 ∷ 59 ∷ []) (0 ∷ []) [] ≡ called 0 (1 ∷ 0 ∷ []) ((60 ∷ 7 ∷ []) ∷ []))  -- &lt;
     -- &lt;, where lt = `<`: as before, but for the opening
     × (normalized (38 ∷ 108 ∷ 116 ∷ 59 ∷ []) (1 ∷ 0 ∷ 0 ∷ 0 ∷ 0 ∷ 2 ∷ 2 ∷ 0 ∷ 0 ∷ 0 ∷ 1 ∷ 0 ∷ 0 ∷ []) (108 ∷ 116 ∷ 60 ∷ []) ≡ called 0 (1 ∷ 1 ∷ []) ((60 ∷ 7 ∷ []) ∷ []))
 unfolding normalized normalize_attribute_value_call length_check settings_check utf8_check utf8_end table_check finished normalize reading_of
-lt-appended = (refl, refl, refl)
+lt_appended = (refl, refl, refl)
 
 -- e = CR LF, without a mark and with one
-marking-has-a-say :
+marking_has_a_say :
     (normalized (38 ∷ 101 ∷ 59 ∷ []) (1 ∷ 0 ∷ 0 ∷ 0 ∷ 0 ∷ 1 ∷ 1 ∷ 0 ∷ 0 ∷ 0 ∷ 2 ∷ 0 ∷ 0 ∷ []) (101 ∷ 13 ∷ 10 ∷ []) ≡ called 0 (1 ∷ 1 ∷ []) ((32 ∷ 7 ∷ []) ∷ []))
     × (normalized (38 ∷ 101 ∷ 59 ∷ []) (3 ∷ 1 ∷ 0 ∷ 0 ∷ 0 ∷ 0 ∷ 1 ∷ 1 ∷ 0 ∷ 0 ∷ 0 ∷ 2 ∷ 0 ∷ 0 ∷ []) (101 ∷ 13 ∷ 10 ∷ []) ≡ called 0 (2 ∷ 1 ∷ []) ((32 ∷ 32 ∷ []) ∷ []))
 unfolding normalized normalize_attribute_value_call length_check settings_check utf8_check utf8_end table_check finished normalize reading_of
-marking-has-a-say = (refl, refl)
+marking_has_a_say = (refl, refl)

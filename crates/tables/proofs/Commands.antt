@@ -62,9 +62,9 @@ module _ (list : List ℕ) (at count : ℕ) where
   unfolding last_check
   last_none e = let h : length list ≤ at = omega arith in rw (drop_of_length-le list h)
 
-  module _ (in_List : at < length list) where
+  module _ (in_list : at < length list) where
     at_byte : drop at list ≡ get_or list at 0 ∷ drop (at + 1) list
-    at_byte = rw (add-one at) (drop-cons list at 0 in_List)
+    at_byte = rw (add-one at) (drop-cons list at 0 in_list)
 
     pub last_other : (get_or list at 0 ≡ 0 → ⊥) → Refused 7 at 0 ≡ last_check (drop at list) at count
     unfolding last_check
@@ -158,7 +158,7 @@ module _ (list pool : List ℕ) where
             let w : ◌≡◌ {A = ℕ} 0 1 = cc in
             absurd (omega (arith, w))
 
-    module _ (in_List : at < length list) (is : declares (get_or list at 0) ≡ true) where
+    module _ (in_list : at < length list) (is : declares (get_or list at 0) ≡ true) where
       abbrev then : ℕ
       then = at + command_size (get_or list at 0)
 
@@ -167,7 +167,7 @@ module _ (list pool : List ℕ) where
       unfolding answer_from
       turn =
           let q : count + suc (length (declarations_from 0 (drop then list))) ≡ count + 1 + length (declarations_from 0 (drop then list)) = omega arith in
-          rw (next_check list pool at in_List is, next_declaration list pool at in_List is, q)
+          rw (next_check list pool at in_list is, next_declaration list pool at in_list is, q)
 
       pub refuses : {number first second : ℕ} → command_check list pool at ≡ Refused number first second → command_check list pool at ≡ table_check list pool
       refuses e = e ∙ sym (rw e at turn) ∙ s.is

@@ -39,9 +39,9 @@ names : List ℕ → List (List ℕ)
 unfolding looked_up_in_text
 names t = looked_up_in_text (binding (1 ∷ 0 ∷ 0 ∷ 0 ∷ 0 ∷ 1 ∷ 1 ∷ 0 ∷ 0 ∷ 0 ∷ 3 ∷ 0 ∷ 0 ∷ []) (101 ∷ 38 ∷ 102 ∷ 59 ∷ [])) t
 
-names-looked-up :
+names_looked_up :
     (names (38 ∷ 97 ∷ 109 ∷ 112 ∷ 59 ∷ 38 ∷ 101 ∷ 59 ∷ []) ≡ (97 ∷ 109 ∷ 112 ∷ []) ∷ (101 ∷ []) ∷ [])  -- &amp;&e;
     × (names (38 ∷ 102 ∷ 59 ∷ 38 ∷ 101 ∷ 59 ∷ []) ≡ (102 ∷ []) ∷ [])  -- &f;&e;: 11 at f
     × (names (38 ∷ 101 ∷ 59 ∷ 38 ∷ 35 ∷ 48 ∷ 59 ∷ 38 ∷ 101 ∷ 59 ∷ []) ≡ (101 ∷ []) ∷ [])  -- &e;&#0;&e;: 15
 unfolding names looked_up_in_text binding
-names-looked-up = (refl, refl, refl)
+names_looked_up = (refl, refl, refl)
