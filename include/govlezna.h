@@ -28,8 +28,7 @@
  * Time: a call checks all of its text and all of its table each time, whatever part it then needs; beyond that it takes
  * what is said below.
  *
- * For Linux on x86-64-v2 processors, which have SSE4.2 and POPCNT: link libgovlezna.a, or libgovlezna.so; `pkg-config --cflags --libs
- * govlezna` has the flags.
+ * For x86-64 Linux: link libgovlezna.a, or libgovlezna.so; `pkg-config --cflags --libs govlezna` has the flags.
  */
 #ifndef GOVLEZNA_H
 #define GOVLEZNA_H

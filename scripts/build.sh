@@ -81,9 +81,10 @@ watch_proofs() { # START LOG
     done
 }
 
-# rt lib proves the crates below first. The archive of govlezna_c goes by the library's own name, and is renamed into place.
+# rt lib proves the crates below first. The archive of govlezna_c goes by the library's own name, and is renamed into place. It is for any
+# x86-64 processor; the kit's own choice wants SSE4.2 and POPCNT.
 prove_and_compile() {
-    (cd "$root/crates/govlezna_c" && rt lib) && mkdir -p "${archive%/*}" &&
+    (cd "$root/crates/govlezna_c" && rt lib --cpu x86-64) && mkdir -p "${archive%/*}" &&
         cp "$root/crates/govlezna_c/out/libgovlezna_c.a" "$archive.new" && mv -f "$archive.new" "$archive"
 }
 
