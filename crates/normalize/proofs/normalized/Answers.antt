@@ -23,8 +23,8 @@ returns-then-form-text c =
 pub normalize_into-requires : goal.normalize_into-requires
 normalize_into-requires c =
     let a = c.args in
-    let p = read_asked a.wanted a.list.now a.pool.now a.text.now a.form a.lacks c.reading_for-reading.ensures c.if-wanted-eq0.false c.requires.limit_bound c.requires.text_len_bound c.requires.well_formed c.first_halt-first.ensures in
-    record { valid_table = c.requires.valid_table; base_value = p.0; halt_at = p.1.0; well_formed = p.1.1 }
+    let asked = read_asked a.wanted a.list.now a.pool.now a.text.now a.form a.lacks c.reading_for-reading.ensures c.if-wanted-eq0.false c.requires.limit_bound c.requires.text_len_bound c.requires.well_formed c.first_halt-first.ensures in
+    record { valid_table = c.requires.valid_table; base_value = asked.0; halt_at = asked.1.0; well_formed = asked.1.1 }
 
 pub returns-then-first-text : goal.returns-then-first-text
 returns-then-first-text c =
