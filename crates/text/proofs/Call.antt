@@ -8,8 +8,8 @@ use lib.Dec.{ltb}
 use lib.ListN.{length}
 use borrow.Author.Tests.{ltb-false}
 use Rattle.text.specs.Call.{Called, and_then, call_of, guarded, longest_text, length_check}
-use Rattle.text.specs.declared.Answer.{Answer}
-use Rattle.text.specs.declared.Answer.TheVariants.{Done, Refused}
+use Rattle.text.specs.Answers.{Answer}
+use Rattle.text.specs.Answers.{Done, Refused}
 
 pub stops : {r checked : Answer} (later : Answer) {number first second : ℕ} → r ≡ checked → r ≡ Refused number first second → r ≡ and_then checked later
 stops later e q = q ∙ sym (ap (λ (a : Answer). and_then a later) (sym e ∙ q))

@@ -1,10 +1,17 @@
 -- What a call answers, and the checks of its arguments (document 01, Refusals by place). Assumes nothing.
-use Rattle.std.specs.Prelude.{ℕ, List, [], ◌∷◌, ◌++◌, length, drop, eqb, ltb}
+use Rattle.std.specs.Prelude.{ℕ, List, [], ◌∷◌, ◌++◌, length, drop, eqb, ltb, Result, Ok, Err}
 use Rattle.text.specs.Bytes.{pick}
 use Rattle.text.specs.Version.{known_version}
 use Rattle.text.specs.Utf8.{utf8_end}
-use Rattle.text.specs.declared.Answer.{Answer}
-use Rattle.text.specs.declared.Answer.TheVariants.{Done, Refused}
+use Rattle.text.specs.Answers.{Answer, Done, Refused}
+use Rattle.text.specs.Refusals.{number_of, first_of, second_of}
+use Rattle.text.specs.declared.Success.{Success}
+use Rattle.text.specs.declared.refusals.Refusal.{Refusal}
+
+-- what the code's results are to the documents: words and refusals by their numbers
+abbrev pub answered : Result Success Refusal → Answer
+answered (Ok words) = Done words.first words.second
+answered (Err refusal) = Refused (number_of refusal) (first_of refusal) (second_of refusal)
 
 -- all that a call leaves behind: its number, the answer words, and each lent buffer whole, in the order of the parameters
 pub data Called : Type 0 where

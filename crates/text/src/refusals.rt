@@ -1,60 +1,126 @@
-// The refusals of documents 01 and 02, by the names of include/govlezna.h.
-pub const TOO_LONG: u32 = 1;
+// What refuses a call: the refusals of documents 01 and 02, by the names of include/govlezna.h, with what the answer words say of them.
+ghost use Rattle.std.specs.Prelude.{◌≡◌, [], ◌∷◌};
+ghost use Rattle.text.specs.Refusals.{number_of, first_of, second_of};
 
-pub const DEPTH_TOO_LARGE: u32 = 2;
+#[derive(Clone, Copy)]
+pub enum Refusal {
+    // The text's length.
+    TooLong(u64),
+    DepthTooLarge,
+    LimitTooLarge,
+    // Of a level or a version.
+    UnknownByte,
+    // The end of the longest well-formed prefix.
+    NotUtf8(u64),
+    TableTooLong,
+    // An offset in the list, as in the two below.
+    MalformedList(u64),
+    OutsidePool(u64),
+    InvalidDefinition(u64),
+    // The offset of `&`, and the text's length.
+    UnterminatedEntity(u64, u64),
+    // The name's start and end.
+    UnrecognizedEntity(u64, u64),
+    UnexpectedSign,
+    InvalidNumber,
+    // The number.
+    InvalidCodepoint(u64),
+    IllegalCharacter,
+    TooDeep,
+    // The offset of `&`.
+    TooManyOpenings(u64),
+    // The length that is needed, as in the one below.
+    NoScratch(u64),
+    NoRoom(u64),
+    // The cursor or offset.
+    CursorOutside(u64),
+    // The offset of what departs from the form of declarations.
+    MalformedDeclaration(u64),
+    // The offset at which a name, a value or the number of declarations passes its limit.
+    DeclarationTooLarge(u64),
+    // The lengths of list and pool, for which there is no room or which are too long for a table.
+    NoTableRoom(u64, u64),
+    // A reference to a character that the version does not allow.
+    ForbiddenReference,
+    // The offset of a raw character that the version does not allow.
+    ForbiddenCharacter(u64),
+    // The offset of `&`.
+    ExternalEntity(u64),
+    DamagedRegister,
+    AbsentForm,
+    RegisterFull,
+    // The index of the first span that leaves the text, or the most spans.
+    SpanOutside(u64),
+    NoDepth,
+    // No refusal: there is no further piece.
+    NoMore,
+}
 
-pub const LIMIT_TOO_LARGE: u32 = 3;
+impl Refusal {
+    // Its number there.
+    pub fn number(self) -> u32
+        ensures { result ≡ number_of self }
+    {
+        match self {
+            Refusal::TooLong(_) => 1,
+            Refusal::DepthTooLarge => 2,
+            Refusal::LimitTooLarge => 3,
+            Refusal::UnknownByte => 4,
+            Refusal::NotUtf8(_) => 5,
+            Refusal::TableTooLong => 6,
+            Refusal::MalformedList(_) => 7,
+            Refusal::OutsidePool(_) => 8,
+            Refusal::InvalidDefinition(_) => 9,
+            Refusal::UnterminatedEntity(_, _) => 10,
+            Refusal::UnrecognizedEntity(_, _) => 11,
+            Refusal::UnexpectedSign => 12,
+            Refusal::InvalidNumber => 13,
+            Refusal::InvalidCodepoint(_) => 14,
+            Refusal::IllegalCharacter => 15,
+            Refusal::TooDeep => 16,
+            Refusal::TooManyOpenings(_) => 17,
+            Refusal::NoScratch(_) => 18,
+            Refusal::NoRoom(_) => 19,
+            Refusal::CursorOutside(_) => 20,
+            Refusal::MalformedDeclaration(_) => 21,
+            Refusal::DeclarationTooLarge(_) => 22,
+            Refusal::NoTableRoom(_, _) => 23,
+            Refusal::ForbiddenReference => 25,
+            Refusal::ForbiddenCharacter(_) => 26,
+            Refusal::ExternalEntity(_) => 27,
+            Refusal::DamagedRegister => 28,
+            Refusal::AbsentForm => 29,
+            Refusal::RegisterFull => 30,
+            Refusal::SpanOutside(_) => 31,
+            Refusal::NoDepth => 32,
+            Refusal::NoMore => 255,
+        }
+    }
 
-pub const UNKNOWN_BYTE: u32 = 4;
-
-pub const NOT_UTF8: u32 = 5;
-
-pub const TABLE_TOO_LONG: u32 = 6;
-
-pub const MALFORMED_LIST: u32 = 7;
-
-pub const OUTSIDE_POOL: u32 = 8;
-
-pub const INVALID_DEFINITION: u32 = 9;
-
-pub const UNTERMINATED_ENTITY: u32 = 10;
-
-pub const UNRECOGNIZED_ENTITY: u32 = 11;
-
-pub const UNEXPECTED_SIGN: u32 = 12;
-
-pub const INVALID_NUMBER: u32 = 13;
-
-pub const INVALID_CODEPOINT: u32 = 14;
-
-pub const ILLEGAL_CHARACTER: u32 = 15;
-
-pub const TOO_DEEP: u32 = 16;
-
-pub const TOO_MANY_OPENINGS: u32 = 17;
-
-pub const NO_SCRATCH: u32 = 18;
-
-pub const NO_ROOM: u32 = 19;
-
-pub const CURSOR_OUTSIDE: u32 = 20;
-
-// A text that departs from the form of declarations.
-pub const MALFORMED_DECLARATION: u32 = 21;
-
-// A name, a value or the number of declarations that passes its limit.
-pub const DECLARATION_TOO_LARGE: u32 = 22;
-
-// List or pool too small for the declarations, or the pool too long for a table.
-pub const NO_TABLE_ROOM: u32 = 23;
-
-// A reference to a character outside Char.
-pub const FORBIDDEN_REFERENCE: u32 = 25;
-
-// A raw character that the rule does not allow.
-pub const FORBIDDEN_CHARACTER: u32 = 26;
-
-pub const EXTERNAL_ENTITY: u32 = 27;
-
-// No refusal: there is no further piece.
-pub const NO_MORE: u32 = 255;
+    // Its two answer words.
+    pub fn words(self) -> [u64; 2]
+        ensures { result ≡ first_of self ∷ second_of self ∷ [] }
+    {
+        match self {
+            Refusal::TooLong(first)
+            | Refusal::NotUtf8(first)
+            | Refusal::MalformedList(first)
+            | Refusal::OutsidePool(first)
+            | Refusal::InvalidDefinition(first)
+            | Refusal::InvalidCodepoint(first)
+            | Refusal::TooManyOpenings(first)
+            | Refusal::NoScratch(first)
+            | Refusal::NoRoom(first)
+            | Refusal::CursorOutside(first)
+            | Refusal::MalformedDeclaration(first)
+            | Refusal::DeclarationTooLarge(first)
+            | Refusal::ForbiddenCharacter(first)
+            | Refusal::ExternalEntity(first)
+            | Refusal::SpanOutside(first) => [first, 0],
+            Refusal::UnterminatedEntity(first, second)
+            | Refusal::UnrecognizedEntity(first, second)
+            | Refusal::NoTableRoom(first, second) => [first, second],
+            _ => [0, 0],
+        }
+    }
+}

@@ -1,29 +1,15 @@
--- `put_run` keeps: the first i bytes of the run are laid over the output (`Laying`). Assumes nothing.
-use native.Mathlib.Omega.{arith}
-use Rattle.output.proofs.Laid.{laying_none, laying_next, laying_all}
+-- `put_run` keeps: the first k bytes of the run are laid over the output.
+use Rattle.std.proofs.Common.{List, ℕ, set, get_or, ap, ◌∙◌, arith}
+use Rattle.std.proofs.Math.Seq.{take_all}
+use Rattle.text.specs.Call.{laid}
+use Rattle.output.proofs.Laid.{laid_next}
 use Rattle.output.proofs.put_run.Goals as goal
 
-pub loop-i-init : goal.loop-i-init
-loop-i-init c = laying_none _ _
-
-pub bounds-src-i : goal.bounds-src-i
-bounds-src-i c = omega arith
-
-pub bounds-out-i : goal.bounds-out-i
-bounds-out-i c = omega (arith, c.loop-i.invariant.size, c.requires)
-
-pub overflow_add-i : goal.overflow_add-i
-overflow_add-i c = omega arith
-
-pub loop-i-smaller : goal.loop-i-smaller
-loop-i-smaller c = omega arith
-
-pub loop-i-preserved : goal.loop-i-preserved
-loop-i-preserved c =
-    laying_next c.args.src.now c.args.out.now c.loop-i.invariant (omega arith) c.requires
-
-pub shape_of-out : goal.shape_of-out
-shape_of-out c = c.loop-i.invariant.size
+pub loop-k-preserved : goal.loop-k-preserved
+loop-k-preserved c =
+    let src = c.args.src.now in
+    let k = c.loop-k.k in
+    ap (λ (o : List ℕ). set o k (get_or src k 0)) c.loop-k.invariant ∙ laid_next src c.args.out.now k (omega arith) (omega arith)
 
 pub returns : goal.returns
-returns c = laying_all c.args.src.now c.args.out.now c.loop-i.invariant (omega arith)
+returns c = c.loop-k.invariant ∙ ap (λ (s : List ℕ). laid s c.args.out.now) (take_all c.loop-k.k c.args.src.now (omega arith))

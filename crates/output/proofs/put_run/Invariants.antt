@@ -1,10 +1,7 @@
-use Prim.Native.Nat.{◌-◌}
-use lib.ListN.{length}
-use Rattle.output.proofs.Laid.{Laying}
+-- the first k bytes of the run are laid over the output
+use Rattle.std.proofs.Common.{◌≡◌, take}
+use Rattle.text.specs.Call.{laid}
 use Rattle.output.proofs.put_run.Given as goal
 
-abbrev pub invariant-loop-i : goal.invariant-loop-i
-invariant-loop-i l = Laying l.src l.initial.out l.out l.i
-
-abbrev pub decreases-loop-i : goal.decreases-loop-i
-decreases-loop-i l = length l.src - l.i
+abbrev pub invariant-loop-k : goal.invariant-loop-k
+invariant-loop-k l = l.out ≡ laid (take l.k l.src) l.initial.out

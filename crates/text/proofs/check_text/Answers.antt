@@ -1,9 +1,0 @@
-use mathlib.Core.Path.{◌∙◌}
-use Rattle.text.proofs.Call.{stops, goes_on}
-use Rattle.text.proofs.check_text.Goals as goal
-
-pub returns-in_default : goal.returns-in_default
-returns-in_default c = stops _ c.check_length-length.ensures c.in_default.is
-
-pub returns : goal.returns
-returns c = c.check_utf8.ensures ∙ goes_on _ c.check_length-length.ensures c.in-Done.is
