@@ -11,7 +11,7 @@ use lib.Dec.{eqb}
 use borrow.Author.Tests.{ne_eqb}
 use Rattle.text.proofs.Bytes.{above}
 use Rattle.charref.specs.CharRef.{digit_value, number_from, small, in_base, judge, char_number, encode}
-use Rattle.charref.specs.declared.CharNumber.{CharNumber}
+use Rattle.charref.specs.CharNumbers.{CharNumber}
 use Rattle.charref.proofs.Encoding.{by_size}
 use Rattle.charref.proofs.Numbers.{number_stop_lem}
 

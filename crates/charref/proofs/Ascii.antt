@@ -10,14 +10,14 @@ use lib.ListN.{length}
 use borrow.Author.Tests.{eqb-true, leb-false}
 use Rattle.text.specs.Bytes.{pick}
 use Rattle.text.specs.Utf8.{utf8_end}
-use Rattle.text.specs.declared.Answer.TheVariants.{Done}
+use Rattle.text.specs.Answers.{Done}
 use Rattle.text.proofs.Utf8.{all_ascii, ascii_well_formed}
 use Rattle.text.proofs.Longest.{whole_end}
 use Rattle.charref.specs.CharRef.{digit_value, digit, number_from, small, in_base, judge, char_number, any_character, number_answer}
-use Rattle.charref.specs.declared.Parsed.{Parsed}
-use Rattle.charref.specs.declared.Parsed.TheVariants.{Value, Signed, NoNumber}
-use Rattle.charref.specs.declared.CharNumber.{CharNumber}
-use Rattle.charref.specs.declared.CharNumber.TheVariants.{Char, UnexpectedSign, InvalidNumber, InvalidCodepoint, IllegalCharacter, Forbidden}
+use Rattle.charref.specs.CharNumbers.{Parsed}
+use Rattle.charref.specs.CharNumbers.{Value, Signed, NoNumber}
+use Rattle.charref.specs.CharNumbers.{CharNumber}
+use Rattle.charref.specs.CharNumbers.{Char, UnexpectedSign, InvalidNumber, InvalidCodepoint, IllegalCharacter, Forbidden}
 use Rattle.text.proofs.Bytes.{above}
 use Rattle.charref.proofs.Numbers.{digit_none}
 

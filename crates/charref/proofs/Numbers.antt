@@ -15,10 +15,10 @@ use borrow.Author.Tests.{lt-ltb, le-ltb, ltb-false, ne_eqb, eqb-false}
 use Rattle.text.specs.Bytes.{pick, within}
 use Rattle.text.specs.Utf8.{WellFormed}
 use Rattle.charref.specs.CharRef.{digit_value, digit, number_from, small, in_base, judge, char_number, any_character, encode}
-use Rattle.charref.specs.declared.Parsed.{Parsed}
-use Rattle.charref.specs.declared.Parsed.TheVariants.{Value, Signed, NoNumber}
-use Rattle.charref.specs.declared.CharNumber.{CharNumber}
-use Rattle.charref.specs.declared.CharNumber.TheVariants.{Char, UnexpectedSign, InvalidNumber, InvalidCodepoint, IllegalCharacter, Forbidden}
+use Rattle.charref.specs.CharNumbers.{Parsed}
+use Rattle.charref.specs.CharNumbers.{Value, Signed, NoNumber}
+use Rattle.charref.specs.CharNumbers.{CharNumber}
+use Rattle.charref.specs.CharNumbers.{Char, UnexpectedSign, InvalidNumber, InvalidCodepoint, IllegalCharacter, Forbidden}
 use Rattle.charref.proofs.Encoding.{encode_well_formed}
 
 -- ---- a digit at a time

@@ -15,9 +15,11 @@ use borrow.Author.Tests.{eqb-true, ne_eqb, ltb-true, ltb-false, le-ltb}
 use Rattle.text.specs.Bytes.{pick}
 use Rattle.text.proofs.Bytes.{below}
 use Rattle.charref.specs.CharRef.{digit_value, digit, number_from, small, in_base, judge, char_number, any_character}
-use Rattle.charref.specs.Reading.{Closed, Written, Found}
-use Rattle.charref.specs.declared.Parsed.TheVariants.{Value, NoNumber}
-use Rattle.charref.specs.declared.CharNumber.TheVariants.{Char}
+use Rattle.std.specs.Prelude.{IfSome}
+use Rattle.std.specs.Prelude as std
+use Rattle.charref.specs.Reading.{Closed, Written, Found, Quickly}
+use Rattle.charref.specs.CharNumbers.{Value, NoNumber}
+use Rattle.charref.specs.CharNumbers.{Char}
 use Rattle.charref.specs.declared.Quick.{Quick}
 use Rattle.charref.proofs.Numbers.{number_step, number_stop_lem, base_digits}
 
@@ -205,3 +207,14 @@ module _ (text : List ℕ) (from : ℕ) (q : Quick) (some-char : q.c ≢ 0) wher
       go k false e g l =
           let z : k ≡ from = omega (arith, ltb-false from k e) in
           rw z ((λ y. absurd (omega (arith, x, y))), λ y. absurd (omega (arith, x, y)))
+
+-- the same of digits that may have been read
+pub quickly_hex : (text : List ℕ) (from : ℕ) (r : std.Option Quick) → get_or text from 0 ≡ 120
+    → IfSome r (λ q. (q.c ≢ 0) × Written 16 text (from + 1) q) → Quickly text from r
+quickly_hex text from (std.Some q) x w = (w.0, found_hex text from q w.0 x w.1)
+quickly_hex text from std.None x w = tt
+
+pub quickly_decimal : (text : List ℕ) (from : ℕ) (r : std.Option Quick)
+    → IfSome r (λ q. (q.c ≢ 0) × Written 10 text from q) → Quickly text from r
+quickly_decimal text from (std.Some q) w = (w.0, found_decimal text from q w.0 w.1)
+quickly_decimal text from std.None w = tt

@@ -15,10 +15,10 @@ use Rattle.text.specs.Version.{Rule, xml10, xml11}
 use Rattle.charref.specs.Chars.{is_char}
 use Rattle.charref.specs.CharRef.{in_base, judge, char_number, any_character, only_char, encode}
 use Rattle.charref.specs.Reading.{legal_by}
-use Rattle.charref.specs.declared.Parsed.{Parsed}
-use Rattle.charref.specs.declared.Parsed.TheVariants.{Value, Signed, NoNumber}
-use Rattle.charref.specs.declared.CharNumber.{CharNumber}
-use Rattle.charref.specs.declared.CharNumber.TheVariants.{Char, UnexpectedSign, InvalidNumber, InvalidCodepoint, IllegalCharacter, Forbidden}
+use Rattle.charref.specs.CharNumbers.{Parsed}
+use Rattle.charref.specs.CharNumbers.{Value, Signed, NoNumber}
+use Rattle.charref.specs.CharNumbers.{CharNumber}
+use Rattle.charref.specs.CharNumbers.{Char, UnexpectedSign, InvalidNumber, InvalidCodepoint, IllegalCharacter, Forbidden}
 use Rattle.charref.proofs.Encoding.{encode_well_formed}
 use Rattle.charref.proofs.Numbers.{Character, legal_character, relegal, relegal_number}
 

@@ -3,13 +3,11 @@ use Rattle.std.specs.Prelude.{ℕ, ◌+◌, ◌-◌, ◌*◌, ◌/◌, ◌%◌, 
 use Rattle.std.proofs.Math.Option.{Option, none, some}
 use Rattle.text.specs.Bytes.{pick, within}
 use Rattle.text.specs.Version.{Rule}
-use Rattle.text.specs.declared.Answer.{Answer}
-use Rattle.text.specs.declared.Answer.TheVariants.{Done, Refused}
+use Rattle.text.specs.Answers.{Answer}
+use Rattle.text.specs.Answers.{Done, Refused}
 use Rattle.charref.specs.Chars.{is_char}
-use Rattle.charref.specs.declared.Parsed.{Parsed}
-use Rattle.charref.specs.declared.Parsed.TheVariants.{Value, Signed, NoNumber}
-use Rattle.charref.specs.declared.CharNumber.{CharNumber}
-use Rattle.charref.specs.declared.CharNumber.TheVariants.{Char, UnexpectedSign, InvalidNumber, InvalidCodepoint, IllegalCharacter, Forbidden}
+use Rattle.charref.specs.CharNumbers.{Parsed, Value, Signed, NoNumber}
+use Rattle.charref.specs.CharNumbers.{CharNumber, Char, UnexpectedSign, InvalidNumber, InvalidCodepoint, IllegalCharacter, Forbidden}
 
 -- Character numbers: what a byte is worth as a digit, in either letter case; 16, a digit of neither base, where it is none
 unfoldable pub digit_value : ℕ → ℕ

@@ -1,3 +1,5 @@
+pub mod CharNumbers
 pub mod Chars
 pub mod CharRef
 pub mod Reading
+pub mod Errors

@@ -1,10 +1,8 @@
 -- The terms in which the reading of character numbers is proved: the rules by number, and digits read up to the `;`. Assumes nothing.
-use Rattle.std.specs.Prelude.{ℕ, zero, suc, ◌-◌, ◌≤◌, ◌<◌, ◌≡◌, ◌≢◌, List, length, get_or, take, drop}
+use Rattle.std.specs.Prelude.{Option, Some, None, ℕ, zero, suc, ◌-◌, ◌≤◌, ◌<◌, ◌≡◌, ◌≢◌, List, length, get_or, take, drop}
 use Rattle.text.specs.Version.{xml10, xml11}
 use Rattle.charref.specs.CharRef.{in_base, char_number, any_character, only_char}
-use Rattle.charref.specs.declared.Parsed.TheVariants.{Value}
-use Rattle.charref.specs.declared.CharNumber.{CharNumber}
-use Rattle.charref.specs.declared.CharNumber.TheVariants.{Char}
+use Rattle.charref.specs.CharNumbers.{Value, CharNumber, Char}
 use Rattle.charref.specs.declared.Quick.{Quick}
 
 -- which characters a number may name, by the code's number: all, those of XML 1.0, those of XML 1.1
@@ -32,6 +30,7 @@ pub record Found (text : List ℕ) (from : ℕ) (q : Quick) : Type 0 where
   pub character : char_number any_character (take (q.end - from) (drop from text)) ≡ Char q.c
   pub low : q.c ≤ 0xD7FF
 
--- where the character is 0 nothing is said
-abbrev pub Quickly : List ℕ → ℕ → Quick → Type 0
-Quickly text from q = q.c ≢ 0 → Found text from q
+-- of none nothing is said
+abbrev pub Quickly : List ℕ → ℕ → Option Quick → Type 0
+Quickly text from (Some q) = (q.c ≢ 0) × Found text from q
+Quickly text from None = Unit {0}

@@ -1,29 +1,21 @@
 // Character numbers, the text after `#` of a reference, and the UTF-8 of a character.
 #![tactic(auto)]
 
-ghost use Rattle.std.specs.Prelude.{◌≡◌, ◌≢◌, ℕ, ◌≤◌, ◌++◌, length, drop};
+ghost use Rattle.std.specs.Prelude.{◌≡◌, ◌≢◌, ℕ, ◌≤◌, ◌++◌, length, drop, IfSome};
 ghost use Rattle.text.specs.Bytes.{pick};
 ghost use Rattle.text.specs.Version.{xml10, xml11};
-ghost use Rattle.charref.specs.declared.CharNumber.TheVariants.{Char, Forbidden};
-ghost use Rattle.charref.specs.CharRef.{digit_value, number_from, small, in_base, judge, char_number, number_answer, encode};
+ghost use Rattle.charref.specs.CharNumbers.{Char, Forbidden, Value};
+ghost use Rattle.charref.specs.CharRef.{digit_value, number_from, small, in_base, judge, char_number, encode};
 ghost use Rattle.charref.specs.Chars.{is_char};
 ghost use Rattle.charref.specs.Reading.{legal_by, Written, Quickly};
+ghost use Rattle.charref.specs.Errors.{parsed_as, read_as, refusal_for};
 
-use text::{Answer, refusals};
+use text::refusals::Refusal;
 
-// What the digits write: a value of 32 bits, or what refuses them, 12 or 13.
-#[derive(Drop)]
-enum Parsed {
-    Value(u32),
-    Signed,
-    NoNumber,
-}
-
-// A character, or the refusal of its number: 12, 13, 14 with the value, 15; 25 where the rule that the caller wants does not allow the
-// character (document 02, K8).
-#[derive(Drop)]
-pub enum CharNumber {
-    Char(u32),
+// What refuses a character number: 12, 13, 14 with the value, 15; 25 where the rule that the caller wants does not allow the character
+// (document 02, K8).
+#[derive(Clone, Copy)]
+pub enum ParseCharRefError {
     UnexpectedSign,
     InvalidNumber,
     InvalidCodepoint(u32),
@@ -31,8 +23,22 @@ pub enum CharNumber {
     Forbidden,
 }
 
-// A character, and the `;` after its digits; where c is 0 nothing is said.
-#[derive(Drop)]
+impl From<ParseCharRefError> for Refusal {
+    ghost from_gives = { λ e r. r ≡ refusal_for e };
+
+    fn from(e: ParseCharRefError) -> Refusal {
+        match e {
+            ParseCharRefError::UnexpectedSign => Refusal::UnexpectedSign,
+            ParseCharRefError::InvalidNumber => Refusal::InvalidNumber,
+            ParseCharRefError::InvalidCodepoint(n) => Refusal::InvalidCodepoint(n as u64),
+            ParseCharRefError::IllegalCharacter => Refusal::IllegalCharacter,
+            ParseCharRefError::Forbidden => Refusal::ForbiddenReference,
+        }
+    }
+}
+
+// A character, and the `;` after its digits.
+#[derive(Clone, Copy)]
 pub struct Quick {
     pub c: u32,
     pub end: usize,
@@ -79,36 +85,36 @@ fn skip_zeros(text: &[u8]) -> usize
 }
 
 // In the place of Rust's u32::from_str_radix. A byte that is no digit and a value over 32 bits have the same answer, so both end the loop at once.
-fn digits(text: &[u8], base: u64) -> Parsed
+fn digits(text: &[u8], base: u64) -> Result<u32, ParseCharRefError>
     requires { (1 ≤ base) × (base ≤ 16) }
-    ensures { result ≡ small (number_from base 0 text.now) }
+    ensures { result ≡ parsed_as (small (number_from base 0 text.now)) }
 {
     let mut value: u64 = 0;
     let mut i = skip_zeros(text);
     while i < text.len() {
         let d = digit(text[i]);
         if base <= d {
-            return Parsed::NoNumber;
+            return Err(ParseCharRefError::InvalidNumber);
         }
         value = base * value + d;
         if 4294967295 < value {
-            return Parsed::NoNumber;
+            return Err(ParseCharRefError::InvalidNumber);
         }
         i += 1;
     }
-    Parsed::Value(value as u32)
+    Ok(value as u32)
 }
 
 // A sign has an answer of its own, so it is looked for before the digits are read.
-fn from_str_radix(text: &[u8], base: u64) -> Parsed
+fn from_str_radix(text: &[u8], base: u64) -> Result<u32, ParseCharRefError>
     requires { (1 ≤ base) × (base ≤ 16) }
-    ensures { result ≡ in_base base text.now }
+    ensures { result ≡ parsed_as (in_base base text.now) }
 {
     if text.len() == 0 {
-        return Parsed::NoNumber;
+        return Err(ParseCharRefError::InvalidNumber);
     }
     match text[0] {
-        b'+' | b'-' => Parsed::Signed,
+        b'+' | b'-' => Err(ParseCharRefError::UnexpectedSign),
         _ => digits(text, base),
     }
 }
@@ -141,86 +147,79 @@ pub fn is_allowed(c: u32, rule: u8) -> bool
 }
 
 // A number that 12 to 15 let pass, by the rule.
-fn by_rule(n: u32, rule: u8) -> CharNumber
-    ensures { result ≡ legal_by rule n }
+fn by_rule(n: u32, rule: u8) -> Result<u32, ParseCharRefError>
+    ensures { result ≡ read_as (legal_by rule n) }
 {
     if is_allowed(n, rule) {
-        return CharNumber::Char(n);
+        return Ok(n);
     }
-    CharNumber::Forbidden
+    Err(ParseCharRefError::Forbidden)
 }
 
-fn judge_value(n: u32, rule: u8) -> CharNumber
-    ensures { result ≡ judge (legal_by rule) (Parsed.Value n) }
+fn judge(n: u32, rule: u8) -> Result<u32, ParseCharRefError>
+    ensures { result ≡ read_as (judge (legal_by rule) (Value n)) }
 {
     if n == 0 {
-        return CharNumber::IllegalCharacter;
+        return Err(ParseCharRefError::IllegalCharacter);
     }
     if 0xD800 <= n {
         if n <= 0xDFFF {
-            return CharNumber::InvalidCodepoint(n);
+            return Err(ParseCharRefError::InvalidCodepoint(n));
         }
         if 1114111 < n {
-            return CharNumber::InvalidCodepoint(n);
+            return Err(ParseCharRefError::InvalidCodepoint(n));
         }
     }
     by_rule(n, rule)
 }
 
-fn judge(p: Parsed, rule: u8) -> CharNumber
-    ensures { result ≡ judge (legal_by rule) p }
-{
-    match p {
-        Parsed::Value(n) => judge_value(n, rule),
-        Parsed::Signed => CharNumber::UnexpectedSign,
-        Parsed::NoNumber => CharNumber::InvalidNumber,
-    }
-}
-
 // The text after `#`, by the rule that the caller wants.
-pub fn parse_number(text: &[u8], rule: u8) -> CharNumber
-    ensures { result ≡ char_number (legal_by rule) text.now }
+pub fn parse_number(text: &[u8], rule: u8) -> Result<u32, ParseCharRefError>
+    ensures { result ≡ read_as (char_number (legal_by rule) text.now) }
 {
     if text.len() == 0 {
-        return CharNumber::InvalidNumber;
+        return Err(ParseCharRefError::InvalidNumber);
     }
     if text[0] == b'x' {
-        return judge(from_str_radix(&text[1..], 16), rule);
+        return judge(from_str_radix(&text[1..], 16)?, rule);
     }
-    judge(from_str_radix(text, 10), rule)
+    judge(from_str_radix(text, 10)?, rule)
 }
 
 // Reads digits up to the `;`. Leaves to `parse_number` whatever is no character below the surrogates.
-fn quick_digits(text: &[u8], from: usize, base: u64) -> Quick
+fn quick_digits(text: &[u8], from: usize, base: u64) -> Option<Quick>
     requires from_in_bounds { from ≤ length text.now }
     requires le_base { (1 ≤ base) × (base ≤ 16) }
-    ensures { result.c ≢ 0 → Written base text.now from result }
+    ensures { IfSome result (λ q. (q.c ≢ 0) × Written base text.now from q) }
 {
     let mut value: u64 = 0;
     let mut i = from;
     while i < text.len() {
         let b = text[i];
         if b == b';' {
-            return Quick {
+            if value == 0 {
+                return None;
+            }
+            return Some(Quick {
                 c: value as u32,
                 end: i,
-            };
+            });
         }
         let d = digit(b);
         if base <= d {
-            return Quick { c: 0, end: i };
+            return None;
         }
         value = base * value + d;
         if 0xD7FF < value {
-            return Quick { c: 0, end: i };
+            return None;
         }
         i += 1;
     }
-    Quick { c: 0, end: i }
+    None
 }
 
 // The number whose text after `#` starts at `from`.
-pub fn quick_number(text: &[u8], from: usize) -> Quick
+pub fn quick_number(text: &[u8], from: usize) -> Option<Quick>
     requires { from ≤ length text.now }
     ensures { Quickly text.now from result }
 {
@@ -230,43 +229,6 @@ pub fn quick_number(text: &[u8], from: usize) -> Quick
         }
     }
     quick_digits(text, from, 10)
-}
-
-// The number and values of documents 01 and 02.
-pub fn answer_of(n: CharNumber) -> Answer
-    ensures { result ≡ number_answer n }
-{
-    match n {
-        CharNumber::Char(c) => Answer::Done {
-            first: c as u64,
-            second: 0,
-        },
-        CharNumber::UnexpectedSign => Answer::Refused {
-            number: refusals::UNEXPECTED_SIGN,
-            first: 0,
-            second: 0,
-        },
-        CharNumber::InvalidNumber => Answer::Refused {
-            number: refusals::INVALID_NUMBER,
-            first: 0,
-            second: 0,
-        },
-        CharNumber::InvalidCodepoint(v) => Answer::Refused {
-            number: refusals::INVALID_CODEPOINT,
-            first: v as u64,
-            second: 0,
-        },
-        CharNumber::IllegalCharacter => Answer::Refused {
-            number: refusals::ILLEGAL_CHARACTER,
-            first: 0,
-            second: 0,
-        },
-        CharNumber::Forbidden => Answer::Refused {
-            number: refusals::FORBIDDEN_REFERENCE,
-            first: 0,
-            second: 0,
-        },
-    }
 }
 
 // How many bytes `encode_utf8` writes.

@@ -2,12 +2,13 @@
 #![tactic(auto)]
 
 ghost use Rattle.std.specs.Prelude.{◌≡◌, ◌+◌, ◌<◌, ◌≤◌, false, [], ◌∷◌, length, get_or, drop};
-ghost use Rattle.text.specs.Call.{call_of, finish, laid};
+ghost use Rattle.text.specs.Call.{answered, call_of, finish, laid};
 ghost use Rattle.text.specs.Version.{rule_of, xml11};
 ghost use Rattle.eols.specs.LineEnds.{line_end, eols};
 ghost use Rattle.eols.specs.Stops.{rule_for, Stepped};
 
-use text::{Answer, pattern, refusals};
+use text::refusals::Refusal;
+use text::{Answer, Success, pattern};
 
 // A byte to write, and how many bytes of the text it stands for.
 #[derive(Drop)]
@@ -130,22 +131,18 @@ fn write_eols(text: &[u8], newer: bool, out: &mut [u8]) -> usize
 // Where the output is as long as the text there is room for the result, which is no longer: no count is needed.
 // Else it counts first; 19 with the length needed leaves the output.
 pub fn normalize_eols(text: &[u8], version: u8, out: &mut [u8]) -> Answer
-    ensures { call_of result (out.new ∷ []) ≡ finish (eols (rule_of version) text.now) 0 out.old }
+    ensures { call_of (answered result) (out.new ∷ []) ≡ finish (eols (rule_of version) text.now) 0 out.old }
 {
     let newer = 1 < version;
     if out.len() < text.len() {
         let n = eols_length(text, newer);
         if out.len() < n {
-            return Answer::Refused {
-                number: refusals::NO_ROOM,
-                first: n as u64,
-                second: 0,
-            };
+            return Err(Refusal::NoRoom(n as u64));
         }
     }
     let written = write_eols(text, newer, out);
-    Answer::Done {
+    Ok(Success {
         first: written as u64,
         second: 0,
-    }
+    })
 }

@@ -7,7 +7,8 @@ use Prim.Native.Nat.{ℕ, ◌+◌, ◌-◌, ◌≤◌, ◌<◌, zero-le}
 use native.Mathlib.Omega.{arith}
 use native.Mathlib.Nat.{le_refl, le_trans}
 use lib.Dec.{eqb, leb, ltb}
-use lib.ListN.{length, drop, get_or, drop_of_length-le}
+use lib.ListN.{length, take, drop, get_or, length-drop, drop_of_length-le}
+use lib.Seq.{get_or-take, get_or-drop, length-take-le}
 use borrow.Author.Tests.{eqb-true, eqb-false, eq-eqb, ne_eqb, ltb-true, ltb-false}
 use Rattle.text.specs.Bytes.{pick, within}
 use Rattle.text.specs.Simple.{Simple}
@@ -44,9 +45,6 @@ module _ (fault : List ℕ → Bool) (t : List ℕ) where
   pub first_over : {i e : ℕ} → Clean fault t i e → FirstFault fault t i e e
   first_over {e = e} p = record { clean = p; within = le_refl e; found = λ h. absurd (omega (arith, h)) }
 
-  pub first_here : {i r : ℕ} (to : ℕ) → Clean fault t i r → r ≤ to → fault (drop r t) ≡ true → FirstFault fault t i to r
-  first_here to p h e = record { clean = p; within = h; found = λ l. e }
-
   pub first_join : {i to r : ℕ} (j : ℕ) → Clean fault t i j → FirstFault fault t j to r → FirstFault fault t i to r
   first_join j p f = record { clean = clean_join j p f.clean; within = f.within; found = f.found }
 
@@ -68,9 +66,6 @@ module _ {fault : List ℕ → Bool} {t : List ℕ} {from to : ℕ} where
 
   pub searched_more : {i : ℕ} (e : ℕ) → e ≤ to → Clean fault t i e → Searched fault t from to i → Searched fault t from to e
   searched_more {i} e h p s = record { clean = clean_join fault t i s.clean p; within = h }
-
-  pub searched_all : {i : ℕ} → Searched fault t from to i → to ≤ i → FirstFault fault t from to i
-  searched_all s h = record { clean = s.clean; within = s.within; found = λ l. absurd (omega (arith, l, h)) }
 
 -- ---- a block of 16 bytes
 
@@ -123,6 +118,13 @@ module _ (t : List ℕ) (i : ℕ) (h : i + 16 ≤ length t) where
 
   pub looked_all : {hit : Bool} {k : ℕ} → Looked t i hit k → 16 ≤ k → hit ≡ false → CleanByAny t i (i + 16)
   looked_all {k = k} p g e = let q : k ≡ 16 = omega (arith, g, p.within) in rw q at (p.clear e)
+
+-- a byte of the block, and how many it has
+pub block_byte : (t : List ℕ) (i k : ℕ) → k < 16 → get_or (take (i + 16 - i) (drop i t)) k 0 ≡ get_or t (i + k) 0
+block_byte t i k h = get_or-take (i + 16 - i) (drop i t) k 0 (omega arith) ∙ get_or-drop i t k 0
+
+pub block_size : (t : List ℕ) (i : ℕ) → i + 16 ≤ length t → length (take (i + 16 - i) (drop i t)) ≡ 16
+block_size t i h = length-take-le (i + 16 - i) (drop i t) (rw length-drop (omega arith)) ∙ omega arith
 
 -- ---- what the tests of a block tell
 

@@ -79,12 +79,11 @@ fn any_suspect(text: &[u8], i: usize) -> bool
     let mut delete = false;
     let mut two = false;
     let mut three = false;
-    for k in 0..16usize {
-        let b = text[i + k];
-        low = low | (b < 32);
-        delete = delete | (b == 0x7f);
-        two = two | (b == 0xc2);
-        three = three | (b == 0xef);
+    for &b in &text[i..i + 16] {
+        low |= b < 32;
+        delete |= b == 0x7f;
+        two |= b == 0xc2;
+        three |= b == 0xef;
     }
     low | delete | two | three
 }
@@ -98,13 +97,14 @@ fn any_likely(text: &[u8], i: usize) -> bool
     let mut delete = false;
     let mut two = false;
     let mut three = false;
+    // By index: each byte is asked with the one after it.
     for k in 0..16usize {
         let b = text[i + k];
         let c = text[i + k + 1];
-        low = low | ((b < 32) & (b != b'\t') & (b != b'\n') & (b != b'\r'));
-        delete = delete | (b == 0x7f);
-        two = two | ((b == 0xc2) & (c < 0xa0));
-        three = three | ((b == 0xef) & (c == 0xbf));
+        low |= (b < 32) & (b != b'\t') & (b != b'\n') & (b != b'\r');
+        delete |= b == 0x7f;
+        two |= (b == 0xc2) & (c < 0xa0);
+        three |= (b == 0xef) & (c == 0xbf);
     }
     low | delete | two | three
 }
@@ -116,9 +116,8 @@ fn any_unprintable(text: &[u8], i: usize) -> bool
     ensures { result ≡ false → CleanByAny text.now i (i + 16) }
 {
     let mut hit = false;
-    for k in 0..16usize {
-        let b = text[i + k];
-        hit = hit | ((b < 32) | (126 < b));
+    for &b in &text[i..i + 16] {
+        hit |= (b < 32) | (126 < b);
     }
     hit
 }
@@ -129,14 +128,12 @@ fn fault_bytes(text: &[u8], from: usize, to: usize, rule: u8) -> usize
     requires { Part text.now from to }
     ensures { FirstFault (faults_by rule) text.now from to result }
 {
-    let mut i = from;
-    while i < to {
+    for i in from..to {
         if fault_at(text, i, rule) {
             return i;
         }
-        i += 1;
     }
-    i
+    to
 }
 
 // In a block that has a suspect.
@@ -171,6 +168,7 @@ pub fn first_fault(text: &[u8], from: usize, to: usize, rule: u8) -> usize
     requires { Part text.now from to }
     ensures { FirstFault (faults_by rule) text.now from to result }
 {
+    // By hand: the answer is a place, which chunks_exact does not count.
     let mut i = from;
     while 16 <= to - i {
         if any_suspect(text, i) {

@@ -11,7 +11,7 @@ use Rattle.output.specs.Runs.{Plain}
 use Rattle.output.proofs.Clip.{over_fits}
 use Rattle.output.proofs.Laid.{rest_part}
 use Rattle.output.proofs.Runs.{plain_none, plain_join}
-use Rattle.runs.specs.RunEnds.{RunEnd, Within, Put}
+use Rattle.runs.specs.RunEnds.{RunEnd, Put}
 use Rattle.runs.proofs.Search.{end_after}
 use Rattle.runs.proofs.Puts.{piece_length, put_none, put_length, put_more}
 
@@ -23,33 +23,11 @@ pub record Blocks (stops : ℕ → Bool) (text : List ℕ) (i : ℕ) (old out : 
   pub holds : Put text i e old out
 
 module _ {stops : ℕ → Bool} {text : List ℕ} {i : ℕ} {old : List ℕ} where
-  -- nothing yet, or the near bytes
+  -- nothing yet
   pub blocks_none : i ≤ length text → {out : List ℕ} {k : ℕ} → out ≡ old → k ≡ 0 → Blocks stops text i old out (i + k) k
   blocks_none h {out} {k} o q =
       let z : i + k ≡ i = omega arith in
       record { run = rw z (plain_none stops text i h); count = omega arith; room = omega arith; holds = rw z (o ∙ put_none text i old) }
-
-  pub blocks_near : (n : ℕ) → n ≤ length old → {o out : List ℕ} {e k : ℕ} → out ≡ o → k ≡ n → Within stops text i n e × Put text i e old o → i + n ≤ e
-      → Blocks stops text i old out (i + k) k
-  blocks_near n room {o} {out} {e} {k} c q w h =
-      let z : i + k ≡ e = omega (arith, w.0.to) in
-      record {
-        run = rw z w.0.run;
-        count = omega arith;
-        room = omega (arith, ap length c, put_length text i old e w.1);
-        holds = rw z (c ∙ w.1);
-      }
-
-  -- or what a call over blocks has copied
-  pub blocks_of : {o out : List ℕ} {n k room : ℕ} → room ≤ length old → out ≡ o → k ≡ n → (n ≤ room) × Plain stops text i (i + n) × Put text i (i + n) old o
-      → Blocks stops text i old out (i + k) k
-  blocks_of {o} {out} {n} {k} room c q w =
-      rw q (record {
-        run = w.1;
-        count = omega arith;
-        room = omega (arith, ap length c, put_length text i old (i + n) w.2, w.0);
-        holds = c ∙ w.2;
-      })
 
   module _ {out : List ℕ} {e k : ℕ} (b : Blocks stops text i old out e k) {f : ℕ} {part : List ℕ} where
     -- a piece more, by a call that is lent the rest of the output
@@ -72,19 +50,12 @@ module _ {stops : ℕ → Bool} {text : List ℕ} {i : ℕ} {old : List ℕ} whe
       put_more text i old e b.holds b.run.from r.0.run.from r.0.run.to (omega (arith, b.count, b.room)) r.1,
     )
 
-    pub rest_length : RunEnd stops text e f × Put text e f (mid_of k (length out - k) out) part → length (put_mid k (length out - k) out part) ≡ length old
-    rest_length r = put_length text i old f (blocks_rest r).1
-
 -- what the loop over blocks keeps: there is room for `room` bytes, of which `k` are copied, `k₀` before the loop
 pub record Blockwise (stops : ℕ → Bool) (text : List ℕ) (i room : ℕ) (begun : List ℕ) (k₀ : ℕ) (out : List ℕ) (k : ℕ) : Type 0 where
   pub count : k ≤ room
   pub within : room ≤ length out
   pub inside : i + room ≤ length text
   pub goes : (old : List ℕ) → Blocks stops text i old begun (i + k₀) k₀ → Blocks stops text i old out (i + k) k
-
-pub blockwise_start : {stops : ℕ → Bool} {text : List ℕ} {i room : ℕ} {begun : List ℕ} {k₀ : ℕ} → k₀ ≤ room → room ≤ length begun → i + room ≤ length text
-    → Blockwise stops text i room begun k₀ begun k₀
-blockwise_start h w g = record { count = h; within = w; inside = g; goes = λ old s. s }
 
 -- a block of `n` bytes more
 module _ {stops : ℕ → Bool} {text : List ℕ} {i room : ℕ} {begun : List ℕ} {k₀ : ℕ} {out : List ℕ} {k : ℕ}
@@ -127,6 +98,3 @@ module _ {stops : ℕ → Bool} {text : List ℕ} {i room : ℕ} {old out : List
   blockwise_done =
       let w = b.goes old (blocks_none (omega (arith, b.inside)) refl refl) in
       (b.count, w.run, w.holds)
-
-  pub blockwise_length : length out ≡ length old
-  blockwise_length = put_length text i old (i + k) blockwise_done.2

@@ -1,6 +1,6 @@
 -- A run that is copied while it is searched: what lies in the output so far. Assumes nothing.
 use mathlib.Core.Path.{◌≡◌, sym, ap, ◌∙◌}
-use mathlib.Core.Bool.{Bool, true, false}
+use mathlib.Core.Bool.{Bool, false}
 use mathlib.Core.List.{List, [], ◌∷◌, ◌++◌}
 use Prim.Native.Nat.{ℕ, suc, ◌+◌, ◌-◌, ◌≤◌, ◌<◌, min}
 use native.Mathlib.Omega.{arith}
@@ -10,9 +10,8 @@ use borrow.Rule.Slice.PartMut.{mid_of, put_mid}
 use Rattle.output.specs.Over.{over}
 use Rattle.output.specs.Runs.{Plain}
 use Rattle.output.proofs.Clip.{over_byte, over_more, length_over}
-use Rattle.output.proofs.Runs.{plain_none}
-use Rattle.runs.specs.RunEnds.{Within, Put}
-use Rattle.runs.proofs.Search.{plain_next, within_all, within_here, within_none}
+use Rattle.runs.specs.RunEnds.{Put}
+use Rattle.runs.proofs.Search.{plain_next}
 
 -- how long a piece is, and how it grows
 pub piece_length : (text : List ℕ) (i e : ℕ) → e ≤ length text → length (take (e - i) (drop i text)) ≡ e - i
@@ -72,15 +71,7 @@ pub record Nearby (stops : ℕ → Bool) (text : List ℕ) (i n : ℕ) (old out 
   pub holds : Put text i (i + k) old out
 
 module _ (stops : ℕ → Bool) (text : List ℕ) (i n : ℕ) (fits : i + n ≤ length text) (old : List ℕ) where
-  pub nearby_none : Nearby stops text i n old old 0
-  nearby_none =
-      let q : i + 0 ≡ i = omega arith in
-      record { count = omega arith; run = rw q (plain_none stops text i (omega arith)); holds = rw q (put_none text i old) }
-
   module _ {out : List ℕ} {k : ℕ} (b : Nearby stops text i n old out k) where
-    pub nearby_length : length out ≡ length old
-    nearby_length = put_length text i old (i + k) b.holds
-
     pub nearby_next : k < n → stops (get_or text (i + k) 0) ≡ false → Nearby stops text i n old (set out k (get_or text (i + k) 0)) (k + 1)
     nearby_next h e =
         let q : i + k + 1 ≡ i + (k + 1) = omega arith in
@@ -89,18 +80,3 @@ module _ (stops : ℕ → Bool) (text : List ℕ) (i n : ℕ) (fits : i + n ≤ 
           run = plain_next stops text i k (omega arith) b.run e;
           holds = rw q at (put_next text i old (i + k) b.holds (omega arith) {k = k} (omega arith) (omega arith));
         }
-
-    pub nearby_here : k < n → stops (get_or text (i + k) 0) ≡ true → Within stops text i n (i + k) × Put text i (i + k) old out
-    nearby_here h e = (within_here stops text i n k h b.run e, b.holds)
-
-    pub nearby_all : n ≤ k → Within stops text i n (i + n) × Put text i (i + n) old out
-    nearby_all h =
-        let q : k ≡ n = omega (arith, b.count) in
-        (within_none stops text i n (rw q at b.run), rw q at b.holds)
-
--- a search that found none, with what was copied
-pub piece_near : {stops : ℕ → Bool} {text : List ℕ} {e n : ℕ} (old : List ℕ) {out : List ℕ} {f : ℕ} → Within stops text e n f × Put text e f old out → e + n ≤ f
-    → Plain stops text e (e + n) × Put text e (e + n) old out
-piece_near {e = e} {n} old {f = f} w h =
-    let q : f ≡ e + n = omega (arith, w.0.to) in
-    (within_all w.0 h, rw q at w.1)

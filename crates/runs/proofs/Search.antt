@@ -1,23 +1,17 @@
 -- The search for the next stop: the near bytes one by one, then blocks. Assumes nothing.
 use mathlib.Core.Path.{◌≡◌}
-use mathlib.Core.Bool.{Bool, true, false}
+use mathlib.Core.Bool.{Bool, false}
 use mathlib.Core.List.{List}
 use Prim.Native.Nat.{ℕ, ◌+◌, ◌≤◌, ◌<◌}
 use native.Mathlib.Omega.{arith}
 use lib.ListN.{length, get_or}
 use Rattle.output.specs.Runs.{Plain}
 use Rattle.output.proofs.Runs.{plain_byte, plain_join}
-use Rattle.runs.specs.RunEnds.{RunEnd, Within}
+use Rattle.runs.specs.RunEnds.{RunEnd}
 
 -- a part of a run
 pub plain_part : {stops : ℕ → Bool} {text : List ℕ} {i f m n : ℕ} → Plain stops text i f → i ≤ m → m ≤ n → n ≤ f → Plain stops text m n
 plain_part p h g l = record { from = g; to = omega (arith, p.to); none = λ k a b. p.none k (omega arith) (omega arith) }
-
--- a search that found none
-pub within_all : {stops : ℕ → Bool} {text : List ℕ} {e n f : ℕ} → Within stops text e n f → e + n ≤ f → Plain stops text e (e + n)
-within_all {e = e} {n} {f} w h =
-    let q : f ≡ e + n = omega (arith, w.to) in
-    rw q at w.run
 
 module _ (stops : ℕ → Bool) (text : List ℕ) (i : ℕ) where
   -- one byte more
@@ -26,16 +20,6 @@ module _ (stops : ℕ → Bool) (text : List ℕ) (i : ℕ) where
       let q : i + k + 1 ≡ i + (k + 1) = omega arith in
       rw q at (plain_join stops text i (i + k) (i + k + 1) p (plain_byte stops text (i + k) h e))
 
-  pub within_here : (n k : ℕ) → k < n → Plain stops text i (i + k) → stops (get_or text (i + k) 0) ≡ true → Within stops text i n (i + k)
-  within_here n k h p e = record { run = p; to = omega arith; ends = λ l. e }
-
-  pub within_none : (n : ℕ) → Plain stops text i (i + n) → Within stops text i n (i + n)
-  within_none n p = record { run = p; to = omega arith; ends = λ l. absurd (omega arith) }
-
   -- the rest of a run
   pub end_after : {e f : ℕ} → Plain stops text i e → RunEnd stops text e f → RunEnd stops text i f
   end_after {e} {f} p r = record { run = plain_join stops text i e f p r.run; ends = r.ends }
-
-  module _ {n e : ℕ} (w : Within stops text i n e) where
-    pub end_near : e < i + n → RunEnd stops text i e
-    end_near h = record { run = w.run; ends = λ l. w.ends h }

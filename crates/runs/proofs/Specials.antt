@@ -50,9 +50,6 @@ special_bytes t i h e =
 
 -- ---- runs
 
-pub common_none : (r : Rule) (t : List ℕ) (i : ℕ) → i ≤ length t → Common r t i i
-common_none r t i h = record { from = omega arith; to = h; none = λ k a b. absurd (omega (arith, a, b)) }
-
 pub common_of : (r : Rule) (t : List ℕ) (i n : ℕ) → i + n ≤ length t → ((m : ℕ) → m < n → special r (drop (i + m) t) ≡ 0) → Common r t i (i + n)
 common_of r t i n h f =
     record {

@@ -1,6 +1,6 @@
 -- Where runs end, over any test for the bytes at which a run stops: the terms in which searches and the copies made while searching are
 -- proved. No promise of a call rests on them; theorems of K9 rest on `is_amp`. Assumes nothing.
-use Rattle.std.specs.Prelude.{ℕ, ◌+◌, ◌-◌, ◌≤◌, ◌<◌, ◌≡◌, Bool, true, ◌&&◌, ◌||◌, List, eqb, length, get_or, take, drop}
+use Rattle.std.specs.Prelude.{ℕ, ◌-◌, ◌<◌, ◌≡◌, Bool, true, ◌&&◌, ◌||◌, List, eqb, length, get_or, take, drop}
 use Rattle.output.specs.Over.{over}
 use Rattle.output.specs.Runs.{Plain}
 
@@ -9,17 +9,15 @@ pub record RunEnd (stops : ℕ → Bool) (text : List ℕ) (i e : ℕ) : Type 0 
   pub run : Plain stops text i e
   pub ends : e < length text → stops (get_or text e 0) ≡ true
 
--- a search through `n` bytes from `i` on: the first stop among them is at `e`, or `e` is the place after them
-pub record Within (stops : ℕ → Bool) (text : List ℕ) (i n e : ℕ) : Type 0 where
-  pub run : Plain stops text i e
-  pub to : e ≤ i + n
-  pub ends : e < i + n → stops (get_or text e 0) ≡ true
-
 -- the bytes from `i` up to `e` are written at the output's start, as many as there is room for
 abbrev pub Put : List ℕ → ℕ → ℕ → List ℕ → List ℕ → Type 0
 Put text i e old new = new ≡ over (take (e - i) (drop i text)) old
 
 -- ---- the sets of stops
+
+-- One byte
+abbrev pub byte_stop : ℕ → ℕ → Bool
+byte_stop b c = eqb c b
 
 -- Unescaping: the one byte at which a run ends
 abbrev pub is_amp : ℕ → Bool

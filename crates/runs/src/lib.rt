@@ -5,6 +5,7 @@ ghost use Rattle.std.specs.Prelude.{◌≡◌, ◌≤◌, length};
 ghost use Rattle.text.specs.Call.{laid};
 
 pub mod amp;
+pub mod byte;
 pub mod lines;
 pub mod special;
 

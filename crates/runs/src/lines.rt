@@ -48,6 +48,7 @@ fn plain_blocks(text: &[u8], from: usize, newer: bool) -> usize
     requires { from ≤ length text.now }
     ensures { Plain (line_stop newer) text.now from result }
 {
+    // By hand: the answer is a place, which chunks_exact does not count.
     let mut i = from;
     while 16 <= text.len() - i {
         if any_stop(text, i, newer, 16) {
@@ -63,14 +64,12 @@ pub fn plain_end(text: &[u8], from: usize, newer: bool) -> usize
     requires { from ≤ length text.now }
     ensures { Plain (line_stop newer) text.now from result }
 {
-    let mut i = plain_blocks(text, from, newer);
-    while i < text.len() {
+    for i in plain_blocks(text, from, newer)..text.len() {
         if is_stop(text[i], newer) {
             return i;
         }
-        i += 1;
     }
-    i
+    text.len()
 }
 
 // Copies the blocks without stops at the text's start, each as soon as it is tested.
@@ -112,16 +111,15 @@ fn put_bytes(text: &[u8], newer: bool, out: &mut [u8]) -> usize
     requires { Room (line_stop newer) text.now out.old }
     ensures { Copied (line_stop newer) text.now out.old out.new result }
 {
-    let mut i: usize = 0;
-    while i < text.len() {
+    // By index: an iterator takes two instructions more for each byte.
+    for i in 0..text.len() {
         let b = text[i];
         if ends_run(b, newer) {
             return i;
         }
         out[i] = b;
-        i += 1;
     }
-    i
+    text.len()
 }
 
 // Copies the run without stops at the text's start, and says how long it is.

@@ -19,9 +19,10 @@ fn any_special(value: &[u8], i: usize) -> bool
     requires { i + 34 ≤ length value.now }
     ensures { result ≡ false → Common xml11 value.now i (i + 32) }
 {
+    // By index: each byte is asked with the two after it.
     let mut hit = false;
     for k in 0..32usize {
-        hit = hit | special_at(value, i + k);
+        hit |= special_at(value, i + k);
     }
     hit
 }
@@ -31,6 +32,7 @@ pub fn skip_common(value: &[u8], from: usize) -> usize
     requires { from ≤ length value.now }
     ensures { Common xml11 value.now from result }
 {
+    // By hand: the answer is a place, and each block is asked with the two bytes after it.
     let mut i = from;
     while 34 <= value.len() - i {
         if any_special(value, i) {

@@ -1,6 +1,5 @@
 -- `charref::quick_digits` reads the number up to the `;`. The invariant: the bytes passed are digits, and write the value so far. Assumes nothing.
 use native.Mathlib.Omega.{arith}
-use mathlib.Core.Path.{refl}
 use Rattle.charref.proofs.Numbers.{product}
 use Rattle.charref.proofs.Reading.{read_start, read_digit, read_end}
 use Rattle.charref.proofs.quick_digits.Goals as goal
@@ -14,10 +13,7 @@ overflow_cast-result c = omega (arith, c.loop-i.invariant.low)
 pub returns-then-b-eq59 : goal.returns-then-b-eq59
 returns-then-b-eq59 c =
     let given = c.args in
-    read_end given.base given.text.now given.from c.loop-i.invariant c.loop-i-test.true (omega arith) c.if-b-eq59.true
-
-pub returns-then-base-d : goal.returns-then-base-d
-returns-then-base-d c = λ n. absurd (n refl)
+    (λ z. c.if-value-eq0.false z, read_end given.base given.text.now given.from c.loop-i.invariant c.loop-i-test.true (omega arith) c.if-b-eq59.true c.if-value-eq0.false)
 
 pub overflow_mul-value : goal.overflow_mul-value
 overflow_mul-value c =
@@ -27,14 +23,8 @@ pub overflow_add-value : goal.overflow_add-value
 overflow_add-value c =
     omega (arith, product c.args.base c.loop-i.value (omega arith) (omega (arith, c.loop-i.invariant.low)))
 
-pub returns-then-value-gt55295 : goal.returns-then-value-gt55295
-returns-then-value-gt55295 c = λ n. absurd (n refl)
-
 pub loop-i-preserved : goal.loop-i-preserved
 loop-i-preserved c =
     let given = c.args in
     read_digit given.base given.text.now given.from c.loop-i.invariant c.loop-i-test.true
     c.digit-d.result c.digit-d.ensures (omega arith) (omega arith)
-
-pub returns : goal.returns
-returns c = λ n. absurd (n refl)

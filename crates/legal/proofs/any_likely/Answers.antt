@@ -1,32 +1,8 @@
 -- `any_likely`: where no accumulator is set, no byte passed begins a fault of any rule (`likely_none`). Assumes nothing.
 use native.Mathlib.Omega.{arith}
 use Prim.Native.Nat.{◌+◌}
-use Rattle.legal.proofs.Clean.{looked_none, looked_four, looked_all, likely_none}
+use Rattle.legal.proofs.Clean.{looked_four, looked_all, likely_none}
 use Rattle.legal.proofs.any_likely.Goals as goal
-
-pub loop-k-init : goal.loop-k-init
-loop-k-init c = looked_none c.args.text.now c.args.i (omega (arith, c.requires))
-
-pub overflow_add-b : goal.overflow_add-b
-overflow_add-b c = omega (arith, c.requires, c.loop-k-test.true)
-
-pub bounds-text-i : goal.bounds-text-i
-bounds-text-i c = omega (arith, c.requires, c.loop-k-test.true)
-
-pub overflow_add-c : goal.overflow_add-c
-overflow_add-c c = omega (arith, c.requires, c.loop-k-test.true)
-
-pub overflow_add-c-in-loop-k : goal.overflow_add-c-in-loop-k
-overflow_add-c-in-loop-k c = omega (arith, c.requires, c.loop-k-test.true)
-
-pub bounds-text-i-in-loop-k : goal.bounds-text-i-in-loop-k
-bounds-text-i-in-loop-k c = omega (arith, c.requires, c.loop-k-test.true)
-
-pub overflow_step-k : goal.overflow_step-k
-overflow_step-k c = omega (arith, c.loop-k-test.true)
-
-pub loop-k-smaller : goal.loop-k-smaller
-loop-k-smaller c = omega (arith, c.loop-k-test.true)
 
 pub loop-k-preserved : goal.loop-k-preserved
 loop-k-preserved c =

@@ -1,10 +1,6 @@
 use mathlib.Core.Bool.{◌||◌}
-use Prim.Native.Nat.{◌-◌}
 use Rattle.legal.proofs.Clean.{Looked}
 use Rattle.legal.proofs.any_suspect.Given as goal
 
-abbrev pub invariant-loop-k : goal.invariant-loop-k
-invariant-loop-k l = Looked l.text l.i (l.low || l.delete || l.two || l.three) l.k
-
-abbrev pub decreases-loop-k : goal.decreases-loop-k
-decreases-loop-k l = 16 - l.k
+abbrev pub invariant-loop-b : goal.invariant-loop-b
+invariant-loop-b l = Looked l.text l.i (l.low || l.delete || l.two || l.three) l.b-index

@@ -1,10 +1,6 @@
-use Prim.Native.Nat.{◌-◌}
 use Rattle.legal.specs.FirstFault.{faults_by}
 use Rattle.legal.proofs.Clean.{Searched}
 use Rattle.legal.proofs.fault_bytes.Given as goal
 
 abbrev pub invariant-loop-i : goal.invariant-loop-i
 invariant-loop-i l = Searched (faults_by l.rule) l.text l.from l.to l.i
-
-abbrev pub decreases-loop-i : goal.decreases-loop-i
-decreases-loop-i l = l.to - l.i

@@ -4,7 +4,7 @@ use Rattle.runs.proofs.Puts.{Nearby}
 use Rattle.runs.proofs.amp.put_near.Given as goal
 
 abbrev pub invariant-loop-k : goal.invariant-loop-k
-invariant-loop-k l = Nearby is_amp l.text l.from l.size l.initial.out l.out l.k
+invariant-loop-k g l = Nearby is_amp l.text l.from g.row.N l.initial.out l.out l.k
 
 abbrev pub decreases-loop-k : goal.decreases-loop-k
-decreases-loop-k l = l.size - l.k
+decreases-loop-k g l = g.row.N - l.k

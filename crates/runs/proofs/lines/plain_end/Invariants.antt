@@ -1,11 +1,6 @@
-use Prim.Native.Nat.{◌-◌}
-use lib.ListN.{length}
-use Rattle.runs.specs.RunEnds.{line_stop}
 use Rattle.output.specs.Runs.{Plain}
+use Rattle.runs.specs.RunEnds.{line_stop}
 use Rattle.runs.proofs.lines.plain_end.Given as goal
 
 abbrev pub invariant-loop-i : goal.invariant-loop-i
 invariant-loop-i l = Plain (line_stop l.newer) l.text l.from l.i
-
-abbrev pub decreases-loop-i : goal.decreases-loop-i
-decreases-loop-i l = length l.text - l.i

@@ -1,11 +1,11 @@
 use Prim.Native.Nat.{◌-◌}
 use lib.ListN.{length}
 use Rattle.output.specs.Runs.{Plain}
-use Rattle.runs.specs.RunEnds.{is_amp}
-use Rattle.runs.proofs.amp.amp_blocks.Given as goal
+use Rattle.runs.specs.RunEnds.{byte_stop}
+use Rattle.runs.proofs.byte.byte_end.Given as goal
 
 abbrev pub invariant-loop-i : goal.invariant-loop-i
-invariant-loop-i l = Plain is_amp l.text l.from l.i
+invariant-loop-i l = Plain (byte_stop l.b) l.text l.from l.i
 
 abbrev pub decreases-loop-i : goal.decreases-loop-i
 decreases-loop-i l = length l.text - l.i
