@@ -2,7 +2,7 @@
 #![tactic(auto)]
 
 ghost use Rattle.std.specs.Prelude.{◌≡◌, [], ◌∷◌};
-ghost use Rattle.text.specs.Call.{call_of, guarded, text_check, finish};
+ghost use Rattle.text.specs.Call.{answered, call_of, guarded, text_check, finish};
 ghost use Rattle.escape.specs.Escape.{write};
 ghost use Rattle.c14n.specs.C14n.{c14n_set};
 ghost use Rattle.c14n.specs.Flags.{c14n_chars};
@@ -35,15 +35,8 @@ fn c14n_chars(attribute: bool) -> EscapeChars
 
 // The text written by one of the two sets: 1 and 5, then 19. Success: the length written.
 pub fn c14n(text: &[u8], attribute: bool, out: &mut [u8]) -> Answer
-    ensures { call_of result (out.new ∷ []) ≡ guarded (text_check text.now) (out.old ∷ []) (finish (write (c14n_set attribute) text.now) 0 out.old) }
+    ensures { call_of (answered result) (out.new ∷ []) ≡ guarded (text_check text.now) (out.old ∷ []) (finish (write (c14n_set attribute) text.now) 0 out.old) }
 {
-    let checked = text::check_text(text);
-    let Answer::Done {
-        first: _,
-        second: _,
-    } = checked
-    else {
-        return checked;
-    };
+    text::check_text(text)?;
     escape::escape_by(text, c14n_chars(attribute), out)
 }

@@ -2,27 +2,26 @@
 -- form is followed by a `;` (`form_closed`), so that a `;` after it is one of its own; else the character stands there. Assumes nothing.
 use mathlib.Core.Path.{◌≡◌, refl, sym, ap, ap₂, subst, ◌∙◌}
 use mathlib.Core.Bool.{Bool, true, false, ◌&&◌, true≢false}
-use mathlib.Core.Logic.{◌≢◌, ◌⊎◌, inl, inr, ⊎_elim}
+use mathlib.Core.Logic.{◌⊎◌, inl, inr, ⊎_elim}
 use mathlib.Core.List.{List, [], ◌∷◌, ◌++◌, append_assoc, append-nil}
-use Prim.Native.Nat.{ℕ, suc, ◌+◌, ◌-◌, ◌≤◌, ◌<◌}
+use Prim.Native.Nat.{ℕ, suc, ◌-◌, ◌≤◌, ◌<◌}
 use native.Mathlib.Omega.{arith}
 use lib.Dec.{eqb}
 use lib.ListN.{length, take, drop, get_or, length-append, length-drop, drop_of_length-le, take-append-drop}
-use lib.Seq.{drop-append_seam, sets, sets-eq}
+use lib.Pointwise.{pointwise}
+use lib.Seq.{take_all, drop-append_seam}
 use borrow.Author.Tests.{eqb-true, eq-eqb, ne_eqb}
 use Rattle.text.specs.Bytes.{pick, within, begins, same_bytes}
 use Rattle.text.specs.Version.{Rule, xml10, xml11}
-use Rattle.text.specs.Call.{laid}
 use Rattle.text.specs.Utf8.{WellFormed}
 use Rattle.text.proofs.Bytes.{inside, above, below, begins_split, pick_by}
-use Rattle.text.proofs.Patterns.{at_head, begins_fits}
+use Rattle.text.proofs.Patterns.{begins_fits}
 use Rattle.escape.specs.Escape.{attribute, level_set, write_byte}
 use Rattle.escape.proofs.View.{Kind, is_lt, is_gt, is_amp_lem, is_apos, is_quot, is_cr_lem, is_lf, is_tab, is_other, kind}
 use Rattle.canonical.specs.Canonical.{canonical, canonical_from}
 use Rattle.canonical.specs.Starts.{Starts}
-use Rattle.canonical.specs.declared.Hand.{Hand}
 use Rattle.canonical.specs.LastCharacter.{last_from, last_character, filled_up, in_hand}
-use Rattle.canonical.specs.FormEnds.{hand_bytes, FormOf, Single, LastRaw, ends_with, last_numbered, last_named}
+use Rattle.canonical.specs.FormEnds.{FormOf, Single, LastRaw, ends_with, last_numbered, last_named}
 use Rattle.canonical.specs.FormEnds.Single.{one, two, three, four}
 use Rattle.canonical.proofs.Append.{canonical_append}
 use Rattle.canonical.proofs.Canonical.{Piece, by_level, as_nel, as_ls, as_c2, as_e2, Pieces, none, more, canonical_pieces, canonical_length}
@@ -382,27 +381,22 @@ module _ {r : Rule} {v form : List ℕ} (n : Ending r v form) where
           let semicolon : get_or n.char (length n.char - 1) 0 ≡ 59 = sym here ∙ eqb-true (get_or form (length form - 1) 0) 59 e in
           ⊎_elim (λ single. sym (single ∙ ap (λ (b : ℕ). b ∷ []) semicolon)) (λ high. absurd (omega (arith, high, semicolon))) some.1
 
--- ---- bytes at a place, one by one
+-- ---- bytes at the end
 
-pub bytes_over : (bytes l : List ℕ) (i : ℕ) → length bytes ≤ i → begins (drop i bytes) l ≡ true
-bytes_over bytes l i h = rw (drop_of_length-le bytes h)
+-- of as many bytes, equality tells
+same_begins : (text bytes : List ℕ) → length text ≡ length bytes → pointwise eqb text bytes ≡ begins bytes text
+same_begins [] [] e = refl
+same_begins [] (b ∷ bs) e = absurd (omega (arith, e))
+same_begins (a ∷ xs) [] e = absurd (omega (arith, e))
+same_begins (a ∷ xs) (b ∷ bs) e = ap (λ (t : Bool). eqb a b && t) (same_begins xs bs (omega (arith, e)))
 
-bytes_at : (bytes form : List ℕ) (i at : ℕ) → i < length bytes → at < length form
-    → begins (drop i bytes) (drop at form) ≡ eqb (get_or form at 0) (get_or bytes i 0) && begins (drop (i + 1) bytes) (drop (at + 1) form)
-bytes_at bytes form i at h k = rw (at_head bytes i h, at_head form at k)
-
-pub bytes_differ : (bytes form : List ℕ) (i at : ℕ) → i < length bytes → at < length form → get_or form at 0 ≢ get_or bytes i 0
-    → begins (drop i bytes) (drop at form) ≡ false
-bytes_differ bytes form i at h k e =
-    bytes_at bytes form i at h k ∙ ap (λ (t : Bool). t && begins (drop (i + 1) bytes) (drop (at + 1) form)) (ne_eqb (get_or form at 0) (get_or bytes i 0) e)
-
-pub bytes_next : (bytes form : List ℕ) (i at : ℕ) → i < length bytes → at + i < length form → get_or form (at + i) 0 ≡ get_or bytes i 0
-    → begins (drop i bytes) (drop (at + i) form) ≡ begins (drop (i + 1) bytes) (drop (at + (i + 1)) form)
-bytes_next bytes form i at h k e =
-    let q : at + i + 1 ≡ at + (i + 1) = omega arith in
-    bytes_at bytes form i (at + i) h k
-    ∙ ap (λ (t : Bool). t && begins (drop (i + 1) bytes) (drop (at + i + 1) form)) (eq-eqb (get_or form (at + i) 0) (get_or bytes i 0) e)
-    ∙ ap (λ (n : ℕ). begins (drop (i + 1) bytes) (drop n form)) q
+pub ends_equal : (bytes form : List ℕ) → length bytes ≤ length form
+    → pointwise eqb (take (length form - (length form - length bytes)) (drop (length form - length bytes) form)) bytes ≡ ends_with bytes form
+ends_equal bytes form h =
+    let at = length form - length bytes in
+    let rest = length-drop at form in
+    ap (λ (l : List ℕ). pointwise eqb l bytes) (take_all (length form - at) (drop at form) (omega arith))
+    ∙ same_begins (drop at form) bytes (omega arith)
 
 -- a form that is too short for them
 pub ends_short : (bytes form : List ℕ) → length form < length bytes → false ≡ ends_with bytes form
@@ -544,9 +538,3 @@ module _ {l w : List ℕ} (high : 0x80 ≤ get_or l (length l - 1) 0) where
       back_four (back_2 n d c e) = absurd (omega arith)
       back_four (back_3 n d c b e) = absurd (omega arith)
       back_four (back_4 n d c b e) = e
-
--- ---- the character in hand, stored byte by byte
-
-pub hand_laid : (hand : Hand) (value scratch : List ℕ) → 4 ≤ length scratch → hand_bytes hand ≡ in_hand value → sets scratch 0 (hand_bytes hand) ≡ laid (in_hand value) scratch
-hand_laid hand value scratch h e =
-    sets-eq (hand_bytes hand) scratch 0 (omega (arith, h)) ∙ ap (λ (l : List ℕ). laid l scratch) e

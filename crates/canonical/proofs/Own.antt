@@ -1,15 +1,17 @@
 -- A run without the bytes of `changed_by` is its own canonical form, TAB and LF as spaces (`own_form`). Runs tested by blocks, the last of which
 -- may overlap with the one before it (`block_more`, `block_last`). Assumes nothing.
-use mathlib.Core.Path.{◌≡◌, refl, ap, ◌∙◌}
+use mathlib.Core.Path.{◌≡◌, refl, sym, ap, ◌∙◌}
 use mathlib.Core.Bool.{Bool, true, false, ◌&&◌, ◌||◌, true≢false}
 use mathlib.Core.List.{List, [], ◌∷◌}
-use Prim.Native.Nat.{ℕ, suc, ◌+◌, ◌-◌, ◌≤◌, ◌<◌, min}
+use Prim.Native.Nat.{ℕ, suc, ◌+◌, ◌-◌, ◌≤◌, ◌<◌, zero-le, min}
 use native.Mathlib.Omega.{arith}
 use lib.Dec.{eqb, ltb}
-use lib.ListN.{length, get_or}
+use lib.ListN.{length, take, drop, get_or, length-drop}
+use lib.Seq.{length-take-le, get_or-take, get_or-drop}
 use borrow.Author.Tests.{ltb-true, ltb-false}
 use Rattle.text.proofs.Bytes.{or_left, or_right}
 use Rattle.output.specs.Runs.{Plain}
+use Rattle.output.proofs.Runs.{plain_of}
 use Rattle.eols.specs.Stops.{rule_for}
 use Rattle.halts.specs.Halts.{spaced, blanks_spaced}
 use Rattle.escape.specs.Escape.{full}
@@ -75,6 +77,16 @@ own_form newer run p = own_bytes newer run (λ k h. p.none k (omega arith) h)
 
 pub plain_whole : {stop : ℕ → Bool} {run : List ℕ} {i : ℕ} → Plain stop run 0 i → length run ≤ i → Plain stop run 0 (length run)
 plain_whole {stop} {run} {i} p h = let q : i ≡ length run = omega (arith, p.to, h) in rw q at p
+
+-- a block by itself, and as a part of the run
+pub block_in : {stop : ℕ → Bool} {run : List ℕ} (at size : ℕ) → at + size ≤ length run
+    → Plain stop (take (at + size - at) (drop at run)) 0 (length (take (at + size - at) (drop at run))) → Plain stop run at (at + size)
+block_in {stop} {run} at size h p =
+    let n : at + size - at ≡ size = omega arith in
+    let long : length (take size (drop at run)) ≡ size = length-take-le size (drop at run) (rw (length-drop at run) (omega arith)) in
+    let block : Plain stop (take size (drop at run)) 0 (length (take size (drop at run))) = rw n at p in
+    plain_of stop run at size h
+    (λ m l. ap stop (sym (get_or-take size (drop at run) m 0 l ∙ get_or-drop at run m 0)) ∙ block.none m zero-le (rw long l))
 
 -- after the test of a block of `size` bytes, which starts at i, or before it where it is the last one
 module _ (size : ℕ) {stop : ℕ → Bool} {run : List ℕ} {i at : ℕ} (before : Plain stop run 0 i)

@@ -5,10 +5,6 @@ use Rattle.text.specs.Bytes.{pick, begins}
 use Rattle.text.specs.Version.{Rule}
 use Rattle.text.specs.Utf8.{WellFormed}
 use Rattle.canonical.specs.Canonical.{canonical}
-use Rattle.canonical.specs.declared.Hand.{Hand}
-
-abbrev pub hand_bytes : Hand → List ℕ
-hand_bytes hand = hand.first ∷ hand.second ∷ hand.third ∷ hand.fourth ∷ []
 
 -- the form of some value
 pub record FormOf (form : List ℕ) : Type 0 where

@@ -17,19 +17,10 @@ ghost use Rattle.runs.specs.Specials.{special, Common};
 ghost use Rattle.output.specs.Runs.{Plain};
 ghost use Rattle.canonical.specs.Runs.{special_reference, changed_by, Unchanged};
 ghost use Rattle.canonical.specs.LastCharacter.{filled_up, in_hand};
-ghost use Rattle.canonical.specs.FormEnds.{hand_bytes, FormOf, Single, LastRaw, ends_with, last_numbered, last_named};
+ghost use Rattle.canonical.specs.FormEnds.{FormOf, Single, LastRaw, ends_with, last_numbered, last_named};
 
 use escape::EscapeChars;
 use text::pattern;
-
-// A character's bytes, filled up with zero bytes.
-#[derive(Drop)]
-pub struct Hand {
-    pub first: u8,
-    pub second: u8,
-    pub third: u8,
-    pub fourth: u8,
-}
 
 // The width of the U+0085 or U+2028 at i, 0 where none is.
 fn special_width(value: &[u8], i: usize) -> usize
@@ -56,14 +47,12 @@ fn next_special(value: &[u8], from: usize, newer: bool) -> usize
     if !newer {
         return value.len();
     }
-    let mut i = runs::special::skip_common(value, from);
-    while i < value.len() {
+    for i in runs::special::skip_common(value, from)..value.len() {
         if special_width(value, i) != 0 {
             return i;
         }
-        i += 1;
     }
-    i
+    value.len()
 }
 
 fn special_length(width: usize) -> usize
@@ -188,63 +177,34 @@ fn is_changed(b: u8, newer: bool) -> bool
         | (newer & ((b == 0xc2) | (b == 0xe2)))
 }
 
-// Is one of the 16 bytes from i on changed?
-fn any_changed_16(run: &[u8], i: usize, newer: bool) -> bool
-    requires { i + 16 ≤ length run.now }
-    ensures { result ≡ false → Plain (changed_by newer) run.now i (i + 16) }
+// Is a byte of the block changed?
+fn any_changed(block: &[u8], newer: bool) -> bool
+    ensures { result ≡ false → Unchanged newer block.now }
 {
     let mut any = false;
-    for k in 0..16usize {
-        any = any | is_changed(run[i + k], newer);
+    for &b in block {
+        any |= is_changed(b, newer);
     }
     any
 }
 
-fn any_changed_8(run: &[u8], i: usize, newer: bool) -> bool
-    requires { i + 8 ≤ length run.now }
-    ensures { result ≡ false → Plain (changed_by newer) run.now i (i + 8) }
-{
-    let mut any = false;
-    for k in 0..8usize {
-        any = any | is_changed(run[i + k], newer);
-    }
-    any
-}
-
-// Is no byte of the run changed? By blocks of 16, the last of which may overlap with the one before it: one call of the block's
+// Is no byte of the run changed? By blocks of N bytes, the last of which may overlap with the one before it: one call of the block's
 // test, so that it is compiled into the loop.
-fn is_own_blocks(run: &[u8], newer: bool) -> bool
-    requires { 16 ≤ length run.now }
+fn is_own_blocks<const N: usize>(run: &[u8], newer: bool) -> bool
+    requires { (0 < N) × (N ≤ length run.now) }
     ensures { result ≡ true → Unchanged newer run.now }
 {
-    let last = run.len() - 16;
+    let last = run.len() - N;
     let mut i: usize = 0;
     loop {
-        if any_changed_16(run, output::least(i, last), newer) {
+        let at = i.min(last);
+        if any_changed(&run[at..at + N], newer) {
             return false;
         }
         if last <= i {
             return true;
         }
-        i += 16;
-    }
-}
-
-// The same by blocks of 8.
-fn is_own_eights(run: &[u8], newer: bool) -> bool
-    requires { 8 ≤ length run.now }
-    ensures { result ≡ true → Unchanged newer run.now }
-{
-    let last = run.len() - 8;
-    let mut i: usize = 0;
-    loop {
-        if any_changed_8(run, output::least(i, last), newer) {
-            return false;
-        }
-        if last <= i {
-            return true;
-        }
-        i += 8;
+        i += N;
     }
 }
 
@@ -252,14 +212,7 @@ fn is_own_eights(run: &[u8], newer: bool) -> bool
 fn is_own_few(run: &[u8], newer: bool) -> bool
     ensures { result ≡ true → Unchanged newer run.now }
 {
-    let mut i: usize = 0;
-    while i < run.len() {
-        if is_changed(run[i], newer) {
-            return false;
-        }
-        i += 1;
-    }
-    true
+    !run.iter().any(|&b| is_changed(b, newer))
 }
 
 // Is the run, its TAB and LF as spaces, its own canonical form? Under 1.1 no for any C2 and E2, whatever follows.
@@ -271,9 +224,9 @@ pub fn is_own_form(run: &[u8], newer: bool) -> bool
         return is_own_few(run, newer);
     }
     if n < 16 {
-        return is_own_eights(run, newer);
+        return is_own_blocks::<8>(run, newer);
     }
-    is_own_blocks(run, newer)
+    is_own_blocks::<16>(run, newer)
 }
 
 // ---- a character
@@ -283,7 +236,7 @@ pub fn char_length(c: u32, newer: bool) -> usize
     ensures { result ≡ length (canonical (rule_for newer) (encode c)) }
 {
     if c < 0x80 {
-        return escape::added_one(escape::escape_chars(3), c as u8) as usize + 1;
+        return usize::from(escape::added_one(escape::escape_chars(3), c as u8)) + 1;
     }
     if newer & (c == 0x85) {
         return special_length(2);
@@ -317,115 +270,81 @@ pub fn write_char(c: u32, newer: bool, out: &mut [u8]) -> usize
 
 // ---- the last character of a value, read off the end of its form
 
-// Does the form go on with these bytes at a place?
-fn bytes_at(form: &[u8], at: usize, bytes: &[u8]) -> bool
-    requires { at + length bytes.now ≤ length form.now }
-    ensures { result ≡ begins bytes.now (drop at form.now) }
-{
-    let mut i: usize = 0;
-    while i < bytes.len() {
-        if form[at + i] != bytes[i] {
-            return false;
-        }
-        i += 1;
-    }
-    true
-}
-
 fn ends_with(form: &[u8], bytes: &[u8]) -> bool
     ensures { result ≡ ends_with bytes.now form.now }
 {
-    if form.len() < bytes.len() {
-        return false;
-    }
-    bytes_at(form, form.len() - bytes.len(), bytes)
+    bytes.len() <= form.len() && &form[form.len() - bytes.len()..] == bytes
 }
 
-fn held(first: u8, second: u8, third: u8) -> Hand
-    ensures { hand_bytes result ≡ first ∷ second ∷ third ∷ 0 ∷ [] }
-{
-    Hand {
-        first,
-        second,
-        third,
-        fourth: 0,
-    }
-}
-
-// The character of the reference with which the form ends; `;` where it ends with none.
-fn named_hand(form: &[u8]) -> Hand
-    ensures { hand_bytes result ≡ filled_up 4 (last_named form.now) }
+// The character of the reference with which the form ends, filled up with zero bytes; `;` where it ends with none.
+fn named_hand(form: &[u8]) -> [u8; 4]
+    ensures { result ≡ filled_up 4 (last_named form.now) }
 {
     if ends_with(form, b"&lt;") {
-        return held(b'<', 0, 0);
+        return [b'<', 0, 0, 0];
     }
     if ends_with(form, b"&gt;") {
-        return held(b'>', 0, 0);
+        return [b'>', 0, 0, 0];
     }
     if ends_with(form, b"&amp;") {
-        return held(b'&', 0, 0);
+        return [b'&', 0, 0, 0];
     }
     if ends_with(form, b"&apos;") {
-        return held(b'\'', 0, 0);
+        return [b'\'', 0, 0, 0];
     }
     if ends_with(form, b"&quot;") {
-        return held(b'"', 0, 0);
+        return [b'"', 0, 0, 0];
     }
     numbered_hand(form)
 }
 
 // The same for those of a number.
-fn numbered_hand(form: &[u8]) -> Hand
-    ensures { hand_bytes result ≡ filled_up 4 (last_numbered form.now) }
+fn numbered_hand(form: &[u8]) -> [u8; 4]
+    ensures { result ≡ filled_up 4 (last_numbered form.now) }
 {
     if ends_with(form, b"&#13;") {
-        return held(b'\r', 0, 0);
+        return [b'\r', 0, 0, 0];
     }
     if ends_with(form, b"&#10;") {
-        return held(b'\n', 0, 0);
+        return [b'\n', 0, 0, 0];
     }
     if ends_with(form, b"&#9;") {
-        return held(b'\t', 0, 0);
+        return [b'\t', 0, 0, 0];
     }
     if ends_with(form, b"&#133;") {
-        return held(0xc2, 0x85, 0);
+        return [0xc2, 0x85, 0, 0];
     }
     if ends_with(form, b"&#8232;") {
-        return held(0xe2, 0x80, 0xa8);
+        return [0xe2, 0x80, 0xa8, 0];
     }
-    held(b';', 0, 0)
+    [b';', 0, 0, 0]
 }
 
 // A character that stands at the form's end as it is.
-fn raw_hand(form: &[u8]) -> Hand
+fn raw_hand(form: &[u8]) -> [u8; 4]
     requires { LastRaw form.now }
-    ensures { (front char : List ℕ) → Single char → form.now ≡ front ++ char → hand_bytes result ≡ filled_up 4 char }
+    ensures { (front char : List ℕ) → Single char → form.now ≡ front ++ char → result ≡ filled_up 4 char }
 {
     let n = form.len();
     let d = form[n - 1];
     if d < 0x80 {
-        return held(d, 0, 0);
+        return [d, 0, 0, 0];
     }
     let c = form[n - 2];
     if 0xc0 <= c {
-        return held(c, d, 0);
+        return [c, d, 0, 0];
     }
     let b = form[n - 3];
     if 0xc0 <= b {
-        return held(b, c, d);
+        return [b, c, d, 0];
     }
-    Hand {
-        first: form[n - 4],
-        second: b,
-        third: c,
-        fourth: d,
-    }
+    [form[n - 4], b, c, d]
 }
 
 // The last character of the value that the form is of.
-pub fn last_of(form: &[u8]) -> Hand
+pub fn last_of(form: &[u8]) -> [u8; 4]
     requires { FormOf form.now }
-    ensures { (rule : Rule) (value : List ℕ) → WellFormed value → 1 ≤ length value → form.now ≡ canonical rule value → hand_bytes result ≡ in_hand value }
+    ensures { (rule : Rule) (value : List ℕ) → WellFormed value → 1 ≤ length value → form.now ≡ canonical rule value → result ≡ in_hand value }
 {
     if form[form.len() - 1] == b';' {
         return named_hand(form);
@@ -439,9 +358,8 @@ pub fn put_hand(form: &[u8], scratch: &mut [u8])
     requires in_bounds { 4 ≤ length scratch.old }
     ensures { (rule : Rule) (value : List ℕ) → WellFormed value → 1 ≤ length value → form.now ≡ canonical rule value → scratch.new ≡ laid (in_hand value) scratch.old }
 {
-    let hand = last_of(form);
-    scratch[0] = hand.first;
-    scratch[1] = hand.second;
-    scratch[2] = hand.third;
-    scratch[3] = hand.fourth;
+    // Tried as `copy_from_slice`, and slower: the bytes are then joined to a number, in ten instructions more.
+    for (k, &b) in last_of(form).iter().enumerate() {
+        scratch[k] = b;
+    }
 }

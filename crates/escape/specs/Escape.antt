@@ -2,8 +2,8 @@
 use Rattle.std.specs.Prelude.{ℕ, Bool, ◌||◌, List, [], ◌∷◌, ◌++◌, eqb, leb}
 use Rattle.text.specs.Bytes.{pick}
 use Rattle.text.specs.Call.{passed}
-use Rattle.text.specs.declared.Answer.{Answer}
-use Rattle.text.specs.declared.Answer.TheVariants.{Refused}
+use Rattle.text.specs.Answers.{Answer}
+use Rattle.text.specs.Answers.{Refused}
 
 -- Escape levels: the bytes that a writer replaces, and by what
 pub record Replacements : Type 0 where

@@ -4,12 +4,13 @@
 
 ghost use Rattle.std.specs.Prelude.{◌≡◌, false, [], ◌∷◌, ◌+◌, ◌≤◌, ◌<◌, length, take, drop};
 ghost use Rattle.text.specs.Bytes.{pick};
-ghost use Rattle.text.specs.Call.{laid, finish, call_of, longest_text};
+ghost use Rattle.text.specs.Call.{answered, laid, finish, call_of, longest_text};
 ghost use Rattle.escape.specs.Escape.{write, level_of, level_set, level_check};
 ghost use Rattle.output.specs.Runs.{Plain, Copied, Ends, Room};
 ghost use Rattle.escape.specs.Scan.{escaped_by, reference_by, tab_added, added_by, chars_set, level_chars, shown_byte, shown, Shows};
 
-use text::{Answer, refusals};
+use text::refusals::Refusal;
+use text::{Answer, PASSED, Success};
 
 // The characters that are escaped besides `<`, `&` and CR: LF and TAB, `'`, `"`, `>`; and whether TAB, LF and CR get hexadecimal numbers.
 #[derive(Clone, Copy)]
@@ -23,19 +24,12 @@ pub struct EscapeChars {
 
 // Refusal 4.
 pub fn check_level(level: u8) -> Answer
-    ensures { result ≡ level_check level }
+    ensures { answered result ≡ level_check level }
 {
     if 3 < level {
-        return Answer::Refused {
-            number: refusals::UNKNOWN_BYTE,
-            first: 0,
-            second: 0,
-        };
+        return Err(Refusal::UnknownByte);
     }
-    Answer::Done {
-        first: 0,
-        second: 0,
-    }
+    Ok(PASSED)
 }
 
 // The level as flags, so that the loops test no level.
@@ -107,8 +101,8 @@ fn any_escaped(text: &[u8], i: usize, chars: EscapeChars) -> bool
     ensures { result ≡ false → Plain (escaped_by chars) text.now i (i + 16) }
 {
     let mut hit = false;
-    for k in 0..16usize {
-        hit = hit | escapes(chars, text[i + k]);
+    for &b in &text[i..i + 16] {
+        hit |= escapes(chars, b);
     }
     hit
 }
@@ -184,8 +178,8 @@ fn added_part(text: &[u8], i: usize, count: usize, chars: EscapeChars) -> u8
     ensures { result + count ≡ length (write (chars_set chars) (take count (drop i text.now))) }
 {
     let mut n: u8 = 0;
-    for k in 0..count {
-        n += added(chars, text[i + k]);
+    for &b in &text[i..i + count] {
+        n += added(chars, b);
     }
     n
 }
@@ -206,8 +200,8 @@ fn added_rest(text: &[u8], i: usize, count: usize, chars: EscapeChars) -> usize
     ensures { result + count ≡ length (write (chars_set chars) (take count (drop i text.now))) }
 {
     let mut n: usize = 0;
-    for k in 0..count {
-        n += added_one(chars, text[i + k]) as usize;
+    for &b in &text[i..i + count] {
+        n += usize::from(added_one(chars, b));
     }
     n
 }
@@ -220,7 +214,7 @@ pub fn escaped_length(text: &[u8], chars: EscapeChars) -> usize
     let mut n: usize = 0;
     let mut i: usize = 0;
     while 32 <= text.len() - i {
-        n += added_part(text, i, 32, chars) as usize;
+        n += usize::from(added_part(text, i, 32, chars));
         i += 32;
     }
     let rest = text.len() - i;
@@ -251,7 +245,8 @@ fn put_shown(src: &[u8], spaces: bool, out: &mut [u8])
     output::put_block(src, out);
 }
 
-// Copies the blocks at the text's start of which no byte is escaped, each as soon as it is tested.
+// Copies the blocks at the text's start of which no byte is escaped, each as soon as it is tested. The place is counted here, as it is
+// what is answered.
 fn put_blocks(text: &[u8], chars: EscapeChars, spaces: bool, out: &mut [u8]) -> usize
     requires shows { Shows chars spaces }
     requires room { Room (escaped_by chars) (shown spaces text.now) out.old }
@@ -275,16 +270,13 @@ fn put_bytes(text: &[u8], chars: EscapeChars, spaces: bool, out: &mut [u8]) -> u
     ensures copied { Copied (escaped_by chars) (shown spaces text.now) out.old out.new result }
     ensures ends { Ends (escaped_by chars) (shown spaces text.now) result }
 {
-    let mut i: usize = 0;
-    while i < text.len() {
-        let b = text[i];
+    for (i, &b) in text.iter().enumerate() {
         if is_escaped(chars, b) {
             return i;
         }
         out[i] = shown_byte(b, spaces);
-        i += 1;
     }
-    i
+    text.len()
 }
 
 // The same by blocks first, and says how many.
@@ -324,29 +316,25 @@ pub fn write_escaped(text: &[u8], chars: EscapeChars, spaces: bool, out: &mut [u
 // Else it counts first, so that 19 leaves the output as it is.
 pub fn escape_by(text: &[u8], chars: EscapeChars, out: &mut [u8]) -> Answer
     requires { length text.now ≤ longest_text }
-    ensures { call_of result (out.new ∷ []) ≡ finish (write (chars_set chars) text.now) 0 out.old }
+    ensures { call_of (answered result) (out.new ∷ []) ≡ finish (write (chars_set chars) text.now) 0 out.old }
 {
     if out.len() < 6 * text.len() {
         let length = escaped_length(text, chars);
         if out.len() < length {
-            return Answer::Refused {
-                number: refusals::NO_ROOM,
-                first: length as u64,
-                second: 0,
-            };
+            return Err(Refusal::NoRoom(length as u64));
         }
     }
     let written = write_escaped(text, chars, false, out);
-    Answer::Done {
+    Ok(Success {
         first: written as u64,
         second: 0,
-    }
+    })
 }
 
 // One of the four levels.
 pub fn escape(text: &[u8], level: u8, out: &mut [u8]) -> Answer
     requires { length text.now ≤ longest_text }
-    ensures { call_of result (out.new ∷ []) ≡ finish (write (level_set (level_of level)) text.now) 0 out.old }
+    ensures { call_of (answered result) (out.new ∷ []) ≡ finish (write (level_set (level_of level)) text.now) 0 out.old }
 {
     escape_by(text, escape_chars(level), out)
 }

@@ -1,16 +1,15 @@
 -- Where a run ends: a test of bytes over a part of a text (`any_none`, `plain_any`, `first_stop`), runs without halts (`suspects_smooth`,
 -- `smooth_join`), and the halt at their end (`older_at`, `halt_join`). A text that stands for itself has no stop (`simple_plain`).
 -- Assumes nothing.
-use mathlib.Core.Path.{◌≡◌, refl, sym, ap, ◌∙◌}
+use mathlib.Core.Path.{◌≡◌, refl, sym, ap, ap₂, ◌∙◌}
 use mathlib.Core.Bool.{Bool, true, false, not, ◌&&◌, ◌||◌, true≢false}
-use mathlib.Core.List.{List, [], ◌∷◌, ◌++◌}
+use mathlib.Core.List.{List, [], ◌∷◌}
 use Prim.Native.Nat.{ℕ, zero, suc, ◌+◌, ◌-◌, ◌≤◌, ◌<◌, zero-le, suc-le-suc}
 use native.Mathlib.Omega.{arith}
 use native.Mathlib.Nat.{le_refl, le_trans, not-suc-le-zero, le_of_suc-le-suc}
-use native.Mathlib.Numerals.{add-one}
 use lib.Dec.{eqb, leb, ltb}
 use lib.ListN.{length, take, drop, get_or, length-drop}
-use lib.Seq.{length-take-le, take-suc, get_or-take, get_or-drop}
+use lib.Seq.{length-take-le, take_all, get_or-take, get_or-drop}
 use borrow.Author.Count.{below_none, below_more}
 use borrow.Author.Tests.{ne_eqb, leb-true, ltb-true, ltb-false}
 use Rattle.text.specs.Bytes.{pick, within, begins}
@@ -26,11 +25,10 @@ use Rattle.halts.specs.Halts.{halts, Smooth, HaltAt, suspect_byte, any_stop, sto
 
 -- ---- a test of bytes over a part of a text
 
--- after k of `size` bytes, an accumulator for each of two bytes
-pub record Looked (t : List ℕ) (i size a b : ℕ) (one two : Bool) (k : ℕ) : Type 0 where
-  pub within : k ≤ size
-  pub first : one ≡ any_stop (λ c. eqb c a) (take k (drop i t))
-  pub second : two ≡ any_stop (λ c. eqb c b) (take k (drop i t))
+-- after k bytes, an accumulator for each of two bytes
+pub record Looked (t : List ℕ) (a b : ℕ) (one two : Bool) (k : ℕ) : Type 0 where
+  pub first : one ≡ any_stop (λ c. eqb c a) (take k t)
+  pub second : two ≡ any_stop (λ c. eqb c b) (take k t)
 
 or_false : (t : Bool) → t || false ≡ t
 or_false true = refl
@@ -59,21 +57,6 @@ any_either a b (c ∷ cs) =
     ∙ sym (or_assoc x y (any_stop (either_byte a b) cs))
 
 module _ (stop : ℕ → Bool) where
-  any_append : (xs : List ℕ) (b : ℕ) → any_stop stop (xs ++ (b ∷ [])) ≡ any_stop stop xs || stop b
-  any_append [] b = or_false (stop b)
-  any_append (x ∷ xs) b = ap (λ (t : Bool). stop x || t) (any_append xs b) ∙ sym (or_assoc (stop x) (any_stop stop xs) (stop b))
-
-  -- a byte more
-  pub any_next : (t : List ℕ) (k : ℕ) {hit : Bool} → k < length t → hit ≡ any_stop stop (take k t)
-      → hit || stop (get_or t k 0) ≡ any_stop stop (take (k + 1) t)
-  any_next t k h e =
-      ap (λ (u : Bool). u || stop (get_or t k 0)) e ∙ sym (rw (add-one k, take-suc t k 0 h) (any_append (take k t) (get_or t k 0)))
-
-  part_next : (t : List ℕ) (i k : ℕ) {hit : Bool} → i + k < length t → hit ≡ any_stop stop (take k (drop i t))
-      → hit || stop (get_or t (i + k) 0) ≡ any_stop stop (take (k + 1) (drop i t))
-  part_next t i k {hit} h e =
-      ap (λ (b : ℕ). hit || stop b) (sym (get_or-drop i t k 0)) ∙ any_next (drop i t) k (rw (length-drop i t) (omega arith)) e
-
   none_each : (l : List ℕ) → any_stop stop l ≡ false → (m : ℕ) → m < length l → stop (get_or l m 0) ≡ false
   none_each [] e m h = absurd (not-suc-le-zero h)
   none_each (b ∷ bs) e zero h = or_left (stop b) (any_stop stop bs) e
@@ -134,14 +117,10 @@ first_stop stop (b ∷ bs) e = go (stop b) refl (λ q. first_stop stop bs q)
           stops = f.stops;
         }
 
-pub looked_next : (t : List ℕ) (i size a b : ℕ) {one two : Bool} {k : ℕ} → i + size ≤ length t → k < size → Looked t i size a b one two k
-    → Looked t i size a b (one || eqb (get_or t (i + k) 0) a) (two || eqb (get_or t (i + k) 0) b) (k + 1)
-looked_next t i size a b {k = k} h l p =
-    record {
-      within = omega arith;
-      first = part_next (λ c. eqb c a) t i k (omega arith) p.first;
-      second = part_next (λ c. eqb c b) t i k (omega arith) p.second;
-    }
+-- after all of them
+pub looked_all : (t : List ℕ) (a b : ℕ) {one two : Bool} {k : ℕ} → length t ≤ k → Looked t a b one two k → one || two ≡ any_stop (either_byte a b) t
+looked_all t a b {k = k} h p =
+    ap₂ ◌||◌ p.first p.second ∙ any_either a b (take k t) ∙ ap (any_stop (either_byte a b)) (take_all k t h)
 
 -- the first k of the 16 bytes from i on are a run
 pub record InBlock (stop : ℕ → Bool) (t : List ℕ) (i k : ℕ) : Type 0 where

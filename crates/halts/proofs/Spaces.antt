@@ -5,12 +5,10 @@ use mathlib.Core.Bool.{Bool, true, false, ◌||◌}
 use mathlib.Core.List.{List, [], ◌∷◌}
 use Prim.Native.Nat.{ℕ, zero, suc, ◌+◌, ◌≤◌, ◌<◌, zero-le, max}
 use native.Mathlib.Omega.{arith}
-use native.Mathlib.Nat.{not-suc-le-zero}
-use lib.Dec.{eqb, leb, ltb}
+use lib.Dec.{eqb, ltb}
 use lib.ListN.{length, take, drop, get_or, set, length-set, length-take, get_or-append}
-use lib.Seq.{take_all, get_or-take, set-get_or, get_or-set_same, get_or-set_other}
-use borrow.Author.Count.{below_more}
-use borrow.Author.Tests.{eqb-true, leb-true, ltb-true, ltb-false}
+use lib.Seq.{take_all, get_or-take, set-get_or}
+use borrow.Author.Tests.{eqb-true, ltb-true, ltb-false}
 use Rattle.text.specs.Bytes.{pick}
 use Rattle.text.specs.Call.{laid}
 use Rattle.output.proofs.Laid.{laid_next}
@@ -28,24 +26,6 @@ module _ (b g h : ℕ) {x y : ℕ} (e : x ≡ pick (eqb b 9) g 0) (f : y ≡ pic
       go true p false q = omega (arith, eqb-true b 9 p, tab)
       go false p true q = omega (arith, eqb-true b 10 q, lf)
       go false p false q = omega arith
-
-  -- no sum leaves the byte
-  pub gains_fit : leb g 246 ≡ true → leb h 245 ≡ true → b ≤ 255 → b + x + y ≤ 255
-  gains_fit tab lf fits = omega (arith, e, f, go (eqb b 9) refl (eqb b 10) refl)
-    where
-      go : (t : Bool) → eqb b 9 ≡ t → (l : Bool) → eqb b 10 ≡ l → b + pick t g 0 + pick l h 0 ≤ 255
-      go true p true q = absurd (omega (arith, eqb-true b 9 p, eqb-true b 10 q))
-      go true p false q = omega (arith, eqb-true b 9 p, leb-true g 246 tab)
-      go false p true q = omega (arith, eqb-true b 10 q, leb-true h 245 lf)
-      go false p false q = omega (arith, fits)
-
--- the first sum neither
-pub gain_fits : (b g : ℕ) {x : ℕ} → x ≡ pick (eqb b 9) g 0 → leb g 246 ≡ true → b ≤ 255 → b + x ≤ 255
-gain_fits b g e tab fits = omega (arith, e, go (eqb b 9) refl)
-  where
-    go : (t : Bool) → eqb b 9 ≡ t → b + pick t g 0 ≤ 255
-    go true p = omega (arith, eqb-true b 9 p, leb-true g 246 tab)
-    go false p = omega (arith, fits)
 
 -- ---- a run
 
@@ -129,20 +109,6 @@ pub record Stored (src : List ℕ) (from size : ℕ) (block before out : List �
   pub laying : (old : List ℕ) (m : ℕ) → from ≤ m → m ≤ from + size → Laying src old before m → Laying src old out (max m (from + k))
 
 module _ (src : List ℕ) (from size : ℕ) where
-  pub filled_none : (block : List ℕ) → length block ≡ size → Filled src from size block 0
-  filled_none block e = record { within = zero-le; room = e; bytes = λ j h. absurd (not-suc-le-zero h) }
-
-  pub filled_next : {block : List ℕ} {k b : ℕ} → Filled src from size block k → k < size → b ≡ spaced (get_or src (from + k) 0)
-      → Filled src from size (set block k b) (k + 1)
-  filled_next {block} {k} {b} f h e =
-      record {
-        within = omega arith;
-        room = length-set block k b ∙ f.room;
-        bytes = below_more (λ (j : ℕ). get_or (set block k b) j 0 ≡ spaced (get_or src (from + j) 0)) k
-            (λ j g. get_or-set_other block k j b 0 (λ q. omega (arith, q, g)) ∙ f.bytes j g)
-            (get_or-set_same block k b 0 (omega (arith, f.room, h)) ∙ e);
-      }
-
   pub stored_none : {block : List ℕ} (out : List ℕ) → Filled src from size block size → Stored src from size block out out 0
   stored_none out f =
       record {

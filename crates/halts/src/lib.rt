@@ -1,6 +1,7 @@
 // Where a run of an attribute's value ends, and copies of runs. A run ends at a halt: `&`, CR, and under XML 1.1 (`newer`) U+0085 and
 // U+2028; all before it is written byte by byte, TAB and LF as spaces. Every search is proved to find what `HaltAt` says, every copy to
 // lay what `blanks_spaced` says (specs/Halts.antt). All goes by blocks of 16 bytes that run on vectors.
+// Loops over blocks count their place themselves: it is what they answer, and chunks of an iterator would have to be counted back to it.
 #![tactic(auto)]
 
 ghost use Rattle.std.specs.Prelude.{◌≡◌, true, false, ◌+◌, ◌≤◌, ◌<◌, eqb, length, take, drop};
@@ -22,10 +23,8 @@ fn stop_in(text: &[u8], newer: bool) -> bool
     ensures { result ≡ any_stop (stop_byte newer) text.now }
 {
     let mut hit = false;
-    let mut i: usize = 0;
-    while i < text.len() {
-        hit = hit | is_stop(text[i], newer);
-        i += 1;
+    for &b in text {
+        hit |= is_stop(b, newer);
     }
     hit
 }
@@ -43,6 +42,8 @@ pub fn has_stop(text: &[u8], newer: bool) -> bool
 
 // ---- halts of XML 1.0
 
+// Each version has searches of its own: as one function over a constant they were slower, under 1.1 by up to a tenth.
+
 // Is one of the `size` bytes from i on a or b? An accumulator for each: the loop then runs on vectors wherever it is compiled into.
 fn any_two(text: &[u8], i: usize, size: usize, a: u8, b: u8) -> bool
     requires { i + size ≤ length text.now }
@@ -50,10 +51,9 @@ fn any_two(text: &[u8], i: usize, size: usize, a: u8, b: u8) -> bool
 {
     let mut first = false;
     let mut second = false;
-    for k in 0..size {
-        let c = text[i + k];
-        first = first | (c == a);
-        second = second | (c == b);
+    for &c in &text[i..i + size] {
+        first |= c == a;
+        second |= c == b;
     }
     first | second
 }
@@ -86,14 +86,12 @@ fn older_bytes(text: &[u8], from: usize) -> usize
     requires { from ≤ length text.now }
     ensures { HaltAt false text.now from result }
 {
-    let mut i = from;
-    while i < text.len() {
+    for i in from..text.len() {
         if is_older(text[i]) {
             return i;
         }
-        i += 1;
     }
-    i
+    text.len()
 }
 
 // The rest is shorter than a block: the last block is looked at again.
@@ -163,10 +161,10 @@ fn any_newer(text: &[u8], i: usize) -> bool
     for k in 0..16usize {
         let b = text[i + k];
         let c = text[i + k + 1];
-        amp = amp | (b == b'&');
-        cr = cr | (b == b'\r');
-        two = two | ((b == 0xc2) & (c == 0x85));
-        three = three | ((b == 0xe2) & ((c == 0x80) & (text[i + k + 2] == 0xa8)));
+        amp |= b == b'&';
+        cr |= b == b'\r';
+        two |= (b == 0xc2) & (c == 0x85);
+        three |= (b == 0xe2) & ((c == 0x80) & (text[i + k + 2] == 0xa8));
     }
     amp | cr | two | three
 }
@@ -221,14 +219,12 @@ fn newer_bytes(text: &[u8], from: usize) -> usize
     requires { from ≤ length text.now }
     ensures { HaltAt true text.now from result }
 {
-    let mut i = from;
-    while i < text.len() {
+    for i in from..text.len() {
         if is_newer(text, i) {
             return i;
         }
-        i += 1;
     }
-    i
+    text.len()
 }
 
 // The rest is shorter than a block: the last block is looked at again.
@@ -378,43 +374,19 @@ fn spaced_byte(b: u8) -> u8
     b + gain(b, b'\t', 23) + gain(b, b'\n', 22)
 }
 
-// The 16 bytes from `from` on: by way of a local array, which can overlap with neither, so that it takes one load and one store.
-fn put_spaced_16(src: &[u8], from: usize, out: &mut [u8])
-    requires { (from + 16 ≤ length src.now) × (length src.now ≤ length out.old) }
-    ensures { PieceLaid src.now from 16 out.old out.new }
+// The N bytes from `from` on: by way of a local array, which can overlap with neither, so that it takes one load and one store.
+fn put_spaced_piece<const N: usize>(src: &[u8], from: usize, out: &mut [u8])
+    requires { (from + N ≤ length src.now) × (length src.now ≤ length out.old) }
+    ensures { PieceLaid src.now from N out.old out.new }
 {
-    let mut block = [0u8; 16];
-    for k in 0..16usize {
-        block[k] = spaced_byte(src[from + k]);
+    let mut block = [0u8; N];
+    for (k, &b) in src[from..from + N].iter().enumerate() {
+        block[k] = spaced_byte(b);
     }
-    for k in 0..16usize {
-        out[from + k] = block[k];
-    }
-}
 
-fn put_spaced_8(src: &[u8], from: usize, out: &mut [u8])
-    requires { (from + 8 ≤ length src.now) × (length src.now ≤ length out.old) }
-    ensures { PieceLaid src.now from 8 out.old out.new }
-{
-    let mut block = [0u8; 8];
-    for k in 0..8usize {
-        block[k] = spaced_byte(src[from + k]);
-    }
-    for k in 0..8usize {
-        out[from + k] = block[k];
-    }
-}
-
-fn put_spaced_4(src: &[u8], from: usize, out: &mut [u8])
-    requires { (from + 4 ≤ length src.now) × (length src.now ≤ length out.old) }
-    ensures { PieceLaid src.now from 4 out.old out.new }
-{
-    let mut block = [0u8; 4];
-    for k in 0..4usize {
-        block[k] = spaced_byte(src[from + k]);
-    }
-    for k in 0..4usize {
-        out[from + k] = block[k];
+    // Tried as `copy_from_slice`, and slower: 4 or 8 bytes are then joined to a number, in three times the instructions.
+    for (k, &b) in block.iter().enumerate() {
+        out[from + k] = b;
     }
 }
 
@@ -424,7 +396,7 @@ pub fn put_spaced_block(src: &[u8], out: &mut [u8])
     requires in_bounds { 16 ≤ length out.old }
     ensures { out.new ≡ laid (blanks_spaced src.now) out.old }
 {
-    put_spaced_16(src, 0, out);
+    put_spaced_piece::<16>(src, 0, out);
 }
 
 // A run of up to 3 bytes: the count is fixed, so that the loop is unrolled.
@@ -448,7 +420,7 @@ fn put_spaced_blocks(src: &[u8], out: &mut [u8])
     let last = src.len() - 16;
     let mut i: usize = 0;
     loop {
-        put_spaced_16(src, output::least(i, last), out);
+        put_spaced_piece::<16>(src, i.min(last), out);
         if last <= i {
             return;
         }
@@ -456,29 +428,20 @@ fn put_spaced_blocks(src: &[u8], out: &mut [u8])
     }
 }
 
-// Its first and its last eight bytes, which may overlap. In a loop, so that put_spaced_8 has one user and is compiled into it.
-fn put_spaced_eights(src: &[u8], out: &mut [u8])
-    requires { TwoPieces src.now out.old 8 }
+// Its first and its last N bytes, which may overlap. In a loop, so that put_spaced_piece has one user and is compiled into it.
+fn put_spaced_ends<const N: usize>(src: &[u8], out: &mut [u8])
+    requires { TwoPieces src.now out.old N }
     ensures { out.new ≡ laid (blanks_spaced src.now) out.old }
 {
-    let last = src.len() - 8;
+    let last = src.len() - N;
     let mut i: usize = 0;
     loop {
-        put_spaced_8(src, i, out);
+        put_spaced_piece::<N>(src, i, out);
         if last <= i {
             return;
         }
         i = last;
     }
-}
-
-// Its first and its last four bytes.
-fn put_spaced_fours(src: &[u8], out: &mut [u8])
-    requires { TwoPieces src.now out.old 4 }
-    ensures { out.new ≡ laid (blanks_spaced src.now) out.old }
-{
-    put_spaced_4(src, 0, out);
-    put_spaced_4(src, src.len() - 4, out);
 }
 
 // Copies the run to the start of `out`, its blanks as spaces, and keeps the rest. The shortest are the most frequent.
@@ -492,11 +455,11 @@ pub fn put_spaced(src: &[u8], out: &mut [u8])
         return;
     }
     if n < 8 {
-        put_spaced_fours(src, out);
+        put_spaced_ends::<4>(src, out);
         return;
     }
     if n < 16 {
-        put_spaced_eights(src, out);
+        put_spaced_ends::<8>(src, out);
         return;
     }
     put_spaced_blocks(src, out);

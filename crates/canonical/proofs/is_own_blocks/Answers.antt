@@ -1,37 +1,17 @@
--- `is_own_blocks`: no byte before i is changed; the last block starts before i where the run is no multiple of 16. Assumes nothing.
+-- `is_own_blocks`: no byte before i is changed; the last block starts before i where the run is no multiple of N. Assumes nothing.
 use mathlib.Core.Path.{sym}
 use mathlib.Core.Bool.{true≢false}
-use Prim.Native.Nat.{zero-le}
 use native.Mathlib.Omega.{arith}
-use Rattle.output.proofs.Runs.{plain_none}
-use Rattle.canonical.proofs.Own.{block_more, block_last}
+use Rattle.canonical.proofs.Own.{block_in, block_more, block_last}
 use Rattle.canonical.proofs.is_own_blocks.Goals as goal
 
-pub overflow_sub-last : goal.overflow_sub-last
-overflow_sub-last c = c.requires
-
-pub loop-newer-init : goal.loop-newer-init
-loop-newer-init c = plain_none _ _ 0 zero-le
-
-pub least-requires : goal.least-requires
-least-requires c = tt
-
-pub any_changed_16-requires : goal.any_changed_16-requires
-any_changed_16-requires c = omega (arith, c.least.ensures, c.requires)
-
-pub returns-then-any_changed_16 : goal.returns-then-any_changed_16
-returns-then-any_changed_16 c = λ e. absurd (true≢false (sym e))
+pub returns-then-any_changed : goal.returns-then-any_changed
+returns-then-any_changed g c = λ e. absurd (true≢false (sym e))
 
 pub returns-then-last-i : goal.returns-then-last-i
-returns-then-last-i c =
-    λ e. block_last 16 c.loop-newer.invariant c.least.ensures (c.any_changed_16.ensures c.if-any_changed_16.false) c.if-last-i.true
-
-pub overflow_add-i : goal.overflow_add-i
-overflow_add-i c = omega (arith, c.if-last-i.false)
-
-pub loop-newer-smaller : goal.loop-newer-smaller
-loop-newer-smaller c = omega (arith, c.if-last-i.false)
+returns-then-last-i g c =
+    λ e. block_last g.row.N c.loop-newer.invariant c.min-at.ensures (block_in c.min-at.result g.row.N (omega (arith, c.min-at.ensures)) (c.any_changed.ensures c.if-any_changed.false)) c.if-last-i.true
 
 pub loop-newer-preserved : goal.loop-newer-preserved
-loop-newer-preserved c =
-    block_more 16 c.loop-newer.invariant c.least.ensures (c.any_changed_16.ensures c.if-any_changed_16.false) c.if-last-i.false
+loop-newer-preserved g c =
+    block_more g.row.N c.loop-newer.invariant c.min-at.ensures (block_in c.min-at.result g.row.N (omega (arith, c.min-at.ensures)) (c.any_changed.ensures c.if-any_changed.false)) c.if-last-i.false

@@ -5,7 +5,7 @@ use Rattle.canonical.specs.Runs.{changed_by}
 use Rattle.canonical.proofs.is_own_blocks.Given as goal
 
 abbrev pub invariant-loop-newer : goal.invariant-loop-newer
-invariant-loop-newer l = Plain (changed_by l.newer) l.run 0 l.i
+invariant-loop-newer g l = Plain (changed_by l.newer) l.run 0 l.i
 
 abbrev pub decreases-loop-newer : goal.decreases-loop-newer
-decreases-loop-newer l = length l.run - l.i
+decreases-loop-newer g l = length l.run - l.i

@@ -1,7 +1,7 @@
 -- `next_special`: under XML 1.0 there is none (`common_older`); else what is passed stays without one, by blocks and then byte by byte.
-use mathlib.Core.Path.{sym, ◌∙◌}
+use mathlib.Core.Path.{◌≡◌, sym, ◌∙◌}
 use native.Mathlib.Omega.{arith}
-use lib.ListN.{drop}
+use lib.ListN.{length, drop}
 use Rattle.text.specs.Version.{xml11}
 use Rattle.runs.proofs.Specials.{common_join, common_one}
 use Rattle.canonical.proofs.Between.{common_older, common_newer, newer_special}
@@ -10,15 +10,6 @@ use Rattle.canonical.proofs.next_special.Goals as goal
 pub returns-then-not-newer : goal.returns-then-not-newer
 returns-then-not-newer c =
     record { common = common_older c.args.newer _ _ c.if-not-newer.true c.requires; nonzero = λ h. absurd (omega (arith, h)) }
-
-pub skip_common-i-requires : goal.skip_common-i-requires
-skip_common-i-requires c = c.requires
-
-pub loop-i-init : goal.loop-i-init
-loop-i-init c = c.skip_common-i.ensures
-
-pub special_width-requires : goal.special_width-requires
-special_width-requires c = c.loop-i-test.true
 
 pub returns-then-special_width-ne0 : goal.returns-then-special_width-ne0
 returns-then-special_width-ne0 c =
@@ -29,17 +20,11 @@ returns-then-special_width-ne0 c =
           c.if-not-newer.false (omega (arith, c.special_width.ensures, c.if-special_width-ne0.true));
     }
 
-pub overflow_add-i : goal.overflow_add-i
-overflow_add-i c =
-    omega (arith, c.loop-i.invariant.to, c.loop-i-test.true)
-
-pub loop-i-smaller : goal.loop-i-smaller
-loop-i-smaller c = omega (arith, c.loop-i-test.true)
-
 pub loop-i-preserved : goal.loop-i-preserved
 loop-i-preserved c =
     common_join xml11 _ _ c.loop-i.i _ c.loop-i.invariant (common_one xml11 _ _ c.loop-i-test.true (sym c.special_width.ensures ∙ c.if-special_width-ne0.false))
 
 pub returns : goal.returns
 returns c =
-    record { common = common_newer c.args.newer _ _ _ c.if-not-newer.false c.loop-i.invariant; nonzero = λ h. absurd (omega (arith, h, c.loop-i-test.false)) }
+    let all : c.loop-i.i ≡ length c.args.value.now = omega arith in
+    record { common = common_newer c.args.newer _ _ _ c.if-not-newer.false (rw all at c.loop-i.invariant); nonzero = λ h. absurd (omega (arith, h)) }

@@ -29,34 +29,29 @@ no_5 c = sym c.ends_with-5.ensures ∙ c.if-ends_with-5.false
 
 pub returns-then-ends_with : goal.returns-then-ends_with
 unfolding last_numbered filled_up
-returns-then-ends_with c = c.held.ensures ∙ sym (rw (sym c.ends_with.ensures ∙ c.if-ends_with.true))
+returns-then-ends_with c = sym (rw (sym c.ends_with.ensures ∙ c.if-ends_with.true))
 
 pub returns-then-ends_with-2 : goal.returns-then-ends_with-2
 unfolding last_numbered filled_up
 returns-then-ends_with-2 c =
-    c.held-then-ends_with-2.ensures
-    ∙ sym (rw (no_1 (goal.at.returns-then-ends_with-2 c).Else-ends_with, sym c.ends_with-2.ensures ∙ c.if-ends_with-2.true))
+    sym (rw (no_1 (goal.at.returns-then-ends_with-2 c).Else-ends_with, sym c.ends_with-2.ensures ∙ c.if-ends_with-2.true))
 
 pub returns-then-ends_with-3 : goal.returns-then-ends_with-3
 unfolding last_numbered filled_up
 returns-then-ends_with-3 c =
-    c.held-then-ends_with-3.ensures
-    ∙ sym (rw (no_1 (goal.at.returns-then-ends_with-3 c).Else-ends_with, no_2 (goal.at.returns-then-ends_with-3 c).Else-ends_with-2, sym c.ends_with-3.ensures ∙ c.if-ends_with-3.true))
+    sym (rw (no_1 (goal.at.returns-then-ends_with-3 c).Else-ends_with, no_2 (goal.at.returns-then-ends_with-3 c).Else-ends_with-2, sym c.ends_with-3.ensures ∙ c.if-ends_with-3.true))
 
 pub returns-then-ends_with-4 : goal.returns-then-ends_with-4
 unfolding last_numbered filled_up
 returns-then-ends_with-4 c =
-    c.held-then-ends_with-4.ensures
-    ∙ sym (rw (no_1 (goal.at.returns-then-ends_with-4 c).Else-ends_with, no_2 (goal.at.returns-then-ends_with-4 c).Else-ends_with-2, no_3 (goal.at.returns-then-ends_with-4 c).Else-ends_with-3, sym c.ends_with-4.ensures ∙ c.if-ends_with-4.true))
+    sym (rw (no_1 (goal.at.returns-then-ends_with-4 c).Else-ends_with, no_2 (goal.at.returns-then-ends_with-4 c).Else-ends_with-2, no_3 (goal.at.returns-then-ends_with-4 c).Else-ends_with-3, sym c.ends_with-4.ensures ∙ c.if-ends_with-4.true))
 
 pub returns-then-ends_with-5 : goal.returns-then-ends_with-5
 unfolding last_numbered filled_up
 returns-then-ends_with-5 c =
-    c.held-then-ends_with-5.ensures
-    ∙ sym (rw (no_1 (goal.at.returns-then-ends_with-5 c).Else-ends_with, no_2 (goal.at.returns-then-ends_with-5 c).Else-ends_with-2, no_3 (goal.at.returns-then-ends_with-5 c).Else-ends_with-3, no_4 (goal.at.returns-then-ends_with-5 c).Else-ends_with-4, sym c.ends_with-5.ensures ∙ c.if-ends_with-5.true))
+    sym (rw (no_1 (goal.at.returns-then-ends_with-5 c).Else-ends_with, no_2 (goal.at.returns-then-ends_with-5 c).Else-ends_with-2, no_3 (goal.at.returns-then-ends_with-5 c).Else-ends_with-3, no_4 (goal.at.returns-then-ends_with-5 c).Else-ends_with-4, sym c.ends_with-5.ensures ∙ c.if-ends_with-5.true))
 
 pub returns : goal.returns
 unfolding last_numbered filled_up
 returns c =
-    c.held-2.ensures
-    ∙ sym (rw (no_1 (goal.at.returns c).Else-ends_with, no_2 (goal.at.returns c).Else-ends_with-2, no_3 (goal.at.returns c).Else-ends_with-3, no_4 (goal.at.returns c).Else-ends_with-4, no_5 (goal.at.returns c).Else-ends_with-5))
+    sym (rw (no_1 (goal.at.returns c).Else-ends_with, no_2 (goal.at.returns c).Else-ends_with-2, no_3 (goal.at.returns c).Else-ends_with-3, no_4 (goal.at.returns c).Else-ends_with-4, no_5 (goal.at.returns c).Else-ends_with-5))

@@ -1,29 +1,36 @@
 -- `added_part` meets its contract: after k turns the sum is that of k bytes, each at most 5. Assumes nothing.
-use Rattle.escape.proofs.Levels.{added_most, count_next}
-use mathlib.Core.Path.{◌≡◌}
+use Rattle.escape.proofs.Levels.{added_most, count_next, part_byte}
+use mathlib.Core.Path.{◌≡◌, ap, ◌∙◌}
 use Prim.Native.Nat.{◌+◌}
 use native.Mathlib.Omega.{arith}
 use lib.ListN.{get_or}
 use Rattle.escape.specs.Escape.{write}
+use Rattle.escape.specs.Scan.{added_by}
 use borrow.Author.Rules.{rules}
 use Rattle.escape.proofs.added_part.Goals as goal
 
-pub loop-k-init : goal.loop-k-init
+pub loop-b-init : goal.loop-b-init
 unfolding write
-loop-k-init c = search rules
+loop-b-init c = search rules
 
 pub overflow_add-n : goal.overflow_add-n
 overflow_add-n c =
-    let given = c.args in
-    omega (arith, c.added-n.ensures, added_most given.chars (get_or given.text.now (given.i + c.loop-k.k) 0))
+    let a = c.args in
+    let k = c.loop-b.b-index in
+    let byte = part_byte a.text.now a.i a.count k c.loop-b-test.true in
+    let e = c.added-n.ensures ∙ ap (added_by a.chars) byte in
+    omega (arith, e, added_most a.chars (get_or a.text.now (a.i + k) 0))
 
-pub loop-k-preserved : goal.loop-k-preserved
-loop-k-preserved c =
-    let a = c.args in (
+pub loop-b-preserved : goal.loop-b-preserved
+loop-b-preserved c =
+    let a = c.args in
+    let k = c.loop-b.b-index in
+    let byte = part_byte a.text.now a.i a.count k c.loop-b-test.true in
+    let e = c.added-n.ensures ∙ ap (added_by a.chars) byte in (
       omega arith,
-      count_next a.chars a.text.now a.i c.loop-k.k c.loop-k.n c.added-n.result (omega arith) c.loop-k.invariant.1 c.added-n.ensures,
-      omega (arith, c.added-n.ensures, added_most a.chars (get_or a.text.now (a.i + c.loop-k.k) 0)),
+      count_next a.chars a.text.now a.i k c.loop-b.n c.added-n.result (omega arith) c.loop-b.invariant.1 e,
+      omega (arith, e, added_most a.chars (get_or a.text.now (a.i + k) 0)),
     )
 
 pub returns : goal.returns
-returns c = let q : c.loop-k.k ≡ c.args.count = omega arith in rw q at c.loop-k.invariant.1
+returns c = let q : c.loop-b.b-index ≡ c.args.count = omega arith in rw q at c.loop-b.invariant.1

@@ -1,13 +1,7 @@
--- `any_escaped` tests 16 bytes with no branch (`Missed`): where nothing hit, none of them is escaped. Assumes nothing.
-use Rattle.text.proofs.Missed.{missed_start, missed_more, missed_all}
+-- `any_escaped` tests 16 bytes with no branch: where nothing hit, none of them is escaped. Assumes nothing.
+use Rattle.std.proofs.Common.{arith}
 use Rattle.output.proofs.Runs.{plain_of}
 use Rattle.escape.proofs.any_escaped.Goals as goal
 
-pub loop-k-init : goal.loop-k-init
-loop-k-init c = missed_start _ 16
-
-pub loop-k-preserved : goal.loop-k-preserved
-loop-k-preserved c = missed_more _ c.loop-k.invariant c.loop-k-test.true c.escapes-hit.ensures
-
 pub returns : goal.returns
-returns c = λ e. plain_of _ _ _ 16 c.requires (missed_all _ c.loop-k.invariant c.loop-k-test.false e)
+returns c = λ e. plain_of _ _ _ 16 c.requires (λ m h. c.loop-b.invariant e m (omega arith))

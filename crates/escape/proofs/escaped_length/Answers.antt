@@ -1,5 +1,7 @@
 -- `escaped_length` meets its contract: what is added and the bytes passed are the length written for them. Assumes nothing.
 use Rattle.escape.proofs.Levels.{chars_sized}
+use mathlib.Core.Path.{ap, ◌∙◌}
+use Prim.Native.Nat.{ℕ, ◌+◌}
 use native.Mathlib.Omega.{arith}
 use Rattle.escape.specs.Escape.{write}
 use Rattle.escape.specs.Scan.{chars_set}
@@ -14,7 +16,7 @@ loop-i-init c = search rules
 pub loop-i-preserved : goal.loop-i-preserved
 loop-i-preserved c =
     let given = c.args in
-    (search rules, count_part (chars_set given.chars) given.text.now c.loop-i.i c.loop-i.n 32 c.added_part.result c.loop-i.invariant.1 c.added_part.ensures, omega arith)
+    (search rules, count_part (chars_set given.chars) given.text.now c.loop-i.i c.loop-i.n 32 c.from-n.result c.loop-i.invariant.1 (ap (λ (m : ℕ). m + 32) c.from-n.ensures ∙ c.added_part.ensures), omega arith)
 
 pub overflow_add-result : goal.overflow_add-result
 overflow_add-result c =

@@ -23,9 +23,6 @@ tested c =
 pub loop-i-init : goal.loop-i-init
 loop-i-init c = (copied_none _ _ _, c.requires.room)
 
-pub bounds-text-i : goal.bounds-text-i
-bounds-text-i c = c.loop-i-test.true
-
 pub shape_of-out-then-is_escaped : goal.shape_of-out-then-is_escaped
 shape_of-out-then-is_escaped c = let kept = c.loop-i.invariant in copied_length _ _ _ kept.0 kept.1
 
@@ -48,4 +45,5 @@ shape_of-out c = copied_length _ _ _ c.loop-i.invariant.0 c.loop-i.invariant.1
 pub returns : goal.returns
 returns c =
     let given = c.args in
-    record { copied = c.loop-i.invariant.0; ends = λ h. absurd (omega (arith, h, c.loop-i-test.false, shown_length given.spaces given.text.now)) }
+    let all : c.loop-i.i ≡ length given.text.now = omega arith in
+    record { copied = rw all at c.loop-i.invariant.0; ends = λ h. absurd (omega (arith, h, shown_length given.spaces given.text.now)) }

@@ -9,15 +9,6 @@ use mathlib.Core.Path.{sym, ◌∙◌}
 use Rattle.halts.proofs.Smooth.{two_smooth, smooth_join, smooth_last}
 use Rattle.halts.proofs.clear_short.Goals as goal
 
-pub any_two-requires : goal.any_two-requires
-any_two-requires c = omega (arith, c.requires.0)
-
-pub overflow_sub-text : goal.overflow_sub-text
-overflow_sub-text c = omega (arith, c.requires.0)
-
-pub any_two-requires-2 : goal.any_two-requires-2
-any_two-requires-2 c = omega (arith, c.requires.0)
-
 pub returns : goal.returns
 returns c =
     λ e.

@@ -9,27 +9,9 @@ use Rattle.halts.proofs.clear_wide.Goals as goal
 pub loop-i-init : goal.loop-i-init
 loop-i-init c = smooth_none false c.args.text.now 0 zero-le
 
-pub overflow_sub-text : goal.overflow_sub-text
-overflow_sub-text c = c.loop-i.invariant.to
-
-pub any_two-requires : goal.any_two-requires
-any_two-requires c = omega (arith, c.loop-i.invariant.to, c.loop-i-test.true)
-
-pub returns-then-any_two : goal.returns-then-any_two
-returns-then-any_two c = c.loop-i.invariant
-
-pub overflow_add-i : goal.overflow_add-i
-overflow_add-i c = omega (arith, c.loop-i.invariant.to, c.loop-i-test.true)
-
-pub loop-i-smaller : goal.loop-i-smaller
-loop-i-smaller c = omega (arith, c.loop-i.invariant.to, c.loop-i-test.true)
-
 pub loop-i-preserved : goal.loop-i-preserved
 loop-i-preserved c =
     let t = c.args.text.now in
     let i = c.loop-i.i in
     smooth_join false t i c.loop-i.invariant
     (two_smooth t i 32 (omega (arith, c.loop-i.invariant.to, c.loop-i-test.true)) (sym c.any_two.ensures ∙ c.if-any_two.false))
-
-pub returns : goal.returns
-returns c = c.loop-i.invariant

@@ -1,5 +1,4 @@
 -- `first_halt`: what was passed before the search is smooth. Assumes nothing.
-use Prim.Native.Nat.{zero-le}
 use native.Mathlib.Omega.{arith}
 use lib.Dec.{leb, ltb}
 use lib.ListN.{length}
@@ -7,9 +6,6 @@ use borrow.Author.Tests.{leb-true, ltb-true}
 use Rattle.text.proofs.Bytes.{and_left, and_right}
 use Rattle.halts.proofs.Smooth.{halt_over, halt_join}
 use Rattle.halts.proofs.first_halt.Goals as goal
-
-pub newer_halt-requires : goal.newer_halt-requires
-newer_halt-requires c = zero-le
 
 pub returns-then-newer : goal.returns-then-newer
 returns-then-newer c = rw c.if-newer.true c.newer_halt.ensures
@@ -21,12 +17,6 @@ clear_short-requires c =
 
 pub returns-then-clear_short : goal.returns-then-clear_short
 returns-then-clear_short c = rw c.if-newer.false (halt_over (c.clear_short.ensures c.if-clear_short.true))
-
-pub clear_wide-requires : goal.clear_wide-requires
-clear_wide-requires c = tt
-
-pub older_halt-requires : goal.older_halt-requires
-older_halt-requires c = c.clear_wide.ensures.to
 
 pub returns : goal.returns
 returns c = rw c.if-newer.false (halt_join c.clear_wide.result c.clear_wide.ensures c.older_halt.ensures)

@@ -13,15 +13,6 @@ use Rattle.halts.proofs.near_newer.Goals.{then-b+else-b-2+else-b-gt127, else-b}
 pub loop-k-init : goal.loop-k-init
 loop-k-init c = in_block_none (suspect_byte true) c.args.text.now c.args.from c.requires
 
-pub overflow_add-b : goal.overflow_add-b
-overflow_add-b c = omega (arith, c.requires, c.loop-k-test.true)
-
-pub bounds-text-from : goal.bounds-text-from
-bounds-text-from c = omega (arith, c.requires, c.loop-k-test.true)
-
-pub overflow_add-result : goal.overflow_add-result
-overflow_add-result c = omega (arith, c.requires, c.loop-k-test.true)
-
 pub returns-then-b-2 : goal.returns-then-b-2
 returns-then-b-2 c =
     let given = c.args in
@@ -30,21 +21,9 @@ returns-then-b-2 c =
       ends = λ h. sym (newer_amp_cr given.text.now (given.from + c.loop-k.k) h c.if-b-2.true);
     }
 
-pub overflow_add-from : goal.overflow_add-from
-overflow_add-from c = omega (arith, c.requires, c.loop-k-test.true)
-
-pub newer_halt-requires : goal.newer_halt-requires
-newer_halt-requires c = omega (arith, c.requires, c.loop-k-test.true)
-
 pub returns-then-b-gt127 : goal.returns-then-b-gt127
 returns-then-b-gt127 c =
     halt_join (c.args.from + c.loop-k.k) (suspects_smooth true c.loop-k.invariant.run) c.newer_halt.ensures
-
-pub overflow_step-k : goal.overflow_step-k
-overflow_step-k c = omega (arith, c.loop-k-test.true)
-
-pub loop-k-smaller : goal.loop-k-smaller
-loop-k-smaller c = omega (arith, c.loop-k-test.true)
 
 pub loop-k-preserved : goal.loop-k-preserved
 loop-k-preserved c =
@@ -55,12 +34,6 @@ loop-k-preserved c =
       | then-b+else-b-2+else-b-gt127 w ↦ ascii_unsuspected b w.if-b-2.false w.if-b-gt127.false
       | else-b w ↦ middle_unsuspected b w.if-b.false
     ])
-
-pub overflow_add-from-2 : goal.overflow_add-from-2
-overflow_add-from-2 c = omega (arith, c.requires)
-
-pub newer_halt-requires-2 : goal.newer_halt-requires-2
-newer_halt-requires-2 c = c.requires
 
 pub returns : goal.returns
 returns c =

@@ -6,12 +6,6 @@ use mathlib.Core.Path.{sym, ◌∙◌}
 use Rattle.halts.proofs.Smooth.{four_smooth, smooth_last, halt_over}
 use Rattle.halts.proofs.newer_rest.Goals as goal
 
-pub any_two-requires : goal.any_two-requires
-any_two-requires c = omega (arith, c.if-n-ge16.true)
-
-pub any_two-requires-then-not-any_two : goal.any_two-requires-then-not-any_two
-any_two-requires-then-not-any_two c = omega (arith, c.if-n-ge16.true)
-
 pub returns-then-not-any_two-2 : goal.returns-then-not-any_two-2
 returns-then-not-any_two-2 c =
     let t = c.args.text.now in
@@ -20,9 +14,3 @@ returns-then-not-any_two-2 c =
     (four_smooth t (length t - 16) 16 (omega (arith, c.if-n-ge16.true))
     (sym c.any_two.ensures ∙ c.if-not-any_two.true)
     (sym c.any_two-then-not-any_two.ensures ∙ c.if-not-any_two-2.true)))
-
-pub newer_bytes-requires : goal.newer_bytes-requires
-newer_bytes-requires c = c.requires.0
-
-pub returns : goal.returns
-returns c = c.newer_bytes.ensures

@@ -1,5 +1,3 @@
-use Prim.Native.Nat.{◌-◌}
-use lib.ListN.{length}
 use Rattle.output.specs.Runs.{Plain}
 use Rattle.halts.specs.Halts.{suspect_byte}
 use mathlib.Core.Bool.{false}
@@ -7,6 +5,3 @@ use Rattle.halts.proofs.older_bytes.Given as goal
 
 abbrev pub invariant-loop-i : goal.invariant-loop-i
 invariant-loop-i l = Plain (suspect_byte false) l.text l.from l.i
-
-abbrev pub decreases-loop-i : goal.decreases-loop-i
-decreases-loop-i l = length l.text - l.i

@@ -8,12 +8,6 @@ use Rattle.halts.proofs.older_halt.Goals as goal
 pub loop-i-init : goal.loop-i-init
 loop-i-init c = smooth_none false c.args.text.now c.args.from c.requires
 
-pub overflow_sub-text : goal.overflow_sub-text
-overflow_sub-text c = c.loop-i.invariant.to
-
-pub any_two-requires : goal.any_two-requires
-any_two-requires c = omega (arith, c.loop-i.invariant.to, c.loop-i-test.true)
-
 pub older_in_block-requires : goal.older_in_block-requires
 older_in_block-requires c =
     record { i_in_bounds = omega (arith, c.loop-i.invariant.to, c.loop-i-test.true); text_value = sym c.any_two.ensures ∙ c.if-any_two.true }
@@ -22,21 +16,12 @@ pub returns-then-any_two : goal.returns-then-any_two
 returns-then-any_two c =
     halt_join c.loop-i.i c.loop-i.invariant c.older_in_block.ensures
 
-pub overflow_add-i : goal.overflow_add-i
-overflow_add-i c = omega (arith, c.loop-i.invariant.to, c.loop-i-test.true)
-
-pub loop-i-smaller : goal.loop-i-smaller
-loop-i-smaller c = omega (arith, c.loop-i.invariant.to, c.loop-i-test.true)
-
 pub loop-i-preserved : goal.loop-i-preserved
 loop-i-preserved c =
     let t = c.args.text.now in
     let i = c.loop-i.i in
     smooth_join false t i c.loop-i.invariant
     (two_smooth t i 16 (omega (arith, c.loop-i.invariant.to, c.loop-i-test.true)) (sym c.any_two.ensures ∙ c.if-any_two.false))
-
-pub older_rest-requires : goal.older_rest-requires
-older_rest-requires c = (c.loop-i.invariant.to, omega (arith, c.loop-i.invariant.to, c.loop-i-test.false))
 
 pub returns : goal.returns
 returns c =

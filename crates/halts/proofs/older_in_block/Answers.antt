@@ -10,35 +10,14 @@ use Rattle.halts.proofs.older_in_block.Goals as goal
 pub loop-k-init : goal.loop-k-init
 loop-k-init c = in_block_none (suspect_byte false) c.args.text.now c.args.i c.requires.i_in_bounds
 
-pub overflow_add-i : goal.overflow_add-i
-overflow_add-i c = omega (arith, c.requires.i_in_bounds, c.loop-k-test.true)
-
-pub bounds-text-i : goal.bounds-text-i
-bounds-text-i c = omega (arith, c.requires.i_in_bounds, c.loop-k-test.true)
-
-pub is_older-requires : goal.is_older-requires
-is_older-requires c = tt
-
-pub overflow_add-result : goal.overflow_add-result
-overflow_add-result c = omega (arith, c.requires.i_in_bounds, c.loop-k-test.true)
-
 pub returns-then-is_older : goal.returns-then-is_older
 returns-then-is_older c = older_at c.loop-k.invariant.run (λ h. sym c.is_older.ensures ∙ c.if-is_older.true)
-
-pub overflow_step-k : goal.overflow_step-k
-overflow_step-k c = omega (arith, c.loop-k-test.true)
-
-pub loop-k-smaller : goal.loop-k-smaller
-loop-k-smaller c = omega (arith, c.loop-k-test.true)
 
 pub loop-k-preserved : goal.loop-k-preserved
 loop-k-preserved c =
     let given = c.args in
     in_block_next (suspect_byte false) given.text.now given.i c.requires.i_in_bounds
     c.loop-k-test.true c.loop-k.invariant (sym c.is_older.ensures ∙ c.if-is_older.false)
-
-pub overflow_add-result-2 : goal.overflow_add-result-2
-overflow_add-result-2 c = omega (arith, c.requires.i_in_bounds)
 
 pub returns : goal.returns
 returns c =

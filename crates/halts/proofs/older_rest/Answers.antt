@@ -6,18 +6,9 @@ use mathlib.Core.Path.{sym, ◌∙◌}
 use Rattle.halts.proofs.Smooth.{two_smooth, smooth_last, halt_over}
 use Rattle.halts.proofs.older_rest.Goals as goal
 
-pub any_two-requires : goal.any_two-requires
-any_two-requires c = omega (arith, c.if-n-ge16.true)
-
 pub returns-then-not-any_two : goal.returns-then-not-any_two
 returns-then-not-any_two c =
     let t = c.args.text.now in
     halt_over
     (smooth_last 16 c.if-n-ge16.true c.requires.0 (omega (arith, c.requires.1))
     (two_smooth t (length t - 16) 16 (omega (arith, c.if-n-ge16.true)) (sym c.any_two.ensures ∙ c.if-not-any_two.true)))
-
-pub older_bytes-requires : goal.older_bytes-requires
-older_bytes-requires c = c.requires.0
-
-pub returns : goal.returns
-returns c = c.older_bytes.ensures

@@ -3,20 +3,16 @@ use native.Mathlib.Omega.{arith}
 use Rattle.halts.specs.Halts.{Laying}
 use Rattle.halts.proofs.Spaces.{laying_none, laying_all}
 use Rattle.halts.proofs.put_spaced_block.Goals as goal
-use Rattle.halts.proofs.put_spaced_block.Goals.{After-put_spaced_16}
+use Rattle.halts.proofs.put_spaced_block.Goals.{After-put_spaced_piece}
 
-laid_block : (c : After-put_spaced_16) → Laying c.args.src.now c.args.out.now c.put_spaced_16.new.out 16
+laid_block : (c : After-put_spaced_piece) → Laying c.args.src.now c.args.out.now c.put_spaced_piece.new.out 16
 laid_block c =
     let given = c.args in
-    c.put_spaced_16.ensures given.out.now 0 (omega arith) (omega arith) (laying_none given.src.now given.out.now)
-
-pub put_spaced_16-requires : goal.put_spaced_16-requires
-put_spaced_16-requires c =
-    (omega (arith, c.requires.src_len), omega (arith, c.requires.src_len, c.requires.in_bounds))
+    c.put_spaced_piece.ensures given.out.now 0 (omega arith) (omega arith) (laying_none given.src.now given.out.now)
 
 pub shape_of-out : goal.shape_of-out
-shape_of-out c = (laid_block (goal.at.shape_of-out c).After-put_spaced_16).size
+shape_of-out c = (laid_block (goal.at.shape_of-out c).After-put_spaced_piece).size
 
 pub returns : goal.returns
 returns c =
-    laying_all c.args.src.now c.args.out.now (laid_block (goal.at.returns c).After-put_spaced_16) (omega (arith, c.requires.src_len))
+    laying_all c.args.src.now c.args.out.now (laid_block (goal.at.returns c).After-put_spaced_piece) (omega (arith, c.requires.src_len))

@@ -3,48 +3,32 @@ use mathlib.Core.Path.{◌≡◌}
 use native.Mathlib.Omega.{arith}
 use Rattle.halts.proofs.Spaces.{Reaching, laying_none, piece_more, piece_last}
 use Rattle.halts.proofs.put_spaced_blocks.Goals as goal
-use Rattle.halts.proofs.put_spaced_blocks.Goals.{After-put_spaced_16}
+use Rattle.halts.proofs.put_spaced_blocks.Goals.{After-put_spaced_piece}
 
 -- the block starts at i, or before it where it is the last one, so that what is laid reaches it
-reached : (c : After-put_spaced_16) → Reaching c.args.src.now c.args.out.now c.loop-i.out 16 c.least.result
+reached : (c : After-put_spaced_piece) → Reaching c.args.src.now c.args.out.now c.loop-i.out 16 c.min.result
 reached c =
     record {
       upto = c.loop-i.i;
-      reaches = omega (arith, c.least.ensures);
-      ends = omega (arith, c.least.ensures, c.loop-i.invariant.0);
+      reaches = omega (arith, c.min.ensures);
+      ends = omega (arith, c.min.ensures, c.loop-i.invariant.0);
       laying = c.loop-i.invariant.1;
     }
-
-pub overflow_sub-last : goal.overflow_sub-last
-overflow_sub-last c = c.requires.0
 
 pub loop-i-init : goal.loop-i-init
 loop-i-init c =
     let given = c.args in
     (omega arith, laying_none given.src.now given.out.now)
 
-pub least-requires : goal.least-requires
-least-requires c = tt
-
-pub put_spaced_16-requires : goal.put_spaced_16-requires
-put_spaced_16-requires c =
-    (omega (arith, c.least.ensures, c.requires.0), omega (arith, c.loop-i.invariant.1.size, c.requires.1))
-
 pub shape_of-out-then-last-i : goal.shape_of-out-then-last-i
-shape_of-out-then-last-i c = (piece_more (reached (goal.at.shape_of-out-then-last-i c).After-put_spaced_16) c.put_spaced_16.ensures).size
+shape_of-out-then-last-i c = (piece_more (reached (goal.at.shape_of-out-then-last-i c).After-put_spaced_piece) c.put_spaced_piece.ensures).size
 
 pub returns-then-last-i : goal.returns-then-last-i
 returns-then-last-i c =
-    piece_last (reached (goal.at.returns-then-last-i c).After-put_spaced_16) c.put_spaced_16.ensures
-    (omega (arith, c.least.ensures, c.if-last-i.true))
-
-pub overflow_add-i : goal.overflow_add-i
-overflow_add-i c = omega (arith, c.if-last-i.false)
-
-pub loop-i-smaller : goal.loop-i-smaller
-loop-i-smaller c = omega (arith, c.if-last-i.false)
+    piece_last (reached (goal.at.returns-then-last-i c).After-put_spaced_piece) c.put_spaced_piece.ensures
+    (omega (arith, c.min.ensures, c.if-last-i.true))
 
 pub loop-i-preserved : goal.loop-i-preserved
 loop-i-preserved c =
-    let here : c.least.result ≡ c.loop-i.i = omega (arith, c.least.ensures, c.if-last-i.false) in
-    (omega (arith, c.if-last-i.false), rw here at (piece_more (reached (goal.at.loop-i-preserved c).After-put_spaced_16) c.put_spaced_16.ensures))
+    let here : c.min.result ≡ c.loop-i.i = omega (arith, c.min.ensures, c.if-last-i.false) in
+    (omega (arith, c.if-last-i.false), rw here at (piece_more (reached (goal.at.loop-i-preserved c).After-put_spaced_piece) c.put_spaced_piece.ensures))

@@ -10,20 +10,6 @@ loop-k-init c =
     let given = c.args in
     (zero-le, laying_none given.src.now given.out.now)
 
-pub spaced_byte-requires : goal.spaced_byte-requires
-spaced_byte-requires c = tt
-
-pub bounds-out-k : goal.bounds-out-k
-bounds-out-k c =
-    omega
-    (arith, c.loop-k.invariant.1.size, c.if-k-n.true, c.requires.1)
-
-pub overflow_step-k : goal.overflow_step-k
-overflow_step-k c = omega (arith, c.loop-k-test.true)
-
-pub loop-k-smaller : goal.loop-k-smaller
-loop-k-smaller c = omega (arith, c.loop-k-test.true)
-
 pub loop-k-preserved : goal.loop-k-preserved
 loop-k-preserved c =
     let given = c.args in
@@ -35,9 +21,6 @@ loop-k-preserved c =
         | else-k-n w ↦ rw w.out-is (laying_past src old c.loop-k.invariant.1 w.if-k-n.false)
       ],
     )
-
-pub shape_of-out : goal.shape_of-out
-shape_of-out c = c.loop-k.invariant.1.size
 
 pub returns : goal.returns
 returns c =

@@ -9,35 +9,14 @@ use Rattle.halts.proofs.suspect_in_block.Goals as goal
 pub loop-k-init : goal.loop-k-init
 loop-k-init c = in_block_none (suspect_byte true) c.args.text.now c.args.i c.requires
 
-pub overflow_add-i : goal.overflow_add-i
-overflow_add-i c = omega (arith, c.requires, c.loop-k-test.true)
-
-pub bounds-text-i : goal.bounds-text-i
-bounds-text-i c = omega (arith, c.requires, c.loop-k-test.true)
-
-pub is_suspect-requires : goal.is_suspect-requires
-is_suspect-requires c = tt
-
-pub overflow_add-result : goal.overflow_add-result
-overflow_add-result c = omega (arith, c.requires, c.loop-k-test.true)
-
 pub returns-then-is_suspect : goal.returns-then-is_suspect
 returns-then-is_suspect c = suspects_smooth true c.loop-k.invariant.run
-
-pub overflow_step-k : goal.overflow_step-k
-overflow_step-k c = omega (arith, c.loop-k-test.true)
-
-pub loop-k-smaller : goal.loop-k-smaller
-loop-k-smaller c = omega (arith, c.loop-k-test.true)
 
 pub loop-k-preserved : goal.loop-k-preserved
 loop-k-preserved c =
     let given = c.args in
     in_block_next (suspect_byte true) given.text.now given.i c.requires
     c.loop-k-test.true c.loop-k.invariant (sym c.is_suspect.ensures ∙ c.if-is_suspect.false)
-
-pub overflow_add-result-2 : goal.overflow_add-result-2
-overflow_add-result-2 c = omega (arith, c.requires)
 
 pub returns : goal.returns
 returns c =
