@@ -1,7 +1,7 @@
 -- K5's second stage and its tokens on short texts, computed. T is TAB, L is LF. Assumes nothing.
 use mathlib.Core.Path.{◌≡◌, refl}
 use mathlib.Core.List.{[], ◌∷◌}
-use Rattle.utils.specs.declared.Piece.TheVariants.{Part, NoMore, Outside}
+use Rattle.utils.specs.CData.{part, no_more, outside_at}
 use Rattle.collapse.specs.Collapse.{collapse, tokens}
 use Rattle.collapse.specs.NextToken.{found, next_token}
 
@@ -16,12 +16,12 @@ stage = (refl, refl, refl, refl)
 
 -- `ab c` from 0, from inside a token, from after it, and from the end; a cut character; past the end
 token :
-    (next_token (97 ∷ 98 ∷ 32 ∷ 99 ∷ []) 0 ≡ found (Part 0 2) 2)
-    × (next_token (97 ∷ 98 ∷ 32 ∷ 99 ∷ []) 1 ≡ found (Part 1 1) 2)
-    × (next_token (97 ∷ 98 ∷ 32 ∷ 99 ∷ []) 2 ≡ found (Part 3 1) 4)
-    × (next_token (97 ∷ 98 ∷ 32 ∷ 99 ∷ []) 4 ≡ found NoMore 4)
-    × (next_token (97 ∷ 32 ∷ 32 ∷ []) 1 ≡ found NoMore 1)
-    × (next_token (0xC2 ∷ 0xBD ∷ []) 1 ≡ found (Outside 1) 1)
-    × (next_token [] 1 ≡ found (Outside 1) 1)
+    (next_token (97 ∷ 98 ∷ 32 ∷ 99 ∷ []) 0 ≡ found (part 0 2) 2)
+    × (next_token (97 ∷ 98 ∷ 32 ∷ 99 ∷ []) 1 ≡ found (part 1 1) 2)
+    × (next_token (97 ∷ 98 ∷ 32 ∷ 99 ∷ []) 2 ≡ found (part 3 1) 4)
+    × (next_token (97 ∷ 98 ∷ 32 ∷ 99 ∷ []) 4 ≡ found no_more 4)
+    × (next_token (97 ∷ 32 ∷ 32 ∷ []) 1 ≡ found no_more 1)
+    × (next_token (0xC2 ∷ 0xBD ∷ []) 1 ≡ found (outside_at 1) 1)
+    × (next_token [] 1 ≡ found (outside_at 1) 1)
 unfolding next_token
 token = (refl, refl, refl, refl, refl, refl, refl)

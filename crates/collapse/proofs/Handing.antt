@@ -11,7 +11,7 @@ use lib.Dec.{ltb}
 use borrow.Author.Tests.{eqb-true, le-ltb, ltb-true, ltb-false}
 use Rattle.text.proofs.Bytes.{or_left, or_right}
 use Rattle.utils.specs.CData.{outside}
-use Rattle.utils.specs.declared.Piece.TheVariants.{Part, NoMore}
+use Rattle.utils.specs.CData.{part, no_more}
 use Rattle.utils.proofs.Cuts.{at_end}
 use Rattle.utils.proofs.Rest.{byte_first}
 use Rattle.collapse.specs.Collapse.{is_space, spaces, is_empty, ends, spaced}
@@ -65,7 +65,7 @@ inside_after t o h e = go (ltb o (length t)) refl
 
 -- the token `w` after the spaces `lead`, and what is left after it
 pub record Handed (t : List ℕ) (o : ℕ) (start : ℕ) (w x : List ℕ) : Type 0 where
-  pub is : token_from t o ≡ found (Part start (length w)) (start + length w)
+  pub is : token_from t o ≡ found (part start (length w)) (start + length w)
   pub rest : drop (start + length w) t ≡ x
 
 pub hands_token : (t : List ℕ) (o : ℕ) (lead w x : List ℕ) → drop o t ≡ lead ++ (w ++ x) → spaces (drop o t) ≡ length lead → Clean w → ends x ≡ true
@@ -81,7 +81,7 @@ hands_token t o lead w x e n c h =
       rest = sym (drop-drop (length w) start t) ∙ ap (drop (length w)) from ∙ drop-append_seam w x;
     }
 
-pub hands_none : (t : List ℕ) (o : ℕ) → drop o t ≡ [] → token_from t o ≡ found NoMore o
+pub hands_none : (t : List ℕ) (o : ℕ) → drop o t ≡ [] → token_from t o ≡ found no_more o
 unfolding token_from token_at token_size spaces
 hands_none t o e =
     let z : o + 0 ≡ o = omega arith in

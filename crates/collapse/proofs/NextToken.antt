@@ -12,10 +12,10 @@ use Rattle.text.specs.Bytes.{pick}
 use Rattle.text.proofs.Bytes.{contrary}
 use Rattle.runs.specs.RunEnds.{RunEnd}
 use Rattle.text.specs.Call.{text_check}
-use Rattle.text.specs.declared.Answer.{Answer}
-use Rattle.text.specs.declared.Answer.TheVariants.{Done, Refused}
+use Rattle.text.specs.Answers.{Answer}
+use Rattle.text.specs.Answers.{Done, Refused}
 use Rattle.utils.specs.CData.{outside, piece_answer}
-use Rattle.utils.specs.declared.Piece.TheVariants.{Part, NoMore, Outside}
+use Rattle.utils.specs.CData.{part, no_more, outside_at}
 use Rattle.collapse.specs.Collapse.{is_space, spaces}
 use Rattle.collapse.specs.NextToken.{token_size, found, token_at, token_from, next_token}
 use Rattle.collapse.specs.Checked.{moved, after_check, token_answer}
@@ -43,7 +43,7 @@ stop_after (b ∷ bs) h = go (is_space b) refl (λ k. stop_after bs k)
     go false e ih = e
 
 module _ (t : List ℕ) (o : ℕ) where
-  pub token_outside : outside t o ≡ true → found (Outside o) o ≡ next_token t o
+  pub token_outside : outside t o ≡ true → found (outside_at o) o ≡ next_token t o
   unfolding next_token
   token_outside e = rw e
 
@@ -52,12 +52,12 @@ module _ (t : List ℕ) (o : ℕ) where
     unfolding next_token token_from
     is_from {size} q = rw (inside, sym begun, q)
 
-    pub token_none : start ≡ length t → found NoMore o ≡ next_token t o
+    pub token_none : start ≡ length t → found no_more o ≡ next_token t o
     unfolding token_at token_size
     token_none e = is_from (ap token_size (drop_of_length-le t {i = start} (omega (arith, e))))
 
     -- the spaces before it were skipped, so that it has a byte at least
-    pub token_some : {end : ℕ} → start < length t → RunEnd is_space t start end → found (Part start (end - start)) end ≡ next_token t o
+    pub token_some : {end : ℕ} → start < length t → RunEnd is_space t start end → found (part start (end - start)) end ≡ next_token t o
     unfolding token_at
     token_some {end} h r =
         let p = r.run in
@@ -73,7 +73,7 @@ module _ (t : List ℕ) (o : ℕ) where
         ap is_space (get_or-drop start t (end - start) 0 ∙ ap (λ (j : ℕ). get_or t j 0) q) ∙ r.ends (omega (arith, k, length-drop start t, some))) in
         let q : end - start ≡ suc n = omega (arith, some) in
         let z : end ≡ start + suc n = omega (arith, some) in
-        ap (λ (m : ℕ). found (Part start m) end) q ∙ ap (λ (m : ℕ). found (Part start (suc n)) m) z ∙ is_from (size ∙ q)
+        ap (λ (m : ℕ). found (part start m) end) q ∙ ap (λ (m : ℕ). found (part start (suc n)) m) z ∙ is_from (size ∙ q)
       where
         go : is_space (get_or t start 0) ≡ false → (b : Bool) → ltb start end ≡ b → start < end
         go first true e = ltb-true start end e

@@ -7,8 +7,6 @@ use mathlib.Core.Bool.{Bool, true, false, ◌&&◌, true≢false}
 use mathlib.Core.List.{List, [], ◌∷◌, ◌++◌, append_assoc, append-nil}
 use lib.ListN.{length, take, drop, length-append, length-drop}
 use lib.Seq.{length-take-le, drop-drop}
-use lib.Dec.{ltb}
-use borrow.Author.Tests.{ltb-true, ltb-false}
 use borrow.Rule.Slice.PartMut.{mid_of, put_mid}
 use Rattle.text.specs.Bytes.{pick}
 use Rattle.text.proofs.Bytes.{pick_both}
@@ -65,22 +63,9 @@ run_tidied (b ∷ bs) (suc n) h f =
     let e : is_space b && ends bs ≡ false = f 0 (omega arith) in
     rw e (ap (λ (l : List ℕ). b ∷ l) (run_tidied bs n (omega (arith, h)) (λ m g. f (suc m) (omega (arith, g)))))
 
-pub stays_none : (t : List ℕ) (i : ℕ) → i ≤ length t → Stays t i i
-stays_none t i h = record { from = omega arith; to = h; none = λ k a b. absurd (omega (arith, a, b)) }
-
 pub stays_of : (t : List ℕ) (i n : ℕ) → i + n ≤ length t → ((m : ℕ) → m < n → goes (drop (i + m) t) ≡ false) → Stays t i (i + n)
 stays_of t i n h f =
     record { from = omega arith; to = h; none = λ k a b. let q : i + (k - i) ≡ k = omega (arith, a) in rw q at (f (k - i) (omega (arith, a, b))) }
-
-pub stays_join : (t : List ℕ) (i j e : ℕ) → Stays t i j → Stays t j e → Stays t i e
-stays_join t i j e p q = record { from = omega (arith, p.from, q.from); to = q.to; none = λ k a b. go k a b (ltb k j) refl }
-  where
-    go : (k : ℕ) → i ≤ k → k < e → (b : Bool) → ltb k j ≡ b → goes (drop k t) ≡ false
-    go k a b true h = p.none k a (ltb-true k j h)
-    go k a b false h = q.none k (ltb-false k j h) b
-
-pub stays_one : (t : List ℕ) (i : ℕ) → i < length t → goes (drop i t) ≡ false → Stays t i (i + 1)
-stays_one t i h e = stays_of t i 1 (omega (arith, h)) (λ m l. let q : i + m ≡ i = omega (arith, l) in rw q e)
 
 -- ---- the spaces between two runs
 

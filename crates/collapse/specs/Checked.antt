@@ -1,14 +1,17 @@
 -- The next token after the checks of the text. Terms in which code is proved; no promise of a call rests on them. Assumes nothing.
 use Rattle.std.specs.Prelude.{ℕ, List}
 use Rattle.text.specs.Call.{text_check}
-use Rattle.text.specs.declared.Answer.{Answer}
-use Rattle.text.specs.declared.Answer.TheVariants.{Done, Refused}
+use Rattle.text.specs.Answers.{Answer}
+use Rattle.text.specs.Answers.{Done, Refused}
 use Rattle.utils.specs.CData.{piece_answer}
 use Rattle.collapse.specs.NextToken.{next_token}
 use Rattle.collapse.specs.declared.Found.{Found}
-use Rattle.collapse.specs.declared.Moved.{Moved}
 
 -- an answer beside the offset that it leaves
+pub record Moved : Type 0 where
+  pub answer : Answer
+  pub offset : ℕ
+
 abbrev pub moved : Answer → ℕ → Moved
 moved answer offset = record { answer = answer; offset = offset }
 

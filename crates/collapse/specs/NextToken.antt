@@ -2,8 +2,8 @@
 use Rattle.std.specs.Prelude.{ℕ, zero, suc, ◌+◌, List, [], ◌∷◌, drop}
 use Rattle.text.specs.Bytes.{pick}
 use Rattle.utils.specs.CData.{outside}
-use Rattle.utils.specs.declared.Piece.{Piece}
-use Rattle.utils.specs.declared.Piece.TheVariants.{Part, NoMore, Outside}
+use Rattle.utils.specs.CData.{Piece}
+use Rattle.utils.specs.CData.{part, no_more, outside_at}
 use Rattle.collapse.specs.Collapse.{is_space, spaces}
 use Rattle.collapse.specs.declared.Found.{Found}
 
@@ -18,8 +18,8 @@ found piece next = record { piece = piece; next = next }
 
 -- K5: start and length, "with the offset after them, or no more if only spaces or nothing is left"
 unfoldable pub token_at : ℕ → ℕ → ℕ → Found
-token_at offset start zero = found NoMore offset
-token_at offset start (suc size) = found (Part start (suc size)) (start + suc size)
+token_at offset start zero = found no_more offset
+token_at offset start (suc size) = found (part start (suc size)) (start + suc size)
 
 -- K5: after the spaces at the offset
 unfoldable pub token_from : List ℕ → ℕ → Found
@@ -29,4 +29,4 @@ token_from text offset = token_at offset (offset + spaces (drop offset text)) (t
 -- K5: one call; 20 and "no more" leave the offset as it is
 unfoldable pub next_token : List ℕ → ℕ → Found
 unfolding token_from outside
-next_token text offset = pick (outside text offset) (found (Outside offset) offset) (token_from text offset)
+next_token text offset = pick (outside text offset) (found (outside_at offset) offset) (token_from text offset)

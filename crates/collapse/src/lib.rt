@@ -3,22 +3,25 @@
 #![tactic(auto)]
 
 ghost use Rattle.std.specs.Prelude.{◌≡◌, false, [], ◌∷◌, ◌+◌, ◌≤◌, length, drop};
-ghost use Rattle.text.specs.Call.{call_of, finish};
+ghost use Rattle.text.specs.Call.{answered, call_of, finish};
 ghost use Rattle.output.specs.Over.{over};
 ghost use Rattle.runs.specs.RunEnds.{RunEnd};
 ghost use Rattle.collapse.specs.Collapse.{is_space, spaces, collapse};
 ghost use Rattle.collapse.specs.NextToken.{next_token};
 ghost use Rattle.collapse.specs.Stage.{goes, Stays, StayEnd};
-ghost use Rattle.collapse.specs.Checked.{token_answer};
+ghost use Rattle.collapse.specs.Checked.{moved, token_answer};
 
-use text::{Answer, refusals};
-use utils::Piece;
+use runs::byte::{blocks_without, byte_end};
+use text::refusals::Refusal;
+use text::{Answer, Success};
+use utils::{Part, Piece};
 
 // The place after the spaces at `from`.
 fn skip_spaces(text: &[u8], from: usize) -> usize
     requires { from ≤ length text.now }
     ensures { result ≡ from + spaces (drop from text.now) }
 {
+    // By hand: with `position`, or a `for`, lists of tokens take 3 % more.
     let mut i = from;
     while i < text.len() {
         if text[i] != b' ' {
@@ -36,9 +39,10 @@ fn any_pair(text: &[u8], i: usize) -> bool
     requires { i + 17 ≤ length text.now }
     ensures { result ≡ false → Stays text.now i (i + 16) }
 {
+    // By index: each byte is asked with the one after it.
     let mut hit = false;
     for k in 0..16usize {
-        hit = hit | ((text[i + k] == b' ') & (text[i + k + 1] == b' '));
+        hit |= ((text[i + k] == b' ') & (text[i + k + 1] == b' '));
     }
     hit
 }
@@ -48,6 +52,7 @@ fn stay_blocks(text: &[u8], from: usize) -> usize
     requires { from ≤ length text.now }
     ensures { Stays text.now from result }
 {
+    // By hand: the answer is a place, and each block is asked with the byte after it.
     let mut i = from;
     while 17 <= text.len() - i {
         if any_pair(text, i) {
@@ -78,6 +83,7 @@ fn stay_end(text: &[u8], from: usize) -> usize
     requires { from ≤ length text.now }
     ensures { StayEnd text.now from result }
 {
+    // By hand, as in skip_spaces.
     let mut i = stay_blocks(text, from);
     while i < text.len() {
         if goes_at(text, i) {
@@ -95,9 +101,10 @@ fn put_collapsed(value: &[u8], out: &mut [u8]) -> usize
 {
     let mut at: usize = 0;
     let mut i = skip_spaces(value, 0);
+    // By hand: a turn begins where the white space before it ended.
     loop {
         let end = stay_end(value, i);
-        let room = output::least(at, out.len());
+        let room = at.min(out.len());
         output::put_over(&value[i..end], &mut out[room..]);
         at += end - i;
         let next = skip_spaces(value, end);
@@ -118,55 +125,29 @@ fn collapsed_length(value: &[u8]) -> usize
 
 // The second stage over a value. Where the output has the value's length there is room: no count is needed.
 pub fn collapse_into(value: &[u8], second: u64, out: &mut [u8]) -> Answer
-    ensures { call_of result (out.new ∷ []) ≡ finish (collapse value.now) second out.old }
+    ensures { call_of (answered result) (out.new ∷ []) ≡ finish (collapse value.now) second out.old }
 {
     if out.len() < value.len() {
         let length = collapsed_length(value);
         if out.len() < length {
-            return Answer::Refused {
-                number: refusals::NO_ROOM,
-                first: length as u64,
-                second: 0,
-            };
+            return Err(Refusal::NoRoom(length as u64));
         }
     }
     let written = put_collapsed(value, out);
-    Answer::Done {
+    Ok(Success {
         first: written as u64,
         second,
-    }
+    })
 }
 
 // ---- tokens
 
-// The next space from `from` on, or the text's end, byte by byte.
-fn bytes_space(text: &[u8], from: usize) -> usize
-    requires { from ≤ length text.now }
-    ensures { RunEnd is_space text.now from result }
-{
-    let mut i = from;
-    while i < text.len() {
-        if text[i] == b' ' {
-            return i;
-        }
-        i += 1;
-    }
-    i
-}
-
-// The same, by blocks.
+// The next space from `from` on, or the text's end, by blocks.
 fn token_end(text: &[u8], from: usize) -> usize
     requires { from ≤ length text.now }
     ensures { RunEnd is_space text.now from result }
 {
-    let mut i = from;
-    while 16 <= text.len() - i {
-        if output::any_of(text, i, 16, b' ', b' ') {
-            return bytes_space(text, i);
-        }
-        i += 16;
-    }
-    bytes_space(text, i)
+    byte_end(text, blocks_without::<16>(text, from, b' '), b' ')
 }
 
 // The next token, and the offset after it.
@@ -181,23 +162,23 @@ pub fn next_token(text: &[u8], offset: u64) -> Found
 {
     if utils::is_outside(text, offset) {
         return Found {
-            piece: Piece::Outside(offset),
+            piece: Err(Refusal::CursorOutside(offset)),
             next: offset,
         };
     }
     let start = skip_spaces(text, offset as usize);
     if start == text.len() {
         return Found {
-            piece: Piece::NoMore,
+            piece: Err(Refusal::NoMore),
             next: offset,
         };
     }
     let end = token_end(text, start);
     Found {
-        piece: Piece::Part {
+        piece: Ok(Part {
             start,
             length: end - start,
-        },
+        }),
         next: end as u64,
     }
 }
@@ -211,19 +192,14 @@ pub struct Moved {
 
 // The next token of a text that is checked first.
 pub fn checked_token(text: &[u8], offset: u64) -> Moved
-    ensures { result ≡ token_answer text.now offset }
+    ensures { moved (answered result.answer) result.offset ≡ token_answer text.now offset }
 {
-    let fine = text::check_text(text);
-    let Answer::Done {
-        first: _,
-        second: _,
-    } = fine
-    else {
+    if let Err(refusal) = text::check_text(text) {
         return Moved {
-            answer: fine,
+            answer: Err(refusal),
             offset,
         };
-    };
+    }
     let token = next_token(text, offset);
     let piece = token.piece;
     let next = token.next;

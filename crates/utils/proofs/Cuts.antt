@@ -13,7 +13,7 @@ use Rattle.text.proofs.Bytes.{or_left}
 use Rattle.utils.proofs.Rest.{byte_first}
 use Rattle.utils.specs.CData.{closing, first_cut, stepped, outside, cdata_step}
 use Rattle.utils.specs.declared.Cursor.{Cursor}
-use Rattle.utils.specs.declared.Piece.TheVariants.{Part, NoMore, Outside}
+use Rattle.utils.specs.CData.{part, no_more, outside_at}
 use Rattle.utils.specs.Blocks.{closes_at, Clear, Passed}
 
 -- ---- `]]>` as bytes at three indices
@@ -142,24 +142,24 @@ unfolding outside
 inside_le t o e = ltb-false (length t) o (or_left (ltb (length t) o) _ e)
 
 module _ (t : List ℕ) (c : Cursor) where
-  pub step_outside : outside t c.offset ≡ true → record { piece = Outside c.offset; next = c } ≡ cdata_step t c
+  pub step_outside : outside t c.offset ≡ true → record { piece = outside_at c.offset; next = c } ≡ cdata_step t c
   unfolding cdata_step
   step_outside h = simp h
 
   module _ (h : outside t c.offset ≡ false) where
-    pub step_finished : (c.finished ≡ 0 → ⊥) → record { piece = NoMore; next = c } ≡ cdata_step t c
+    pub step_finished : (c.finished ≡ 0 → ⊥) → record { piece = no_more; next = c } ≡ cdata_step t c
     unfolding cdata_step
     step_finished f = simp (h, ne_eqb c.finished 0 f)
 
     module _ (f : c.finished ≡ 0) (e : ℕ) (q : e ≡ c.offset + first_cut (drop c.offset t)) where
-      pub step_last : e ≡ length t → stepped (Part c.offset (e - c.offset)) c.offset 1 ≡ cdata_step t c
+      pub step_last : e ≡ length t → stepped (part c.offset (e - c.offset)) c.offset 1 ≡ cdata_step t c
       unfolding cdata_step
       step_last l =
           let z : e - c.offset ≡ length (drop c.offset t) = omega (arith, length-drop c.offset t) in
           let y : first_cut (drop c.offset t) ≡ length (drop c.offset t) = omega (arith, length-drop c.offset t) in
           simp (h, eq-eqb c.finished 0 f, eq-eqb _ _ y, z)
 
-      pub step_cut : (e ≡ length t → ⊥) → stepped (Part c.offset (e - c.offset)) e 0 ≡ cdata_step t c
+      pub step_cut : (e ≡ length t → ⊥) → stepped (part c.offset (e - c.offset)) e 0 ≡ cdata_step t c
       unfolding cdata_step
       step_cut n =
           let z : e - c.offset ≡ first_cut (drop c.offset t) = omega arith in

@@ -17,7 +17,7 @@ use Rattle.utils.proofs.Boundary.{start_inside}
 use Rattle.utils.specs.CData.{closing, first_cut, stepped, piece_from, outside, cdata_step}
 use Rattle.utils.specs.Pieces.{holds, pieces_in, pieces, joined, AtCut, cursor_at, calls, handed}
 use Rattle.utils.specs.declared.Cursor.{Cursor}
-use Rattle.utils.specs.declared.Piece.TheVariants.{Part, NoMore}
+use Rattle.utils.specs.CData.{part, no_more}
 use Rattle.utils.specs.declared.Stepped.{Stepped}
 
 -- ---- where the first cut falls
@@ -204,22 +204,22 @@ step_is : (t : List ℕ) (o : ℕ) → outside t o ≡ false → cdata_step t (c
 unfolding cdata_step
 step_is t o h = rw h
 
-step_no_more : (t : List ℕ) (o : ℕ) → outside t o ≡ false → cdata_step t (cursor_at o 1) ≡ stepped NoMore o 1
+step_no_more : (t : List ℕ) (o : ℕ) → outside t o ≡ false → cdata_step t (cursor_at o 1) ≡ stepped no_more o 1
 unfolding cdata_step
 step_no_more t o h = rw h
 
-piece_last : (o : ℕ) (u : List ℕ) → first_cut u ≡ length u → piece_from o u ≡ stepped (Part o (length u)) o 1
+piece_last : (o : ℕ) (u : List ℕ) → first_cut u ≡ length u → piece_from o u ≡ stepped (part o (length u)) o 1
 unfolding piece_from
 piece_last o u q = rw (eq-eqb (first_cut u) (length u) q)
 
-piece_cut : (o : ℕ) (u : List ℕ) → (first_cut u ≡ length u → ⊥) → piece_from o u ≡ stepped (Part o (first_cut u)) (o + first_cut u) 0
+piece_cut : (o : ℕ) (u : List ℕ) → (first_cut u ≡ length u → ⊥) → piece_from o u ≡ stepped (part o (first_cut u)) (o + first_cut u) 0
 unfolding piece_from
 piece_cut o u q = rw (ne_eqb (first_cut u) (length u) q)
 
-no_more : (t : List ℕ) (o : ℕ) → outside t o ≡ false → (j : ℕ) → calls j t (cursor_at o 1) ≡ replicate j (stepped NoMore o 1)
+more_none : (t : List ℕ) (o : ℕ) → outside t o ≡ false → (j : ℕ) → calls j t (cursor_at o 1) ≡ replicate j (stepped no_more o 1)
 unfolding calls
-no_more t o h zero = refl
-no_more t o h (suc j) = rw (step_no_more t o h) (ap (λ (l : List Stepped). stepped NoMore o 1 ∷ l) (no_more t o h j))
+more_none t o h zero = refl
+more_none t o h (suc j) = rw (step_no_more t o h) (ap (λ (l : List Stepped). stepped no_more o 1 ∷ l) (more_none t o h j))
 
 -- a byte below 80 stands at the offset
 at_gt : (t rest : List ℕ) (o : ℕ) → drop o t ≡ 62 ∷ rest → outside t o ≡ false
@@ -230,7 +230,7 @@ at_gt t rest o e =
     rw (le-ltb (length t) o (omega (arith, length-drop o t, ap length e)), g)
 
 handed_cons : (o : ℕ) (p : List ℕ) (ps : List (List ℕ)) (j : ℕ) → 0 < length ps
-    → handed o (p ∷ ps) j ≡ stepped (Part o (length p)) (o + length p) 0 ∷ handed (o + length p) ps j
+    → handed o (p ∷ ps) j ≡ stepped (part o (length p)) (o + length p) 0 ∷ handed (o + length p) ps j
 unfolding handed
 handed_cons o p [] j h = absurd (omega arith)
 handed_cons o p (q ∷ ps) j h = refl
@@ -265,8 +265,8 @@ hand (suc n) t u o j count d h l c = go (split n u) (hand n t)
     go (one f q e) ih =
         let s : count ≡ suc j = omega (arith, ap length e) in
         ap (λ (m : ℕ). calls m t (cursor_at o 0)) s
-        ∙ call_first j t (cursor_at o 0) (stepped (Part o (length u)) o 1) (at_piece ∙ piece_last o u q)
-        ∙ ap (λ (r : List Stepped). stepped (Part o (length u)) o 1 ∷ r) (no_more t o h j)
+        ∙ call_first j t (cursor_at o 0) (stepped (part o (length u)) o 1) (at_piece ∙ piece_last o u q)
+        ∙ ap (λ (r : List Stepped). stepped (part o (length u)) o 1 ∷ r) (more_none t o h j)
         ∙ (unfold handed in ap (λ (ps : List (List ℕ)). handed o ps j) (sym e))
     go (more xs rest s f q e) ih =
         let p : List ℕ = xs ++ (93 ∷ 93 ∷ []) in
@@ -277,11 +277,11 @@ hand (suc n) t u o j count d h l c = go (split n u) (hand n t)
         let y : drop (o + first_cut u) t ≡ 62 ∷ rest =
         sym (drop-drop (first_cut u) o t) ∙ ap (drop (first_cut u)) (d ∙ s) ∙ drop_at p (62 ∷ rest) (first_cut u) k in
         ap (λ (i : ℕ). calls i t (cursor_at o 0)) m
-        ∙ call_first (length (pieces_in n (62 ∷ rest)) + j) t (cursor_at o 0) (stepped (Part o (first_cut u)) (o + first_cut u) 0)
+        ∙ call_first (length (pieces_in n (62 ∷ rest)) + j) t (cursor_at o 0) (stepped (part o (first_cut u)) (o + first_cut u) 0)
         (at_piece ∙ piece_cut o u (λ z. omega (arith, w)))
-        ∙ ap (λ (r : List Stepped). stepped (Part o (first_cut u)) (o + first_cut u) 0 ∷ r)
+        ∙ ap (λ (r : List Stepped). stepped (part o (first_cut u)) (o + first_cut u) 0 ∷ r)
         (ih (62 ∷ rest) (o + first_cut u) j (length (pieces_in n (62 ∷ rest)) + j) y (at_gt t rest (o + first_cut u) y) (omega arith) refl)
-        ∙ ap (λ (i : ℕ). stepped (Part o i) (o + i) 0 ∷ handed (o + i) (pieces_in n (62 ∷ rest)) j) (sym k)
+        ∙ ap (λ (i : ℕ). stepped (part o i) (o + i) 0 ∷ handed (o + i) (pieces_in n (62 ∷ rest)) j) (sym k)
         ∙ sym (ap (λ (ps : List (List ℕ)). handed o ps j) e ∙ handed_cons o p (pieces_in n (62 ∷ rest)) j v)
 
 -- CDATA: from offset 0, not finished: the pieces in turn, then "no more" as often as it is called, with the cursor left as it is.

@@ -48,9 +48,6 @@ blank_past t i (suc n) h c =
     ∙ blank_on t (i + n) (omega arith) (c.blank n (omega arith))
     ∙ ap (λ (m : ℕ). m + blanks (drop m t)) e
 
-pub skipped_none : (t : List ℕ) → Skipped t 0
-skipped_none t = record { fits = omega arith; same = omega arith }
-
 pub skipped_block : (t : List ℕ) (i n : ℕ) → Skipped t i → i + n ≤ length t → Blank t i n → Skipped t (i + n)
 skipped_block t i n p h c = record { fits = h; same = sym (blank_past t i n h c) ∙ p.same }
 
@@ -101,9 +98,6 @@ dropped_block t e n p h c = record { fits = omega (arith, p.fits); same = sym (k
 
 kept_whole : (t : List ℕ) → kept t (length t) ≡ length t - blanks (reverse t)
 kept_whole t = ap (λ (u : List ℕ). length t - blanks (reverse u)) (take-length t)
-
-pub dropped_none : (t : List ℕ) → Dropped t (length t)
-dropped_none t = record { fits = omega arith; same = kept_whole t }
 
 pub end_at : (t : List ℕ) (e : ℕ) → e ≡ length t - blanks (reverse t) → record { start = 0; length = e } ≡ trim_end t
 unfolding trim_end

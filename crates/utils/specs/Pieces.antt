@@ -3,7 +3,7 @@ use Rattle.std.specs.Prelude.{ℕ, zero, suc, ◌+◌, ◌≡◌, Bool, false, �
 use Rattle.text.specs.Bytes.{pick, begins}
 use Rattle.utils.specs.CData.{closing, first_cut, stepped, cdata_step}
 use Rattle.utils.specs.declared.Cursor.{Cursor}
-use Rattle.utils.specs.declared.Piece.TheVariants.{Part, NoMore}
+use Rattle.utils.specs.CData.{part, no_more}
 use Rattle.utils.specs.declared.Stepped.{Stepped}
 
 -- CDATA: `]]>` stands somewhere in the bytes
@@ -49,6 +49,6 @@ calls (suc count) text cursor = cdata_step text cursor ∷ calls count text (cda
 -- CDATA: these pieces, the first at `offset`; then "no more", `later` times, with the cursor as the last piece left it
 unfoldable pub handed : ℕ → List (List ℕ) → ℕ → List Stepped
 handed offset [] later = []
-handed offset (p ∷ []) later = stepped (Part offset (length p)) offset 1 ∷ replicate later (stepped NoMore offset 1)
+handed offset (p ∷ []) later = stepped (part offset (length p)) offset 1 ∷ replicate later (stepped no_more offset 1)
 handed offset (p ∷ q ∷ ps) later =
-    stepped (Part offset (length p)) (offset + length p) 0 ∷ handed (offset + length p) (q ∷ ps) later
+    stepped (part offset (length p)) (offset + length p) 0 ∷ handed (offset + length p) (q ∷ ps) later

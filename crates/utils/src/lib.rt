@@ -2,13 +2,16 @@
 #![tactic(auto)]
 
 ghost use Rattle.std.specs.Prelude.{◌≡◌, ◌+◌, ◌-◌, ◌<◌, ◌≤◌, true, false, length, drop};
+ghost use Rattle.text.specs.Call.{answered};
 ghost use Rattle.utils.specs.Trim.{is_whitespace, trim_start, trim_end, trim_spaces};
 ghost use Rattle.utils.specs.CData.{first_cut, outside, cdata_step, piece_answer};
 ghost use Rattle.utils.specs.Blocks.{Blank, Skipped, Dropped, closes_at, Clear, Passed};
 
-use text::{Answer, refusals};
+use text::refusals::Refusal;
+use text::{Answer, Success};
 
-#[derive(Drop)]
+// A part of a text.
+#[derive(Clone, Copy)]
 pub struct Part {
     pub start: usize,
     pub length: usize,
@@ -23,13 +26,8 @@ pub struct Cursor {
     pub finished: u64,
 }
 
-// A part of the text, no more of them, or the refusal of a cursor outside the text's characters.
-#[derive(Drop)]
-pub enum Piece {
-    Part { start: usize, length: usize },
-    NoMore,
-    Outside(u64),
-}
+// The next part of a text; or there are no more, or the cursor is outside the text's characters.
+pub type Piece = Result<Part, Refusal>;
 
 #[derive(Drop)]
 pub struct Stepped {
@@ -49,8 +47,8 @@ fn any_other(text: &[u8], i: usize) -> bool
     ensures { result ≡ false → Blank text.now i 32 }
 {
     let mut hit = false;
-    for k in 0..32usize {
-        hit = hit | !is_whitespace(text[i + k]);
+    for &b in &text[i..i + 32] {
+        hit |= !is_whitespace(b);
     }
     hit
 }
@@ -65,6 +63,7 @@ fn skip_blanks(text: &[u8]) -> usize
     if !is_whitespace(text[0]) {
         return 0;
     }
+    // By hand: the answer is a place, which chunks_exact does not count.
     let mut i: usize = 0;
     while 32 <= text.len() - i {
         if any_other(text, i) {
@@ -86,6 +85,7 @@ fn drop_blanks(text: &[u8]) -> usize
     if !is_whitespace(text[end - 1]) {
         return end;
     }
+    // By hand: the answer is a place, which chunks_exact does not count.
     while 32 <= end {
         if any_other(text, end - 32) {
             return end;
@@ -98,15 +98,13 @@ fn drop_blanks(text: &[u8]) -> usize
 pub fn trim_xml_start(text: &[u8]) -> Part
     ensures { result ≡ trim_start text.now }
 {
-    let mut i = skip_blanks(text);
-    while i < text.len() {
+    for i in skip_blanks(text)..text.len() {
         if !is_whitespace(text[i]) {
             return Part {
                 start: i,
                 length: text.len() - i,
             };
         }
-        i += 1;
     }
     Part {
         start: text.len(),
@@ -117,15 +115,13 @@ pub fn trim_xml_start(text: &[u8]) -> Part
 pub fn trim_xml_end(text: &[u8]) -> Part
     ensures { result ≡ trim_end text.now }
 {
-    let mut end = drop_blanks(text);
-    while 0 < end {
-        if !is_whitespace(text[end - 1]) {
+    for i in (0..drop_blanks(text)).rev() {
+        if !is_whitespace(text[i]) {
             return Part {
                 start: 0,
-                length: end,
+                length: i + 1,
             };
         }
-        end -= 1;
     }
     Part {
         start: 0,
@@ -159,8 +155,8 @@ fn any_gt(text: &[u8], i: usize, count: usize) -> bool
     ensures { result ≡ false → Clear text.now i count }
 {
     let mut hit = false;
-    for k in 0..count {
-        hit = hit | (text[i + k + 2] == b'>');
+    for &b in &text[i + 2..i + count + 2] {
+        hit |= b == b'>';
     }
     hit
 }
@@ -170,9 +166,10 @@ fn any_closing(text: &[u8], i: usize, count: usize) -> bool
     requires { i + count + 2 ≤ length text.now }
     ensures { result ≡ false → Clear text.now i count }
 {
+    // By index: each byte is asked with the two after it.
     let mut hit = false;
     for k in 0..count {
-        hit = hit | closes_at(text, i + k);
+        hit |= closes_at(text, i + k);
     }
     hit
 }
@@ -184,6 +181,7 @@ fn skip_blocks(text: &[u8], from: usize, size: usize) -> usize
     ensures { Passed text.now from result }
 {
     let mut i = from;
+    // By hand: the answer is a place, and each block is asked with the two bytes after it.
     while size + 2 <= text.len() - i {
         if any_gt(text, i, size) {
             if any_closing(text, i, size) {
@@ -234,6 +232,7 @@ fn piece_end(text: &[u8], from: usize) -> usize
     if ends_clear(text, i) {
         return text.len();
     }
+    // By hand: each byte is asked with the two after it.
     while 3 <= text.len() - i {
         if closes_at(text, i) {
             return i + 2;
@@ -265,22 +264,22 @@ pub fn cdata_step(text: &[u8], cursor: Cursor) -> Stepped
     let offset = cursor.offset;
     if is_outside(text, offset) {
         return Stepped {
-            piece: Piece::Outside(offset),
+            piece: Err(Refusal::CursorOutside(offset)),
             next: cursor,
         };
     }
     if cursor.finished != 0 {
         return Stepped {
-            piece: Piece::NoMore,
+            piece: Err(Refusal::NoMore),
             next: cursor,
         };
     }
     let start = offset as usize;
     let end = piece_end(text, start);
-    let piece = Piece::Part {
+    let piece = Ok(Part {
         start,
         length: end - start,
-    };
+    });
     if end == text.len() {
         return Stepped {
             piece,
@@ -299,24 +298,13 @@ pub fn cdata_step(text: &[u8], cursor: Cursor) -> Stepped
     }
 }
 
-// Document 01's number and values; 255 is "no more".
+// The piece's start and length.
 pub fn piece_answer(piece: Piece) -> Answer
-    ensures { result ≡ piece_answer piece }
+    ensures { answered result ≡ piece_answer piece }
 {
-    match piece {
-        Piece::Part { start, length } => Answer::Done {
-            first: start as u64,
-            second: length as u64,
-        },
-        Piece::NoMore => Answer::Refused {
-            number: refusals::NO_MORE,
-            first: 0,
-            second: 0,
-        },
-        Piece::Outside(offset) => Answer::Refused {
-            number: refusals::CURSOR_OUTSIDE,
-            first: offset,
-            second: 0,
-        },
-    }
+    let part = piece?;
+    Ok(Success {
+        first: part.start as u64,
+        second: part.length as u64,
+    })
 }

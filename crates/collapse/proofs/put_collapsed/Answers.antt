@@ -12,12 +12,12 @@ use Rattle.collapse.proofs.put_collapsed.Goals.{After-put_over, Else-next-value}
 -- what the output holds after the copy
 abbrev held : After-put_over → List ℕ
 held c =
-    let room = c.least-room.result in
+    let room = c.min-room.result in
     put_mid room (length c.loop-at.out - room) c.loop-at.out c.put_over.new.out
 
 -- after the copy
 ran : (c : After-put_over) → let end = c.stay_end-end.result in Collapsing c.args.value.now c.args.out.now (held c) (c.loop-at.at + (end - c.loop-at.i)) end
-ran c = collapsing_run c.loop-at.invariant c.stay_end-end.ensures.run c.least-room.ensures c.put_over.ensures
+ran c = collapsing_run c.loop-at.invariant c.stay_end-end.ensures.run c.min-room.ensures c.put_over.ensures
 
 -- after the spaces that follow, where the value goes on
 skipped : (c : Else-next-value) → let end = c.stay_end-end.result in let i = c.skip_spaces-next.result - 1 in
@@ -40,10 +40,10 @@ pub slice_bounds-put_over-end : goal.slice_bounds-put_over-end
 slice_bounds-put_over-end c = c.stay_end-end.ensures.run.to
 
 pub slice_bounds-put_over-count-in-loop-at : goal.slice_bounds-put_over-count-in-loop-at
-slice_bounds-put_over-count-in-loop-at c = omega (arith, c.least-room.ensures)
+slice_bounds-put_over-count-in-loop-at c = omega (arith, c.min-room.ensures)
 
 pub slice_bounds-put_over-start-in-loop-at : goal.slice_bounds-put_over-start-in-loop-at
-slice_bounds-put_over-start-in-loop-at c = omega (arith, c.least-room.ensures)
+slice_bounds-put_over-start-in-loop-at c = omega (arith, c.min-room.ensures)
 
 pub overflow_sub-at : goal.overflow_sub-at
 overflow_sub-at c = c.stay_end-end.ensures.run.from

@@ -1,16 +1,17 @@
--- `utils::piece_answer` gives document 01's number and values, case by case. Assumes nothing.
-use mathlib.Core.Path.{sym, ap}
+-- `utils::piece_answer` gives document 01's number and values. Assumes nothing.
+use mathlib.Core.Path.{sym, ap, ◌∙◌}
+use borrow.Author.Rules.{rules}
+use Rattle.std.proofs.Common.{◌≡◌, Err}
+use Rattle.text.specs.Call.{answered}
 use Rattle.utils.specs.CData.{piece_answer}
 use Rattle.utils.proofs.piece_answer.Goals as goal
 
-pub returns-in-Part : goal.returns-in-Part
+pub returns-in_err-part : goal.returns-in_err-part
 unfolding piece_answer
-returns-in-Part c = sym (ap piece_answer c.in-Part.is)
+returns-in_err-part c =
+    let handed : c.from_residual.result ≡ Err c.in_err-part.field-0.0 = search rules in
+    ap answered handed ∙ sym (ap piece_answer c.in_err-part.was)
 
-pub returns-in-Outside : goal.returns-in-Outside
+pub returns : goal.returns
 unfolding piece_answer
-returns-in-Outside c = sym (ap piece_answer c.in-Outside.is)
-
-pub returns-in-NoMore : goal.returns-in-NoMore
-unfolding piece_answer
-returns-in-NoMore c = sym (ap piece_answer c.in-NoMore.is)
+returns c = sym (ap piece_answer c.in_ok-part.was)

@@ -1,8 +1,5 @@
 use Rattle.utils.specs.Blocks.{Dropped}
 use Rattle.utils.proofs.trim_xml_end.Given as goal
 
-abbrev pub invariant-loop-end : goal.invariant-loop-end
-invariant-loop-end l = Dropped l.text l.end
-
-abbrev pub decreases-loop-end : goal.decreases-loop-end
-decreases-loop-end l = l.end
+abbrev pub invariant-loop-i : goal.invariant-loop-i
+invariant-loop-i l = Dropped l.text l.i
