@@ -6,7 +6,7 @@ use mathlib.Core.List.{List, [], ◌∷◌, ◌++◌}
 use lib.ListN.{length}
 use borrow.Author.Tests.{lt-ltb, le-ltb, eq-eqb, ne_eqb}
 use Rattle.text.specs.Call.{Called, called}
-use Rattle.text.specs.declared.Answer.TheVariants.{Done}
+use Rattle.text.specs.Answers.{Done}
 use Rattle.register.specs.Entries.{Entry, entry, cost, count_in, recount, largest_count, Change, changed, refused, add, withdraw}
 use Rattle.register.specs.Stored.{written}
 use Rattle.register.specs.RegisterCalls.{lent, leaves}

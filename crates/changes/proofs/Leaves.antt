@@ -6,19 +6,19 @@ use mathlib.Core.List.{List, [], ◌∷◌, ◌++◌}
 use lib.ListN.{length, take, drop, replicate, length-drop}
 use borrow.Rule.Slice.PartMut.{mid_of, put_mid, mid_len, same_len_mid}
 use Rattle.text.specs.Call.{laid}
-use Rattle.text.specs.declared.Answer.{Answer}
-use Rattle.text.specs.declared.Answer.TheVariants.{Done, Refused}
-use Rattle.register.specs.Entries.{Entry, entry, cost, recount, changed, add}
+use Rattle.text.specs.Answers.{Answer}
+use Rattle.text.specs.Answers.{Done, Refused}
+use Rattle.register.specs.Entries.{Entry, entry, cost, count_in, recount, changed, add}
 use Rattle.register.specs.Stored.{u32_at, u32, entry_bytes}
 use Rattle.register.specs.RegisterCalls.{leaves}
 use Rattle.register.specs.Places.{Absent, Stands, Sits}
 use Rattle.register.proofs.StoredLaws.{cost_join}
 use Rattle.register.proofs.Counts.{absent_zero}
-use Rattle.register.proofs.Boundaries.{within, one_cost}
+use Rattle.register.proofs.Boundaries.{one_cost}
 use Rattle.register.proofs.Sits.{sits_cost}
 use Rattle.output.proofs.Laid.{rest_part, rest_put, laid_length}
-use Rattle.changes.specs.Leaving.{leaving}
-use Rattle.changes.proofs.Changing.{appended, recounted, recounted_is, recounted_cost, removed_by, removed_is, removed_cost, stands_fits, stands_size}
+use Rattle.changes.specs.Leaving.{leaving, present, Seated}
+use Rattle.changes.proofs.Changing.{appended, recounted, recounted_is, recounted_cost, removed_by, removed_is, removed_cost, stands_fits, stands_size, stands_number, stands_is, stands_some}
 use Rattle.changes.proofs.Cases.{leaving_changed, add_room, add_no_room}
 
 module _ (buffer : List ℕ) (used : ℕ) (es : List Entry) (h : Sits buffer used es) where
@@ -75,3 +75,22 @@ module _ (buffer : List ℕ) (used : ℕ) (es : List Entry) (h : Sits buffer use
           = omega (arith, removed_cost buffer used es h s gap_is, ap cost (removed_is buffer used es h s)) in
           ap (λ (r : Answer). leaving r used (put_mid (used - gap) (used - (used - gap)) (put_mid at (used - at) buffer closed) zeros)) e
           ∙ leaving_changed buffer used 0 (recount form 0 es) c (removed_by buffer used es h s gap_is p q n)
+
+-- the entry of a form, as a change reads it
+pub record Placed (buffer : List ℕ) (used : ℕ) (form : List ℕ) (at : ℕ) : Type 0 where
+  pub within : used ≤ length buffer
+  pub fits : at + 8 + u32_at buffer at ≤ used
+  pub is : count_in form (present buffer used) ≡ u32_at buffer (at + 4)
+  pub some : 0 < u32_at buffer (at + 4)
+
+pub placed : (buffer : List ℕ) (used : ℕ) {form : List ℕ} {at : ℕ} → Seated buffer used → Stands form (present buffer used) at
+    → Placed buffer used form at
+placed buffer used h s =
+    let es = present buffer used in
+    let number = stands_number buffer used es h s in
+    record {
+      within = h.within;
+      fits = omega (arith, stands_fits buffer used es h s, stands_size buffer used es h s);
+      is = stands_is buffer used es h s ∙ sym number;
+      some = omega (arith, stands_some buffer used es h s, number);
+    }

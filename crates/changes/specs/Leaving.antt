@@ -1,8 +1,8 @@
 -- What the calls on a register leave, by their answer: an accepted change's second word is the used length (document 02, K10). Assumes nothing.
 use Rattle.std.specs.Prelude.{ℕ, ◌≡◌, List, take}
 use Rattle.text.specs.Call.{Called, call_of}
-use Rattle.text.specs.declared.Answer.{Answer}
-use Rattle.text.specs.declared.Answer.TheVariants.{Done, Refused}
+use Rattle.text.specs.Answers.{Answer}
+use Rattle.text.specs.Answers.{Done, Refused}
 use Rattle.register.specs.Entries.{Entry, Change, changed, recount}
 use Rattle.register.specs.RegisterCalls.{lent, leaves}
 use Rattle.register.specs.Places.{Stands, Sits, entries_in}

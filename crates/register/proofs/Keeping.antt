@@ -7,8 +7,8 @@ use mathlib.Core.List.{List, [], ◌++◌, append_assoc}
 use lib.ListN.{length, get_or, drop, replicate, length-append, length-replicate, get_or-replicate, get_or-append}
 use lib.Seq.{drop-append-add, drop-drop, get_or-append-add}
 use Rattle.text.specs.Call.{guarded, text_check}
-use Rattle.text.specs.declared.Answer.{Answer}
-use Rattle.text.specs.declared.Answer.TheVariants.{Done, Refused}
+use Rattle.text.specs.Answers.{Answer}
+use Rattle.text.specs.Answers.{Done, Refused}
 use Rattle.register.specs.Entries.{Entry, cost, Change, changed, refused, add, withdraw}
 use Rattle.register.specs.Stored.{Held, holds, damaged, bytes_of, register, written}
 use Rattle.register.specs.RegisterCalls.{lent, leaves, of_held, add_call, withdraw_call, counted, count_call}

@@ -10,8 +10,8 @@ use borrow.Author.Tests.{eqb-true, eqb-false, ne_eqb, ltb-true, ltb-false}
 use Rattle.text.specs.Bytes.{pick, same_bytes}
 use Rattle.text.specs.Utf8.{utf8_end, well_formed}
 use Rattle.text.specs.Call.{Called, called, guarded, and_then, passed, length_check, utf8_check, text_check, longest_text}
-use Rattle.text.specs.declared.Answer.{Answer}
-use Rattle.text.specs.declared.Answer.TheVariants.{Done, Refused}
+use Rattle.text.specs.Answers.{Answer}
+use Rattle.text.specs.Answers.{Done, Refused}
 use Rattle.text.proofs.Bytes.{pick_both, pick_by, same_equal}
 use Rattle.text.proofs.Longest.{end_whole}
 use Rattle.text.proofs.Utf8.{testable}

@@ -1,15 +1,9 @@
 -- Entries in bytes, and where they stand: the terms in which the code is proved. No promise of a call rests on these. Assumes nothing.
-use Rattle.std.specs.Prelude.{ℕ, ◌+◌, ◌≤◌, ◌<◌, ◌≡◌, true, false, List, [], ◌∷◌, ◌++◌, length, get_or, take, drop}
+use Rattle.std.specs.Prelude.{ℕ, ◌+◌, ◌≤◌, ◌<◌, ◌≡◌, true, false, List, [], ◌∷◌, ◌++◌, Option, Some, None, length, get_or, take, drop}
 use Rattle.text.specs.Bytes.{same_bytes}
 use Rattle.text.specs.Utf8.{well_formed}
 use Rattle.register.specs.Entries.{Entry, entry, cost}
 use Rattle.register.specs.Stored.{u32_at, bytes_of, Held, holds, damaged, entries_from, entries, sound}
-use Rattle.register.specs.declared.Found.{Found}
-use Rattle.register.specs.declared.Found.TheVariants.{At, Nothing}
-use Rattle.register.specs.declared.Next.{Next}
-use Rattle.register.specs.declared.Next.TheVariants.{End, Fault}
-use Rattle.register.specs.declared.Walked.{Walked}
-use Rattle.register.specs.declared.Walked.TheVariants.{Number, Damaged}
 
 -- each number of a list is a byte
 abbrev pub Small : List ℕ → Type 0
@@ -73,9 +67,9 @@ pub record Stands (form : List ℕ) (es : List Entry) (at : ℕ) : Type 0 where
   pub others : Absent form before
   pub place : at ≡ cost before
 
-abbrev pub Finds : List ℕ → List Entry → Found → Type 0
-Finds form es (At at) = Stands form es at
-Finds form es Nothing = Absent form es
+abbrev pub Finds : List ℕ → List Entry → Option ℕ → Type 0
+Finds form es (Some at) = Stands form es at
+Finds form es None = Absent form es
 
 -- ---- the walk that checks
 
@@ -90,9 +84,9 @@ pub record GoodAt (bytes : List ℕ) (at end : ℕ) : Type 0 where
 abbrev pub Spoiled : List ℕ → ℕ → Type 0
 Spoiled bytes at = (es : List Entry) → entries_from 0 (drop at bytes) ≡ holds es → Good es → ⊥
 
-abbrev pub Steps : List ℕ → ℕ → Next → Type 0
-Steps bytes at (End end) = GoodAt bytes at end
-Steps bytes at Fault = Spoiled bytes at
+abbrev pub Steps : List ℕ → ℕ → Option ℕ → Type 0
+Steps bytes at (Some end) = GoodAt bytes at end
+Steps bytes at None = Spoiled bytes at
 
 -- bytes that hold good entries
 pub record Plausible (bytes : List ℕ) : Type 0 where
@@ -100,9 +94,9 @@ pub record Plausible (bytes : List ℕ) : Type 0 where
   pub is : entries bytes ≡ holds (entries_in bytes)
   pub good : Good (entries_in bytes)
 
-abbrev pub Checks : List ℕ → Walked → Type 0
-Checks bytes (Number n) = Plausible bytes
-Checks bytes Damaged = sound (entries bytes) ≡ false
+abbrev pub Checks : List ℕ → Option ℕ → Type 0
+Checks bytes (Some n) = Plausible bytes
+Checks bytes None = sound (entries bytes) ≡ false
 
 -- ---- bytes that are compared
 

@@ -7,9 +7,9 @@ use mathlib.Core.List.{List, [], ◌∷◌}
 use lib.ListN.{length, take}
 use borrow.Author.Tests.{le-leb, lt-leb}
 use Rattle.text.specs.Call.{Called, called, and_then, guarded, text_check}
-use Rattle.text.specs.declared.Answer.{Answer}
-use Rattle.text.specs.declared.Answer.TheVariants.{Done, Refused}
-use Rattle.register.specs.Entries.{good, distinct}
+use Rattle.text.specs.Answers.{Answer}
+use Rattle.text.specs.Answers.{Done, Refused}
+use Rattle.register.specs.Entries.{distinct}
 use Rattle.register.specs.Stored.{Held, holds, damaged, entries, sound, intact, register}
 use Rattle.register.specs.Places.{Plausible, entries_in}
 use Rattle.register.proofs.Counts.{true_good}

@@ -2,8 +2,8 @@
 use Rattle.std.specs.Prelude.{ℕ, List}
 use Rattle.text.specs.Bytes.{pick}
 use Rattle.text.specs.Call.{and_then, text_check, passed}
-use Rattle.text.specs.declared.Answer.{Answer}
-use Rattle.text.specs.declared.Answer.TheVariants.{Refused}
+use Rattle.text.specs.Answers.{Answer}
+use Rattle.text.specs.Answers.{Refused}
 use Rattle.register.specs.Stored.{intact}
 
 -- K10: refusal 28

@@ -3,7 +3,7 @@
 #![tactic(auto)]
 
 ghost use Rattle.std.specs.Prelude.{◌≡◌, []};
-ghost use Rattle.text.specs.Call.{call_of};
+ghost use Rattle.text.specs.Call.{answered, call_of};
 ghost use Rattle.register.specs.Entries.{count_in};
 ghost use Rattle.register.specs.Stored.{entries, sound, intact};
 ghost use Rattle.register.specs.RegisterCalls.{add_call, withdraw_call, count_call};
@@ -11,17 +11,14 @@ ghost use Rattle.register.specs.Places.{Filled, entries_in};
 ghost use Rattle.changes.specs.Leaving.{leaving};
 ghost use Rattle.registers.specs.Guarding.{register_check};
 
-use register::{Found, Walked};
-use text::Answer;
-
-pub const DAMAGED_REGISTER: u32 = 28;
+use text::refusals::Refusal;
+use text::{Answer, PASSED, Success};
 
 // Do the bytes hold entries, none of which has a fault or repeats a form?
 fn is_register(register: &[u8]) -> bool
     ensures { result ≡ sound (entries register.now) }
 {
-    let walked = register::check_entries(register);
-    let Walked::Number(number) = walked else {
+    let Some(number) = register::check_entries(register) else {
         return false;
     };
     !repeats::repeats(register, number)
@@ -38,28 +35,20 @@ fn is_intact(buffer: &[u8], used: u64) -> bool
 
 // Refusals 1 and 5 of the form, then 28.
 fn check(form: &[u8], buffer: &[u8], used: u64) -> Answer
-    ensures { result ≡ register_check form.now buffer.now used }
+    ensures { answered result ≡ register_check form.now buffer.now used }
 {
-    let checked = text::check_text(form);
-    let Answer::Done {
-        first: _,
-        second: _,
-    } = checked
-    else {
-        return checked;
-    };
+    text::check_text(form)?;
     if is_intact(buffer, used) {
-        return changes::done(0, 0);
+        return Ok(PASSED);
     }
-    changes::refused(DAMAGED_REGISTER)
+    Err(Refusal::DamagedRegister)
 }
 
 fn count_of(form: &[u8], register: &[u8]) -> u64
     requires { Filled register.now }
     ensures { result ≡ count_in form.now (entries_in register.now) }
 {
-    let found = register::find(form, register);
-    let Found::At(at) = found else {
+    let Some(at) = register::find(form, register) else {
         return 0;
     };
     register::u32_at(register, at + 4) as u64
@@ -67,45 +56,27 @@ fn count_of(form: &[u8], register: &[u8]) -> u64
 
 // The count of a form.
 pub fn count(form: &[u8], buffer: &[u8], used: u64) -> Answer
-    ensures { call_of result [] ≡ count_call form.now buffer.now used }
+    ensures { call_of (answered result) [] ≡ count_call form.now buffer.now used }
 {
-    let checked = check(form, buffer, used);
-    let Answer::Done {
-        first: _,
-        second: _,
-    } = checked
-    else {
-        return checked;
-    };
-    changes::done(count_of(form, &buffer[..used as usize]), 0)
+    check(form, buffer, used)?;
+    Ok(Success {
+        first: count_of(form, &buffer[..used as usize]),
+        second: 0,
+    })
 }
 
 // One more of a form: its count, and the used length.
 pub fn add(form: &[u8], buffer: &mut [u8], used: u64) -> Answer
-    ensures { leaving result used buffer.new ≡ add_call form.now buffer.old used }
+    ensures { leaving (answered result) used buffer.new ≡ add_call form.now buffer.old used }
 {
-    let checked = check(form, buffer, used);
-    let Answer::Done {
-        first: _,
-        second: _,
-    } = checked
-    else {
-        return checked;
-    };
+    check(form, buffer, used)?;
     changes::add(form, buffer, used as usize)
 }
 
 // One less.
 pub fn withdraw(form: &[u8], buffer: &mut [u8], used: u64) -> Answer
-    ensures { leaving result used buffer.new ≡ withdraw_call form.now buffer.old used }
+    ensures { leaving (answered result) used buffer.new ≡ withdraw_call form.now buffer.old used }
 {
-    let checked = check(form, buffer, used);
-    let Answer::Done {
-        first: _,
-        second: _,
-    } = checked
-    else {
-        return checked;
-    };
+    check(form, buffer, used)?;
     changes::withdraw(form, buffer, used as usize)
 }

@@ -1,6 +1,6 @@
--- The filter: where a scan stands (`Scanned`), that a table which takes up a fingerprint loses none (`meets_set`), and parts (`share_within`).
+-- The filter: where a scan stands (`Scanned`), that a table which takes up a fingerprint loses none (`meets_set`), and parts (`share_below`).
 -- Assumes nothing.
-use Rattle.std.proofs.Common.{◌≡◌, ℕ, zero, suc, ◌+◌, ◌-◌, ◌*◌, ◌%◌, ◌^◌, ◌<◌, ◌≤◌, Bool, true, false, eqb, List, length, get_or, set, sym, refl, ap, ◌∙◌, subst, true≢false, mul-le-mul_right, arith, length-set, get_or-set_other, get_or-set_same, eq-eqb, ne_eqb, eqb-true}
+use Rattle.std.proofs.Common.{◌≡◌, ℕ, zero, suc, ◌+◌, ◌-◌, ◌*◌, ◌%◌, ◌<◌, ◌≤◌, Bool, true, false, eqb, List, length, get_or, set, sym, refl, ap, ◌∙◌, subst, true≢false, mul-le-mul_right, arith, length-set, get_or-set_other, get_or-set_same, eq-eqb, ne_eqb, eqb-true}
 use borrow.Author.Tests.{eqb-false}
 use Rattle.text.specs.Bytes.{pick}
 use Rattle.text.proofs.Bytes.{contrary}
@@ -11,12 +11,6 @@ use Rattle.repeats.specs.Filter.{meets, Seen, home_of, print_of, Suspected}
 
 share_product : (x parts : ℕ) → x < 0x100000000 → x * parts ≤ 0xFFFFFFFF * parts
 share_product x parts h = mul-le-mul_right parts (omega arith)
-
-pub share_fits : (x parts : ℕ) → x < 0x100000000 → parts ≤ 65536 → x * parts < 2 ^ 64
-share_fits x parts h k = omega (arith, share_product x parts h)
-
-pub share_within : (x parts : ℕ) → x < 0x100000000 → share x parts ≤ parts
-share_within x parts h = omega (arith, share_product x parts h)
 
 pub share_below : (x parts : ℕ) → x < 0x100000000 → 0 < parts → share x parts < parts
 share_below x parts h k = omega (arith, share_product x parts h)
@@ -32,11 +26,6 @@ pub record Scanned (table : List ℕ) (home print k : ℕ) : Type 0 where
   pub from : home ≤ k
   pub to : k ≤ home + 128
   pub is : (t : List ℕ) → ((j : ℕ) → j < k → get_or t j 0 ≡ get_or table j 0) → meets 128 t home print ≡ meets (home + 128 - k) t k print
-
-pub scanned_none : (table : List ℕ) (home print : ℕ) → Scanned table home print home
-scanned_none table home print =
-    let q : home + 128 - home ≡ 128 = omega arith in
-    record { from = omega arith; to = omega arith; is = λ t same. rw q refl }
 
 module _ {table : List ℕ} {home print k : ℕ} (s : Scanned table home print k) where
   abbrev same_as : List ℕ → Type 0

@@ -3,4 +3,3 @@ pub mod Hashing
 pub mod Clearing
 pub mod Before
 pub mod Sifting
-pub mod Sifted

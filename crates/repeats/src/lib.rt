@@ -10,10 +10,9 @@ ghost use Rattle.register.specs.Places.{Whole, Filled, entries_in};
 ghost use Rattle.repeats.specs.Hash.{mix, hash_short, hash_long, hash_of, share};
 ghost use Rattle.repeats.specs.Filter.{Seen, Suspected, form_at, Sifted, Passes};
 
-use register::Found;
 use text::load;
 
-// Both halves of the sum with the word, each times a number of its own.
+// Both halves of the sum with the word, each times a number of its own. With `hash.wrapping_add(word)` a call takes 1 to 2 % more instructions.
 fn mix(hash: u64, word: u64) -> u64
     ensures { result ≡ mix hash word }
 {
@@ -21,24 +20,18 @@ fn mix(hash: u64, word: u64) -> u64
     std::num::wrapping_add_u64(x % 0x100000000 * 0xfd7046c5, x / 0x100000000 * 0xb55a4f09)
 }
 
-fn wide(b: u8) -> u64
-    ensures { (result ≡ b) × (result < 0x100) }
-{
-    b as u64
-}
-
 // Up to 7 bytes as one word; the remainder drops none of them.
 fn hash_short(form: &[u8]) -> u64
     ensures { result ≡ hash_short form.now }
 {
     let mut word: u64 = 0;
-    for i in 0..form.len() {
-        word = word % 0x1000000000000 * 0x100 + wide(form[i]);
+    for &b in form {
+        word = word % 0x1000000000000 * 0x100 + u64::from(b);
     }
     mix(mix(form.len() as u64, word), 0x9e3779b97f4a7c15)
 }
 
-// By words of 8 bytes; the last one may overlap.
+// By words of 8 bytes; the last one may overlap. `step_by(8)` is slower, as in `register::same_long`.
 fn hash_long(form: &[u8]) -> u64
     requires { 8 ≤ length form.now }
     ensures { result ≡ hash_long form.now }
@@ -75,13 +68,12 @@ fn seen(table: &mut [u16], home: usize, fingerprint: u16) -> bool
     requires { (home + 128 ≤ length table.old) × (length table.old ≤ 65536) × (0 < fingerprint) }
     ensures { Seen table.old home fingerprint table.new result }
 {
-    for k in home..home + 128 {
-        let held = table[k];
-        if held == 0 {
-            table[k] = fingerprint;
+    for held in &mut table[home..home + 128] {
+        if *held == 0 {
+            *held = fingerprint;
             return false;
         }
-        if held == fingerprint {
+        if *held == fingerprint {
             return true;
         }
     }
@@ -104,11 +96,7 @@ fn stands_before(register: &[u8], at: usize) -> bool
     ensures { result ≡ not (absent (form_at register.now at) (entries_in (take at register.now))) }
 {
     let end = register::end_at(register, at);
-    let found = register::find(&register[at + 8..end], &register[..at]);
-    let Found::At(_) = found else {
-        return false;
-    };
-    true
+    register::find(&register[at + 8..end], &register[..at]).is_some()
 }
 
 // Is the form of the entry from `at` up to `end` of this class, and does it stand before it too? The table takes up a form of the class.
@@ -130,10 +118,7 @@ fn sift_entry(
     if share_of(hash / 0x100000000, classes) != class {
         return false;
     }
-    if suspect(table, hash) {
-        return stands_before(register, at);
-    }
-    false
+    suspect(table, hash) && stands_before(register, at)
 }
 
 // Does a form of this class of hashes repeat?
@@ -168,33 +153,24 @@ fn repeats_few(register: &[u8]) -> bool
     false
 }
 
-// With a table that takes little time to clear.
-fn repeats_some(register: &[u8]) -> bool
-    requires { Filled register.now }
-    ensures { result ≡ not (distinct (entries_in register.now)) }
-{
-    let mut table = [0u16; 1024];
-    repeats_in_class(register, &mut table, 0, 1)
-}
-
-// The largest local memory: 30,720 bytes.
-fn class_repeats(register: &[u8], class: u64, classes: u64) -> bool
+// With a table of its own, so large.
+fn class_repeats<const N: usize>(register: &[u8], class: u64, classes: u64) -> bool
     requires filled { Filled register.now }
-    requires classes_bound { classes ≤ 65536 }
+    requires in_bounds { (128 ≤ N) × (N ≤ 65536) × (classes ≤ 65536) }
     ensures { Passes register.now class classes result }
 {
-    let mut table = [0u16; 15360];
+    let mut table = [0u16; N];
     repeats_in_class(register, &mut table, class, classes)
 }
 
-// Class by class.
+// Class by class, with the largest local memory: 30,720 bytes.
 fn repeats_many(register: &[u8], classes: u64) -> bool
     requires filled { Filled register.now }
     requires classes_nonzero { (0 < classes) × (classes ≤ 65536) }
     ensures { result ≡ not (distinct (entries_in register.now)) }
 {
     for class in 0..classes {
-        if class_repeats(register, class, classes) {
+        if class_repeats::<15360>(register, class, classes) {
             return true;
         }
     }
@@ -220,7 +196,8 @@ pub fn repeats(register: &[u8], number: u64) -> bool
         return repeats_few(register);
     }
     if number <= 256 {
-        return repeats_some(register);
+        // A table that takes little time to clear.
+        return class_repeats::<1024>(register, 0, 1);
     }
     repeats_many(register, classes_of(number))
 }

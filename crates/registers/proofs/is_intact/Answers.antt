@@ -3,7 +3,6 @@ use mathlib.Core.Path.{sym}
 use native.Mathlib.Omega.{arith}
 use lib.Seq.{length-take-le}
 use Rattle.registers.proofs.Answering.{intact_past, intact_at}
-use borrow.Author.Rules.{rules}
 use Rattle.registers.proofs.is_intact.Goals as goal
 
 pub returns-then-buffer-used : goal.returns-then-buffer-used

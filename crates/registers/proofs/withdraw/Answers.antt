@@ -4,8 +4,11 @@ use mathlib.Core.List.{[]}
 use mathlib.Core.Bool.{true}
 use native.Mathlib.Omega.{arith}
 use lib.ListN.{take}
-use Rattle.text.specs.Call.{Called, called}
-use Rattle.text.specs.declared.Answer.{Answer}
+use Rattle.std.specs.Prelude.{Result, Err}
+use Rattle.std.proofs.Common.{rules}
+use Rattle.text.specs.Call.{answered, Called, called}
+use Rattle.text.specs.declared.Success.{Success}
+use Rattle.text.specs.declared.refusals.Refusal.{Refusal}
 use Rattle.register.specs.Entries.{withdraw}
 use Rattle.register.specs.Stored.{Held, intact, register}
 use Rattle.register.specs.RegisterCalls.{lent, leaves, of_held, withdraw_call}
@@ -13,39 +16,39 @@ use Rattle.register.specs.Places.{Sits, entries_in}
 use Rattle.register.proofs.Sits.{intact_sits, intact_holds}
 use Rattle.changes.specs.Leaving.{leaving}
 use Rattle.registers.proofs.Answering.{check_refused, check_done}
-use borrow.Author.Rules.{rules}
 use Rattle.registers.proofs.withdraw.Goals as goal
-use Rattle.registers.proofs.withdraw.Goals.{In-Done, Start}
+use Rattle.registers.proofs.withdraw.Goals.{In_ok-check, Start}
 
 -- what the call leaves, by what the buffer holds
 abbrev call : Start → Held → Called
 call s held = leaves s.args.buffer.now s.args.used (of_held (withdraw s.args.form.now) held)
 
-whole : (c : In-Done) → intact c.args.buffer.now c.args.used ≡ true
+whole : (c : In_ok-check) → intact c.args.buffer.now c.args.used ≡ true
 whole c =
     let a = c.args in
-    (check_done a.buffer.now a.used [] a.form.now (called 0 [] []) (sym c.check-checked.ensures ∙ c.in-Done.is)).0
+    (check_done a.buffer.now a.used [] a.form.now (called 0 [] []) (sym c.check.ensures ∙ ap answered c.in_ok-check.was)).0
 
-sits : (c : In-Done) → Sits c.args.buffer.now c.args.used (entries_in (take c.args.used c.args.buffer.now))
+sits : (c : In_ok-check) → Sits c.args.buffer.now c.args.used (entries_in (take c.args.used c.args.buffer.now))
 sits c =
     let a = c.args in
     intact_sits a.buffer.now a.used (λ k. omega (arith, c.slice_known-1.given k)) (whole c)
 
-pub returns-in_default : goal.returns-in_default
+pub returns-in_err-check : goal.returns-in_err-check
 unfolding withdraw_call
-returns-in_default c =
+returns-in_err-check c =
     let a = c.args in
-    let told = c.in_default.is in
-    ap (λ (r : Answer). leaving r a.used a.buffer.now) told
-    ∙ check_refused a.buffer.now a.used (lent a.buffer.now a.used) (call (goal.at.returns-in_default c).Start) refl a.form.now (sym c.check-checked.ensures ∙ told)
+    let told = ap answered c.in_err-check.was in
+    let handed : c.from_residual.result ≡ Err c.in_err-check.field-0.0 = search rules in
+    ap (λ (r : Result Success Refusal). leaving (answered r) a.used a.buffer.now) handed
+    ∙ check_refused a.buffer.now a.used (lent a.buffer.now a.used) (call (goal.at.returns-in_err-check c).Start) refl a.form.now (sym c.check.ensures ∙ told)
 
 pub withdraw-requires : goal.withdraw-requires
-withdraw-requires c = sits (goal.at.withdraw-requires c).In-Done
+withdraw-requires c = sits (goal.at.withdraw-requires c).In_ok-check
 
 pub returns : goal.returns
 unfolding withdraw_call
 returns c =
     let a = c.args in
-    c.withdraw.ensures ∙ sym (ap (call (goal.at.returns c).Start) (intact_holds a.buffer.now a.used (whole (goal.at.returns c).In-Done)))
+    c.withdraw.ensures ∙ sym (ap (call (goal.at.returns c).Start) (intact_holds a.buffer.now a.used (whole (goal.at.returns c).In_ok-check)))
     ∙ (check_done a.buffer.now a.used (lent a.buffer.now a.used) a.form.now (call (goal.at.returns c).Start (register a.buffer.now a.used))
-    (sym c.check-checked.ensures ∙ c.in-Done.is)).1
+    (sym c.check.ensures ∙ ap answered c.in_ok-check.was)).1

@@ -29,9 +29,6 @@ pub end_at-at-requires : goal.end_at-at-requires
 end_at-at-requires c =
     turn_whole (filled (goal.at.end_at-at-requires c).At-loop-at) c.loop-at.invariant.place (one (goal.at.end_at-at-requires c).In-loop-at)
 
-pub loop-at-smaller : goal.loop-at-smaller
-loop-at-smaller c = let t = one (goal.at.loop-at-smaller c).In-loop-at in omega (arith, c.end_at-at.ensures, t.size, t.fits)
-
 pub loop-at-preserved : goal.loop-at-preserved
 loop-at-preserved c =
     looking_on (filled (goal.at.loop-at-preserved c).At-loop-at) c.loop-at.invariant (one (goal.at.loop-at-preserved c).In-loop-at) c.end_at-at.ensures

@@ -26,9 +26,6 @@ sift_entry-requires c =
     let place = c.loop-at.invariant.1.looking.place in
     record { whole = turn_whole (filled (goal.at.sift_entry-requires c).At-loop-at) place (one (goal.at.sift_entry-requires c).In-loop-at); filled = (front_filled (filled (goal.at.sift_entry-requires c).At-loop-at) place).1; end_value = c.end_at-end.ensures; in_bounds = (omega (arith, c.requires.in_bounds, n), omega (arith, c.requires.in_bounds, n), c.requires.in_bounds.2) }
 
-pub shape_of-table-then-sift_entry : goal.shape_of-table-then-sift_entry
-shape_of-table-then-sift_entry c = c.sift_entry.ensures.size ∙ c.loop-at.invariant.0
-
 pub returns-then-sift_entry : goal.returns-then-sift_entry
 returns-then-sift_entry c =
     record {
@@ -36,19 +33,11 @@ returns-then-sift_entry c =
       clear = λ p. contrary refl p;
     }
 
-pub loop-at-smaller : goal.loop-at-smaller
-loop-at-smaller c =
-    let t = one (goal.at.loop-at-smaller c).In-loop-at in
-    omega (arith, c.end_at-end.ensures, t.size, t.fits)
-
 pub loop-at-preserved : goal.loop-at-preserved
 loop-at-preserved c =
     let a = c.args in
     let s = subst (Sifted a.register.now c.loop-at.at a.class a.classes c.loop-at.table _) c.if-sift_entry.false c.sift_entry.ensures in
     (s.size ∙ c.loop-at.invariant.0, sifting_on (filled (goal.at.loop-at-preserved c).At-loop-at) c.loop-at.invariant.1 (one (goal.at.loop-at-preserved c).In-loop-at) s c.end_at-end.ensures)
-
-pub shape_of-table : goal.shape_of-table
-shape_of-table c = c.loop-at.invariant.0
 
 pub returns : goal.returns
 returns c =
