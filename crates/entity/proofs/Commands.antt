@@ -13,9 +13,9 @@ use lib.Seq.{drop-cons, drop-drop}
 use borrow.Author.Tests.{lt-ltb, le-ltb, ne_eqb, ltb-true, ltb-false, eqb-true}
 use Rattle.text.specs.Bytes.{pick}
 use Rattle.text.specs.Call.{and_then, passed}
-use Rattle.text.specs.declared.Answer.{Answer}
-use Rattle.text.specs.declared.Answer.TheVariants.{Done, Refused}
-use Rattle.entity.specs.Table.{Declaration, marked, mark_size, declares, declaration, declarations_from, runs_past, ill_formed, declaration_check, end_check, commands_check, declarations, size_check, table_check, operands}
+use Rattle.text.specs.Answers.{Answer}
+use Rattle.text.specs.Answers.{Done, Refused}
+use Rattle.entity.specs.Table.{Declaration, marked, mark_size, declares, declaration, declarations_from, runs_past, ill_formed, declaration_check, end_check, commands_check, size_check, table_check, operands}
 use Rattle.entity.specs.Steps.{command_size, declaration_at, command_check, IsDone}
 
 -- ---- answers that refuse nothing

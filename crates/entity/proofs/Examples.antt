@@ -2,7 +2,7 @@
 use mathlib.Core.Path.{◌≡◌, refl}
 use mathlib.Core.List.{List, [], ◌∷◌}
 use Prim.Native.Nat.{ℕ}
-use Rattle.text.specs.declared.Answer.TheVariants.{Done, Refused}
+use Rattle.text.specs.Answers.{Done, Refused}
 use Rattle.entity.specs.Table.{table_check}
 use Rattle.entity.specs.Binding.{text, predefined, external, unknown, binding}
 

@@ -9,13 +9,13 @@ use native.Mathlib.Nat.{le_refl}
 use lib.Dec.{eqb, ltb}
 use lib.ListN.{length, get_or, take, drop, length-drop, drop_of_length-le}
 use lib.Seq.{drop-cons, ext_get_or, take_all}
-use borrow.Author.Count.{below_none, below_more}
+use borrow.Author.Count.{below_none}
 use borrow.Author.Tests.{ne_eqb, eqb-true, ltb-true, ltb-false}
 use Rattle.text.specs.Bytes.{pick, same_bytes}
 use Rattle.text.specs.Blocks.{word_at}
 use Rattle.text.specs.Call.{and_then}
-use Rattle.text.specs.declared.Answer.{Answer}
-use Rattle.text.specs.declared.Answer.TheVariants.{Done, Refused}
+use Rattle.text.specs.Answers.{Answer}
+use Rattle.text.specs.Answers.{Done, Refused}
 use Rattle.text.proofs.Bytes.{equal_same, or_left}
 use Rattle.entity.specs.Table.{little_endian, part, Declaration, mark_size, declares, declaration, operands, name_of, text_of, declarations_from, declarations, body_past, runs_past, ill_formed, declaration_check, end_check, commands_check, size_check, table_check, ValidTable}
 use Rattle.entity.specs.Binding.{text, body_bound, binding_in, binding, predefined_of, bound_to, Lies}
@@ -34,10 +34,6 @@ use Rattle.entity.proofs.Words.{word_bytes, same_u32}
 module _ (pool : List ℕ) (start : ℕ) (name : List ℕ) where
   pub agree_none : Agree pool start name 0
   agree_none = record { fits = zero-le; agree = below_none (λ k. get_or pool (start + k) 0 ≡ get_or name k 0) }
-
-  -- one more; how many these are is asked by itself, so that a wrong number is refused as one
-  pub agree_more : (i : ℕ) {j : ℕ} → Agree pool start name i → i < length name → get_or pool (start + i) 0 ≡ get_or name i 0 → j ≡ i + 1 → Agree pool start name j
-  agree_more i a h e is = rw is (record { fits = omega arith; agree = below_more (λ k. get_or pool (start + k) 0 ≡ get_or name k 0) i a.agree e })
 
   -- eight more, by one word
   pub agree_word : (i : ℕ) → Agree pool start name i → i + 8 ≤ length name → ((k : ℕ) → get_or pool k 0 < 0x100) → ((k : ℕ) → get_or name k 0 < 0x100)
@@ -82,21 +78,10 @@ module _ (pool : List ℕ) (start : ℕ) (name : List ℕ) where
 pub same_part : (pool name : List ℕ) {start n s m : ℕ} {x : Bool} → start ≡ s → n ≡ m → same_bytes (part pool start n) name ≡ x → same_bytes (part pool s m) name ≡ x
 same_part pool name p q e = sym (ap₂ (λ (a b : ℕ). same_bytes (part pool a b) name) p q) ∙ e
 
--- ---- three slices, handed on as parts of themselves
+-- ---- a slice, handed on as a part of itself
 
 pub whole_part : (l : List ℕ) → take (length l) l ≡ l
 whole_part l = take_all (length l) l (le_refl (length l))
-
-module _ (P : List ℕ → List ℕ → List ℕ → Type 0) (a b c : List ℕ) where
-  pub as_parts : P a b c → P (take (length a) a) (take (length b) b) (take (length c) c)
-  as_parts h =
-      subst (λ (x : List ℕ). P x (take (length b) b) (take (length c) c)) (sym (whole_part a))
-      (subst (λ (x : List ℕ). P a x (take (length c) c)) (sym (whole_part b)) (subst (λ (x : List ℕ). P a b x) (sym (whole_part c)) h))
-
-  pub of_parts : P (take (length a) a) (take (length b) b) (take (length c) c) → P a b c
-  of_parts h =
-      subst (λ (x : List ℕ). P a b x) (whole_part c)
-      (subst (λ (x : List ℕ). P a x (take (length c) c)) (whole_part b) (subst (λ (x : List ℕ). P x (take (length b) b) (take (length c) c)) (whole_part a) h))
 
 -- ---- commands
 

@@ -1,13 +1,13 @@
 -- Names of two to four bytes, by the tests of the code. Assumes nothing.
 use mathlib.Core.Path.{◌≡◌, refl, ap, ap₂, sym, ◌∙◌}
-use mathlib.Core.Bool.{Bool, true, false, ◌&&◌}
+use mathlib.Core.Bool.{Bool, true, false}
 use mathlib.Core.List.{List, [], ◌∷◌, ◌++◌}
 use Prim.Native.Nat.{ℕ, ◌+◌, ◌*◌, ◌<◌}
 use native.Mathlib.Omega.{arith}
-use lib.Dec.{eqb, lit<}
+use lib.Dec.{lit<}
 use lib.ListN.{length, get_or}
 use Rattle.text.specs.Bytes.{same_bytes}
-use Rattle.text.proofs.Bytes.{same_equal, and_true}
+use Rattle.text.proofs.Bytes.{same_equal}
 use Rattle.entity.specs.Table.{little_endian}
 use Rattle.entity.specs.Binding.{predefined_of, bound_to}
 use Rattle.entity.specs.declared.Binding.TheVariants.{Predefined, Unknown}
@@ -24,23 +24,6 @@ not_same a b other = go (same_bytes a b) refl
 -- names of different lengths
 pub unlike : (a b : List ℕ) → (length a ≡ length b → ⊥) → same_bytes a b ≡ false
 unlike a b other = not_same a b (λ e. other (ap length e))
-
--- `&` groups to the left, the definition to the right
-two : (t u : Bool) → t && u ≡ t && (u && true)
-two true u = sym (and_true u)
-two false u = refl
-
-three : (t u v : Bool) → t && u && v ≡ t && (u && (v && true))
-three true u v = two u v
-three false u v = refl
-
-pub same_three : (name : List ℕ) (a b c : ℕ) → length name ≡ 3
-    → eqb (get_or name 0 0) a && eqb (get_or name 1 0) b && eqb (get_or name 2 0) c ≡ same_bytes name (a ∷ b ∷ c ∷ [])
-same_three [] a b c e = absurd (omega arith)
-same_three (x ∷ []) a b c e = absurd (omega arith)
-same_three (x ∷ y ∷ []) a b c e = absurd (omega arith)
-same_three (x ∷ y ∷ z ∷ []) a b c e = three (eqb x a) (eqb y b) (eqb z c)
-same_three (x ∷ y ∷ z ∷ w ∷ rest) a b c e = absurd (omega arith)
 
 -- two and four bytes as one number
 two_bytes : (a b : ℕ) → a < 0x100 → (name : List ℕ) → ((k : ℕ) → get_or name k 0 < 0x100) → length name ≡ 2 → little_endian name 0 2 ≡ a + b * 0x100 → name ≡ a ∷ b ∷ []

@@ -10,12 +10,12 @@ use borrow.Author.Tests.{ltb-true, ltb-false, not-false, le-leb}
 use Rattle.text.specs.Bytes.{pick, same_bytes}
 use Rattle.text.specs.Utf8.{well_formed, WellFormed}
 use Rattle.text.specs.Call.{and_then, passed}
-use Rattle.text.specs.declared.Answer.{Answer}
-use Rattle.text.specs.declared.Answer.TheVariants.{Done, Refused}
+use Rattle.text.specs.Answers.{Answer}
+use Rattle.text.specs.Answers.{Done, Refused}
 use Rattle.text.proofs.Bytes.{pick_by, pick_both, or_right}
 use Rattle.text.proofs.Utf8.{tested, ascii_well_formed}
 use Rattle.entity.specs.Table.{little_endian, part, Body, inside, outside, Declaration, mark_size, declares, declaration, name_of, text_of, declarations_from, declarations, runs_past, ill_formed, declaration_check, end_check, commands_check, size_check, table_check, ValidTable, operands}
-use Rattle.entity.specs.Binding.{Bound, text, predefined, unknown, predefined_of, body_bound, binding_in, binding, ShortBound, GoodBound}
+use Rattle.entity.specs.Binding.{Bound, predefined, unknown, predefined_of, body_bound, binding_in, binding, ShortBound, GoodBound}
 use Rattle.entity.specs.Steps.{IsDone}
 use Rattle.entity.proofs.Commands.{is_done, passes, head_checked, long_list}
 use Rattle.entity.proofs.Lookup.{table_done}

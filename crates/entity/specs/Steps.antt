@@ -3,8 +3,8 @@
 use Rattle.std.specs.Prelude.{◌≡◌, ◌≢◌, ℕ, suc, ◌+◌, ◌≤◌, ◌<◌, List, length, get_or, drop, ltb}
 use Rattle.text.specs.Bytes.{pick}
 use Rattle.text.specs.Call.{passed}
-use Rattle.text.specs.declared.Answer.{Answer}
-use Rattle.text.specs.declared.Answer.TheVariants.{Done, Refused}
+use Rattle.text.specs.Answers.{Answer}
+use Rattle.text.specs.Answers.{Done, Refused}
 use Rattle.entity.specs.declared.Binding.{Binding}
 use Rattle.entity.specs.declared.Binding.TheVariants.{Text, Predefined, External, Unknown}
 use Rattle.entity.specs.declared.Referent.{Referent}

@@ -4,8 +4,8 @@ use Rattle.std.specs.Prelude.{ℕ, zero, suc, ◌+◌, ◌*◌, ◌≡◌, Bool,
 use Rattle.text.specs.Bytes.{pick}
 use Rattle.text.specs.Utf8.{well_formed}
 use Rattle.text.specs.Call.{and_then, passed}
-use Rattle.text.specs.declared.Answer.{Answer}
-use Rattle.text.specs.declared.Answer.TheVariants.{Done, Refused}
+use Rattle.text.specs.Answers.{Answer}
+use Rattle.text.specs.Answers.{Done, Refused}
 
 -- Entity table: operands of fixed width, little-endian; `width` bytes from `at` on
 unfoldable pub little_endian : List ℕ → ℕ → ℕ → ℕ

@@ -33,38 +33,38 @@ pub enum Binding {
     Unknown,
 }
 
-pub fn wide(b: u8) -> usize
-    ensures { (result ≡ b) × (result < 0x100) }
-{
-    b as usize
-}
+// What the commands of a list begin with, and how wide the first two are.
+pub const END: u8 = 0;
+
+pub const TEXT: u8 = 1;
+
+pub const EXTERNAL: u8 = 2;
+
+pub const MARK: u8 = 3;
+
+pub const TEXT_SIZE: usize = 12;
+
+pub const EXTERNAL_SIZE: usize = 6;
 
 pub fn u16_at(bytes: &[u8], i: usize) -> usize
     requires { i + 2 ≤ length bytes.now }
     ensures { (result ≡ little_endian bytes.now i 2) × (result < 0x10000) }
 {
-    wide(bytes[i]) + wide(bytes[i + 1]) * 0x100
+    usize::from(u16::from_le_bytes([bytes[i], bytes[i + 1]]))
 }
 
-// Written as this sum it is compiled to one load.
 pub fn u32_at(bytes: &[u8], i: usize) -> usize
     requires { i + 4 ≤ length bytes.now }
     ensures { (result ≡ little_endian bytes.now i 4) × (result < 0x100000000) }
 {
-    wide(bytes[i])
-        + wide(bytes[i + 1]) * 0x100
-        + wide(bytes[i + 2]) * 0x10000
-        + wide(bytes[i + 3]) * 0x1000000
+    u32::from_le_bytes([bytes[i], bytes[i + 1], bytes[i + 2], bytes[i + 3]]) as usize
 }
 
 // Are the texts of the list past line ends?
 pub fn is_marked(list: &[u8]) -> bool
     ensures { result ≡ marked list.now }
 {
-    if list.len() == 0 {
-        return false;
-    }
-    list[0] == 3
+    list.len() != 0 && list[0] == MARK
 }
 
 // Where the list's commands begin.
@@ -80,22 +80,20 @@ pub fn mark_size(list: &[u8]) -> usize
 pub fn command_size(command: u8) -> usize
     ensures { (result ≡ command_size command) × (result ≤ 12) }
 {
-    if command == 1 {
-        return 12;
+    if command == TEXT {
+        return TEXT_SIZE;
     }
-    6
+    EXTERNAL_SIZE
 }
 
 pub fn is_three(name: &[u8], a: u8, b: u8, c: u8) -> bool
     ensures { result ≡ same_bytes name.now (a ∷ b ∷ c ∷ []) }
 {
-    if name.len() != 3 {
-        return false;
-    }
-    (name[0] == a) & (name[1] == b) & (name[2] == c)
+    name == [a, b, c].as_slice()
 }
 
-// One of the five, or nothing, whatever the pool. Two and four bytes are tested as one number, the first byte lowest.
+// One of the five, or nothing, whatever the pool. Two and four bytes are tested as one number, the first byte lowest: by `match name` each
+// name took 4 instructions more.
 pub fn resolve_xml_entity(name: &[u8]) -> Binding
     ensures by_index { (pool : List ℕ) → bound_to pool result ≡ predefined_of name.now }
     ensures by_index_2 { (pool : List ℕ) → Lies pool result }
@@ -192,24 +190,39 @@ pub fn text_length(list: &[u8], at: usize) -> usize
     u16_at(list, at + 10)
 }
 
+// Is this the part of the pool from `start` on that is as long as the name? By eights.
+fn same_name(pool: &[u8], start: usize, name: &[u8]) -> bool
+    requires { start + length name.now ≤ length pool.now }
+    ensures { result ≡ same_bytes (part pool.now start (length name.now)) name.now }
+{
+    for k in same_words(pool, start, name)..name.len() {
+        if pool[start + k] != name[k] {
+            return false;
+        }
+    }
+    true
+}
+
+// The same for a short name, byte by byte.
+pub fn same_short(pool: &[u8], start: usize, name: &[u8]) -> bool
+    requires { start + length name.now ≤ length pool.now }
+    ensures { result ≡ same_bytes (part pool.now start (length name.now)) name.now }
+{
+    for k in 0..name.len() {
+        if pool[start + k] != name[k] {
+            return false;
+        }
+    }
+    true
+}
+
 // Is this the name of the command at `at`? Its start and length are at the same places in both kinds.
 pub fn is_named(list: &[u8], pool: &[u8], at: usize, name: &[u8]) -> bool
     requires at_in_bounds { at + 6 ≤ length list.now }
     requires at_in_bounds_2 { little_endian list.now (at + 1) 4 + get_or list.now (at + 5) 0 ≤ length pool.now }
     ensures { result ≡ same_bytes (command_name list.now pool.now at) name.now }
 {
-    if wide(list[at + 5]) != name.len() {
-        return false;
-    }
-    let start = u32_at(list, at + 1);
-    let mut i = same_words(pool, start, name);
-    while i < name.len() {
-        if pool[start + i] != name[i] {
-            return false;
-        }
-        i += 1;
-    }
-    true
+    usize::from(list[at + 5]) == name.len() && same_name(pool, u32_at(list, at + 1), name)
 }
 
 // What the command at `at`, at which a lookup stops, gives its name.
@@ -217,7 +230,7 @@ pub fn referent_at(list: &[u8], at: usize) -> Referent
     requires { (at < length list.now) × (get_or list.now at 0 ≡ 1 → at + 12 ≤ length list.now) }
     ensures { ReferentAt list.now at result }
 {
-    if list[at] == 1 {
+    if list[at] == TEXT {
         let start = text_start(list, at);
         return Referent::Text {
             command: at,
@@ -228,91 +241,58 @@ pub fn referent_at(list: &[u8], at: usize) -> Referent
     Referent::External
 }
 
-// What a name refers to, from `from` on, where commands of both kinds stand: each is passed over by its own width. What it gives its name is
-// decoded once, outside the loop over the bytes.
+// What a name refers to, from `from` on, where commands of both kinds stand: each is passed over by its own width.
 fn find_later(list: &[u8], pool: &[u8], name: &[u8], from: usize) -> Referent
     requires { Here list.now pool.now name.now from }
     ensures { Refers list.now pool.now name.now result }
 {
     let mut at = from;
-    'commands: loop {
-        if list[at] == 0 {
-            break 'commands plain_referent(name);
-        }
-        let length = wide(list[at + 5]);
-        if length != name.len() {
-            at += command_size(list[at]);
-            continue 'commands;
-        }
-        let first = u32_at(list, at + 1);
-        if ends_differ(pool, first, name) {
-            at += command_size(list[at]);
-            continue 'commands;
-        }
-        let found = referent_at(list, at);
-        let mut i = same_words(pool, first, name);
-        'bytes: loop {
-            if i == length {
-                break 'commands found;
+    while list[at] != END {
+        if usize::from(list[at + 5]) == name.len() {
+            let first = u32_at(list, at + 1);
+            if !ends_differ(pool, first, name) && same_name(pool, first, name) {
+                return referent_at(list, at);
             }
-            if pool[first + i] != name[i] {
-                break 'bytes;
-            }
-            i += 1;
         }
         at += command_size(list[at]);
     }
+    plain_referent(name)
 }
 
-// What a name refers to in a list without mark: the first command that has it, else one of the five, else nothing. Commands 1 have a loop of their own, as
-// most lists have no others; that the list is over is seen by its length, so that the loop keeps no byte for a second test. A command's
-// text is decoded once, outside the loop over the bytes.
+// What a name refers to in a list without mark: the first command that has it, else one of the five, else nothing. Commands 1 have a loop of
+// their own, as most lists have no others; that the list is over is seen by its length, so that the loop keeps no byte for a second test.
+// Each test has its own step, and the text is decoded before the bytes are compared: else each name takes an instruction or two more, of 11.
 fn find_unmarked(list: &[u8], pool: &[u8], name: &[u8]) -> Referent
     requires { Here list.now pool.now name.now 0 }
     ensures { Refers list.now pool.now name.now result }
 {
     let mut at: usize = 0;
-    'commands: loop {
-        if list[at] != 1 {
-            if at + 1 == list.len() {
-                break 'commands plain_referent(name);
-            }
-            // As parts: slices that are handed on whole are copied at entry, by loads that wait for the caller's stores.
-            break 'commands find_later(
-                &list[..list.len()],
-                &pool[..pool.len()],
-                &name[..name.len()],
-                at,
-            );
-        }
-        let length = wide(list[at + 5]);
-        if length != name.len() {
-            at += 12;
-            continue 'commands;
+    while list[at] == TEXT {
+        if usize::from(list[at + 5]) != name.len() {
+            at += TEXT_SIZE;
+            continue;
         }
         let start = u32_at(list, at + 1);
         if ends_differ(pool, start, name) {
-            at += 12;
-            continue 'commands;
+            at += TEXT_SIZE;
+            continue;
         }
-        let text = text_start(list, at);
-        let end = text + text_length(list, at);
-        let mut i = same_words(pool, start, name);
-        'bytes: loop {
-            if i == length {
-                break 'commands Referent::Text {
-                    command: at,
-                    start: text,
-                    end,
-                };
-            }
-            if pool[start + i] != name[i] {
-                break 'bytes;
-            }
-            i += 1;
+        let found = referent_at(list, at);
+        if same_name(pool, start, name) {
+            return found;
         }
-        at += 12;
+        at += TEXT_SIZE;
     }
+    if at + 1 == list.len() {
+        return plain_referent(name);
+    }
+    // As parts: slices that are handed on whole are copied at entry, by loads that wait for the caller's stores.
+    find_later(
+        &list[..list.len()],
+        &pool[..pool.len()],
+        &name[..name.len()],
+        at,
+    )
 }
 
 // The same in a list that may be marked: the rest after the mark is searched as a list of its own. A loop that begins at 0 or 1 takes 13
@@ -341,18 +321,16 @@ pub fn find_entity(list: &[u8], pool: &[u8], name: &[u8]) -> Referent
 }
 
 // What a name is bound to, by what it refers to.
-pub fn binding_of(referent: Referent) -> Binding
-    ensures { (list pool name : List ℕ) → Refers list pool name referent → (bound_to pool result ≡ binding list pool name) × Lies pool result }
-{
-    match referent {
-        Referent::Text {
-            command: _,
-            start,
-            end,
-        } => Binding::Text { start, end },
-        Referent::Predefined(b) => Binding::Predefined(b),
-        Referent::External => Binding::External,
-        Referent::Unknown => Binding::Unknown,
+impl From<Referent> for Binding {
+    ghost from_gives = { λ referent bound. (list pool name : List ℕ) → Refers list pool name referent → (bound_to pool bound ≡ binding list pool name) × Lies pool bound };
+
+    fn from(referent: Referent) -> Binding {
+        match referent {
+            Referent::Text { start, end, .. } => Binding::Text { start, end },
+            Referent::Predefined(b) => Binding::Predefined(b),
+            Referent::External => Binding::External,
+            Referent::Unknown => Binding::Unknown,
+        }
     }
 }
 
@@ -362,7 +340,7 @@ pub fn resolve_entity(list: &[u8], pool: &[u8], name: &[u8]) -> Binding
     ensures result_value { bound_to pool.now result ≡ binding list.now pool.now name.now }
     ensures lies { Lies pool.now result }
 {
-    binding_of(find_entity(list, pool, name))
+    Binding::from(find_entity(list, pool, name))
 }
 
 // The same for a short name, whose end is not worth a test of its own: small enough to be compiled into each walk.
@@ -372,35 +350,24 @@ pub fn resolve_short(list: &[u8], pool: &[u8], name: &[u8]) -> Binding
     ensures lies { Lies pool.now result }
 {
     let mut at = mark_size(list);
-    'commands: loop {
-        if list[at] != 1 {
-            if list[at] == 2 {
-                break 'commands binding_of(find_later(
-                    &list[..list.len()],
-                    &pool[..pool.len()],
-                    &name[..name.len()],
-                    at,
-                ));
-            }
-            break 'commands resolve_xml_entity(name);
+    while list[at] == TEXT {
+        if usize::from(list[at + 5]) != name.len() {
+            at += TEXT_SIZE;
+            continue;
         }
-        let length = wide(list[at + 5]);
-        if length != name.len() {
-            at += 12;
-            continue 'commands;
-        }
-        let from = u32_at(list, at + 1);
         let bound = text_at(list, at);
-        let mut k: usize = 0;
-        'bytes: loop {
-            if k == length {
-                break 'commands bound;
-            }
-            if pool[from + k] != name[k] {
-                break 'bytes;
-            }
-            k += 1;
+        if same_short(pool, u32_at(list, at + 1), name) {
+            return bound;
         }
-        at += 12;
+        at += TEXT_SIZE;
     }
+    if list[at] == EXTERNAL {
+        return Binding::from(find_later(
+            &list[..list.len()],
+            &pool[..pool.len()],
+            &name[..name.len()],
+            at,
+        ));
+    }
+    resolve_xml_entity(name)
 }

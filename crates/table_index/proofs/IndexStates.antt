@@ -83,9 +83,6 @@ module _ (list pool : List ℕ) where
     pub set_state : state_of (set words 0 v) ≡ v
     set_state = get_or-set_same words 0 v 0 (omega (arith, s.least))
 
-    pub set_sized : Sized (set words 0 v)
-    set_sized = sized_same set_size s
-
     -- all commands are in the slots
     pub ready_built : v ≡ built_state → Whole list pool words → Ready list pool (set words 0 v)
     ready_built e w =

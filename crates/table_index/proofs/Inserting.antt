@@ -16,8 +16,8 @@ home_name list pool at words {start} {end} s e h f =
     f ∙ ap (λ (x : ℕ). home_at x words) (h ∙ ap₂ (λ (a b : ℕ). hash_of (take a (drop b pool))) n s)
 
 -- the first empty slot is empty; which it is is asked by itself, so that a wrong one is refused as a number
-pub first_vacant : {words : List ℕ} {from k s : ℕ} → FirstEmpty words from k → k ≢ 16 → s ≡ from + k → Vacant words s
-first_vacant {words} f other e = record { is = ap (slot_of words) e ∙ f.empty (omega (arith, f.within, other)) }
+pub first_vacant : {words : List ℕ} {from k s : ℕ} → FirstEmpty words from k → k < 16 → s ≡ from + k → Vacant words s
+first_vacant {words} f below e = record { is = ap (slot_of words) e ∙ f.empty below }
 
 module _ (list pool : List ℕ) (at : ℕ) (words : List ℕ) {from k : ℕ} (is : from ≡ home_of (length words) (command_name list pool at)) (f : FirstEmpty words from k) where
   abbrev home : List ℕ → ℕ
@@ -29,11 +29,11 @@ module _ (list pool : List ℕ) (at : ℕ) (words : List ℕ) {from k : ℕ} (is
   pub inserted_vain : k ≡ 16 → Inserted list pool at words words
   inserted_vain q = record { size = refl; more = λ cs p x. index_vain list pool home (slot_of words) at cs p x (λ i l. full i (omega (arith, q, l))) }
 
-  pub inserted_more : k ≢ 16 → {new : List ℕ} {s : ℕ} → s ≡ from + k → FilledAt (slot_of words) (slot_of new) s at → length new ≡ length words
+  pub inserted_more : k < 16 → {new : List ℕ} {s : ℕ} → s ≡ from + k → FilledAt (slot_of words) (slot_of new) s at → length new ≡ length words
       → Inserted list pool at words new
-  inserted_more other {new} {s} place filled size =
+  inserted_more below {new} {s} place filled size =
       record {
         size = size;
-        more = λ cs p x. index_more list pool home (slot_of words) at cs p x k (omega (arith, f.within, other)) full (slot_of new)
+        more = λ cs p x. index_more list pool home (slot_of words) at cs p x k below full (slot_of new)
             (subst (λ (n : ℕ). FilledAt (slot_of words) (slot_of new) n at) (place ∙ ap (λ (n : ℕ). n + k) is) filled);
       }

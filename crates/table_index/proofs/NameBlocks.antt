@@ -1,10 +1,9 @@
 -- A name compared by blocks: what a block that agrees adds (`agree_block`), and one that does not tells (`differ_block`); a block byte by byte
 -- (`Differing`) or as one number. Assumes nothing.
-use Rattle.std.proofs.Common.{◌≡◌, ℕ, ◌+◌, ◌-◌, ◌<◌, ◌≤◌, Bool, true, false, not, ◌||◌, eqb, ltb, List, length, get_or, sym, refl, ap, ◌∙◌, subst, true≢false, le_refl, add-zero, arith, below_none, below_more, ltb-false, ltb-true, eqb-true}
-use borrow.Author.Tests.{eqb-false, not-true, not-false}
+use Rattle.std.proofs.Common.{◌≡◌, ℕ, ◌+◌, ◌-◌, ◌<◌, ◌≤◌, Bool, true, false, eqb, ltb, List, length, get_or, sym, refl, ap, ◌∙◌, subst, le_refl, add-zero, arith, ltb-false, ltb-true, eqb-true}
+use borrow.Author.Tests.{eqb-false}
 use Rattle.text.specs.Bytes.{same_bytes}
 use Rattle.text.specs.Blocks.{word_at}
-use Rattle.text.proofs.Bytes.{or_left, or_right}
 use Rattle.entity.specs.Table.{part}
 use Rattle.entity.specs.Steps.{Agree}
 use Rattle.entity.proofs.Lookup.{agree_none, same_all}
@@ -80,25 +79,3 @@ module _ (pool : List ℕ) (start : ℕ) (name : List ℕ) (pools : (k : ℕ) �
 pub record Differing (t : List ℕ) (i : ℕ) (u : List ℕ) (j k : ℕ) (differ : Bool) : Type 0 where
   pub same : differ ≡ false → Alike t i u j k
   pub other : differ ≡ true → Alike t i u j k → ⊥
-
-module _ (t : List ℕ) (i : ℕ) (u : List ℕ) (j : ℕ) where
-  pub differing_none : Differing t i u j 0 false
-  differing_none = record { same = λ e. below_none (λ k. get_or t (i + k) 0 ≡ get_or u (j + k) 0); other = λ e. absurd (true≢false (sym e)) }
-
-  pub differing_more : (k : ℕ) (d : Bool) → Differing t i u j k d → Differing t i u j (k + 1) (d || not (eqb (get_or t (i + k) 0) (get_or u (j + k) 0)))
-  differing_more k d s = record { same = same_more; other = other_more d s }
-    where
-      a : ℕ
-      a = get_or t (i + k) 0
-
-      b : ℕ
-      b = get_or u (j + k) 0
-
-      same_more : d || not (eqb a b) ≡ false → Alike t i u j (k + 1)
-      same_more e =
-          below_more (λ n. get_or t (i + n) 0 ≡ get_or u (j + n) 0) k (s.same (or_left d (not (eqb a b)) e))
-          (eqb-true a b (not-false (eqb a b) (or_right d (not (eqb a b)) e)))
-
-      other_more : (x : Bool) → Differing t i u j k x → x || not (eqb a b) ≡ true → Alike t i u j (k + 1) → ⊥
-      other_more true y e all = y.other refl (λ n l. all n (omega (arith, l)))
-      other_more false y e all = eqb-false a b (not-true (eqb a b) e) (all k (omega arith))

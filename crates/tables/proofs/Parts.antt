@@ -11,7 +11,7 @@ use borrow.Author.Tests.{eq-eqb, ne_eqb, leb-true, le-ltb, not-true}
 use Rattle.text.specs.Utf8.{utf8_end, well_formed}
 use Rattle.text.specs.Call.{passed}
 use Rattle.text.specs.Blocks.{Ascii}
-use Rattle.text.specs.declared.Answer.TheVariants.{Refused}
+use Rattle.text.specs.Answers.{Refused}
 use Rattle.text.proofs.Bytes.{contrary, and_left, and_right}
 use Rattle.text.proofs.Utf8.{tested, testable}
 use Rattle.text.proofs.Blocks.{ascii_inside}

@@ -3,8 +3,8 @@
 use Rattle.std.specs.Prelude.{◌≡◌, ℕ, suc, ◌+◌, ◌≤◌, List, [], ◌∷◌, length, drop, eqb}
 use Rattle.text.specs.Bytes.{pick}
 use Rattle.text.specs.Call.{and_then}
-use Rattle.text.specs.declared.Answer.{Answer}
-use Rattle.text.specs.declared.Answer.TheVariants.{Done, Refused}
+use Rattle.text.specs.Answers.{Answer}
+use Rattle.text.specs.Answers.{Done, Refused}
 use Rattle.entity.specs.Table.{declarations_from, end_check, commands_check, table_check}
 
 -- what a list from `at` on answers where it does not begin with a declaration, after so many of them

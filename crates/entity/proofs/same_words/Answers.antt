@@ -1,7 +1,6 @@
 -- `same_words` keeps `Agree`, eight bytes further at each turn (`agree_word`).
 use mathlib.Core.Path.{sym, ◌∙◌}
 use native.Mathlib.Omega.{arith}
-use Prim.Native.Nat.{◌-◌}
 use Rattle.entity.proofs.Lookup.{agree_none, agree_word}
 use Rattle.entity.proofs.same_words.Goals as goal
 

@@ -1,9 +1,8 @@
 -- `first_look_up`: the plain lookup answers. The state that it counts stays below the two others (`ready_counted`), or the index is built of empty slots.
-use Rattle.std.proofs.Common.{◌≡◌, ℕ, ◌+◌, ◌<◌, ◌≤◌, List, length, get_or, refl, ◌∙◌, le_refl, arith, length-set}
+use Rattle.std.proofs.Common.{◌≡◌, ℕ, ◌+◌, ◌<◌, ◌≤◌, List, length, get_or, le_refl, arith, length-set}
 use Rattle.entity.proofs.Tables.{valid_short}
 use Rattle.table_index.specs.Index.{slot_of, built_state, Sized}
-use Rattle.table_index.proofs.PackedSlots.{slot_state}
-use Rattle.table_index.proofs.IndexStates.{ready_sized, ready_empty, set_sized, set_state, ready_counted}
+use Rattle.table_index.proofs.IndexStates.{ready_sized, ready_empty, set_state, ready_counted}
 use Rattle.table_index.proofs.first_look_up.Goals as goal
 use Rattle.table_index.proofs.first_look_up.Goals.{After-passed_by, Start}
 
@@ -23,50 +22,14 @@ sized c = ready_sized c.args.list.now c.args.pool.now c.requires.index_nonzero.1
 empty : (c : After-passed_by) (i : ℕ) → slot_of (words c) i ≡ 0
 empty c = ready_empty c.args.list.now c.args.pool.now c.requires.index_nonzero.1 c.requires.index_nonzero.2 c.if-index-eq-GIVEN_UP.false
 
-pub find_entity-found-requires : goal.find_entity-found-requires
-find_entity-found-requires c = c.requires.valid_table
-
-pub bounds-index-0 : goal.bounds-index-0
-bounds-index-0 c = omega (arith, c.requires.index_nonzero.0)
-
-pub returns-then-index-eq-GIVEN_UP : goal.returns-then-index-eq-GIVEN_UP
-returns-then-index-eq-GIVEN_UP c = record { refers = c.find_entity-found.ensures; built = record { size = refl; ready = c.requires.index_nonzero.1 } }
-
-pub bounds-index-0-2 : goal.bounds-index-0-2
-bounds-index-0-2 c = omega (arith, c.requires.index_nonzero.0)
-
-pub passed_by-requires : goal.passed_by-requires
-passed_by-requires c = tt
-
 pub overflow_add-index : goal.overflow_add-index
 overflow_add-index c =
     let list = c.args.list.now in
     let passed = c.passed_by.ensures list c.args.pool.now c.args.name.now c.find_entity-found.ensures (le_refl (length list)) in
     omega (arith, passed, short (goal.at.overflow_add-index c).Start, c.requires.index_nonzero.1.low)
 
-pub bounds-index-0-3 : goal.bounds-index-0-3
-bounds-index-0-3 c = omega (arith, c.requires.index_nonzero.0)
-
 pub overflow_mul-list : goal.overflow_mul-list
 overflow_mul-list c = omega (arith, short (goal.at.overflow_mul-list c).Start)
-
-pub bounds-index-0-4 : goal.bounds-index-0-4
-bounds-index-0-4 c = omega (arith, c.requires.index_nonzero.0, length-set (words (goal.at.bounds-index-0-4 c).After-passed_by) 0 (state (goal.at.bounds-index-0-4 c).After-passed_by))
-
-pub build-requires : goal.build-requires
-build-requires c =
-    let all = set_sized c.args.list.now c.args.pool.now (words (goal.at.build-requires c).After-passed_by) (state (goal.at.build-requires c).After-passed_by) (sized (goal.at.build-requires c).After-passed_by) in
-    record { valid_table = c.requires.valid_table; sized = (all, λ i. slot_state (words (goal.at.build-requires c).After-passed_by) (state (goal.at.build-requires c).After-passed_by) i ∙ empty (goal.at.build-requires c).After-passed_by i) }
-
-pub shape_of-index-then-list-index : goal.shape_of-index-then-list-index
-shape_of-index-then-list-index c = c.build.ensures.size ∙ length-set (words (goal.at.shape_of-index-then-list-index c).After-passed_by) 0 (state (goal.at.shape_of-index-then-list-index c).After-passed_by)
-
-pub returns-then-list-index : goal.returns-then-list-index
-returns-then-list-index c =
-    record { refers = c.find_entity-found.ensures; built = record { size = c.build.ensures.size ∙ length-set (words (goal.at.returns-then-list-index c).After-passed_by) 0 (state (goal.at.returns-then-list-index c).After-passed_by); ready = c.build.ensures.ready } }
-
-pub shape_of-index-else-list-index : goal.shape_of-index-else-list-index
-shape_of-index-else-list-index c = length-set (words (goal.at.shape_of-index-else-list-index c).After-passed_by) 0 (state (goal.at.shape_of-index-else-list-index c).After-passed_by)
 
 pub returns-else-list-index : goal.returns-else-list-index
 returns-else-list-index c =

@@ -4,26 +4,27 @@ use Rattle.entity.specs.Commands.{command_name}
 use Rattle.table_index.specs.Index.{home_of}
 use Rattle.table_index.proofs.Inserting.{home_name, first_vacant, inserted_vain, inserted_more}
 use Rattle.table_index.proofs.insert.Goals as goal
-use Rattle.table_index.proofs.insert.Goals.{After-empty_slot-k}
+use Rattle.table_index.proofs.insert.Goals.{After-home-from}
 
 -- the home is that of the command's name
-known : (e : After-empty_slot-k) → let a = e.args in e.home-from.result ≡ home_of (length a.index.now) (command_name a.list.now a.pool.now a.at)
+known : (e : After-home-from) → let a = e.args in e.home-from.result ≡ home_of (length a.index.now) (command_name a.list.now a.pool.now a.at)
 known e =
     let a = e.args in
-    let end = ap (λ (n : ℕ). e.u32_at-start.result + n) e.wide.ensures.0 in
+    let end = ap (λ (n : ℕ). e.u32_at-start.result + n) e.from.ensures in
     home_name a.list.now a.pool.now a.at (length a.index.now - 1) e.u32_at-start.ensures.0 end e.hash.ensures.0 e.home-from.ensures.0
 
-pub returns-then-k-eq-REACH : goal.returns-then-k-eq-REACH
-returns-then-k-eq-REACH c =
+pub returns-in_default : goal.returns-in_default
+returns-in_default c =
     let a = c.args in
-    inserted_vain a.list.now a.pool.now a.at a.index.now (known (goal.at.returns-then-k-eq-REACH c).After-empty_slot-k) c.empty_slot-k.ensures c.if-k-eq-REACH.true
+    inserted_vain a.list.now a.pool.now a.at a.index.now (known (goal.at.returns-in_default c).After-home-from) (c.in_default.ensures) refl
 
 pub fill-requires : goal.fill-requires
 fill-requires c =
-    let other = c.if-k-eq-REACH.false in
-    record { s_bound = (omega (arith, c.home-from.ensures.1, c.empty_slot-k.ensures.within, other), c.requires.at_bound.1.large); at_bound = (c.requires.at_bound.0, first_vacant c.empty_slot-k.ensures other (omega arith)) }
+    let first = c.in-Some.ensures in
+    record { s_bound = (omega (arith, c.home-from.ensures.1, first.0), c.requires.at_bound.1.large); at_bound = (c.requires.at_bound.0, first_vacant first.1 first.0 (omega arith)) }
 
 pub returns : goal.returns
 returns c =
     let a = c.args in
-    inserted_more a.list.now a.pool.now a.at a.index.now (known (goal.at.returns c).After-empty_slot-k) c.empty_slot-k.ensures c.if-k-eq-REACH.false refl c.fill.ensures.filled_at c.fill.ensures.index_len_unchanged
+    let first = c.in-Some.ensures in
+    inserted_more a.list.now a.pool.now a.at a.index.now (known (goal.at.returns c).After-home-from) first.1 first.0 refl c.fill.ensures.filled_at c.fill.ensures.index_len_unchanged

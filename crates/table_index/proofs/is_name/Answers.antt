@@ -11,23 +11,23 @@ use Rattle.table_index.proofs.is_name.Goals.{After-u32_at-start}
 
 -- the name's bytes are in the pool
 inside : (c : After-u32_at-start) → c.u32_at-start.result + length c.args.name.now ≤ length c.args.pool.now
-inside c = omega (arith, c.requires, c.u32_at-start.ensures, c.if-wide-n.false, c.wide.ensures)
+inside c = omega (arith, c.requires, c.u32_at-start.ensures, c.if-from-n.false, c.from.ensures)
 
 -- what is said of these bytes is said of the command's name
 said : (c : After-u32_at-start) {x : Bool} → same_bytes (part c.args.pool.now c.u32_at-start.result (length c.args.name.now)) c.args.name.now ≡ x
     → x ≡ same_bytes (command_name c.args.list.now c.args.pool.now c.args.at) c.args.name.now
 said c e =
     let a = c.args in
-    sym (same_part a.pool.now a.name.now c.u32_at-start.ensures.0 (sym c.if-wide-n.false ∙ c.wide.ensures.0) e)
+    sym (same_part a.pool.now a.name.now c.u32_at-start.ensures.0 (sym c.if-from-n.false ∙ c.from.ensures) e)
 
-pub returns-then-wide-n : goal.returns-then-wide-n
-returns-then-wide-n c =
+pub returns-then-from-n : goal.returns-then-from-n
+returns-then-from-n c =
     let a = c.args in
     let start = little_endian a.list.now (a.at + 1) 4 in
-    sym (rw c.wide.ensures.0 at (differ_length a.pool.now start a.name.now c.wide.result (omega (arith, c.requires, c.wide.ensures)) c.if-wide-n.true))
+    sym (rw c.from.ensures at (differ_length a.pool.now start a.name.now c.from.result (omega (arith, c.requires, c.from.ensures)) c.if-from-n.true))
 
 pub returns-then-n-lt8 : goal.returns-then-n-lt8
-returns-then-n-lt8 c = said (goal.at.returns-then-n-lt8 c).After-u32_at-start (sym c.same_few.ensures)
+returns-then-n-lt8 c = said (goal.at.returns-then-n-lt8 c).After-u32_at-start (sym c.same_short.ensures)
 
 pub returns-then-word : goal.returns-then-word
 returns-then-word c =

@@ -91,12 +91,6 @@ returns-then-is_name c =
     let taken = looked_hit c.loop-k.invariant c.loop-k-test.true c.slot_at-s.ensures.0 (some (goal.at.returns-then-is_name c).Else-s-eq0) in
     taken c.is_name.ensures c.if-is_name.true c.referent_at.result c.referent_at.ensures
 
-pub overflow_add-k : goal.overflow_add-k
-overflow_add-k c = omega (arith, c.loop-k-test.true)
-
-pub loop-k-smaller : goal.loop-k-smaller
-loop-k-smaller c = omega (arith, c.loop-k-test.true)
-
 pub loop-k-preserved : goal.loop-k-preserved
 loop-k-preserved c =
     looked_more c.loop-k.invariant c.loop-k-test.true c.slot_at-s.ensures.0 (some (goal.at.loop-k-preserved c).Else-s-eq0) c.is_name.ensures c.if-is_name.false refl

@@ -1,17 +1,8 @@
 -- `same_long` keeps `Agree`, a block further at each turn; the last block, which ends with the name, was compared first.
 use Rattle.std.proofs.Common.{◌+◌, ◌-◌, ◌≤◌, length, sym, refl, le_refl, arith}
-use Rattle.entity.proofs.Lookup.{agree_none, same_all}
+use Rattle.entity.proofs.Lookup.{same_all}
 use Rattle.table_index.proofs.NameBlocks.{agree_block, differ_block}
 use Rattle.table_index.proofs.same_long.Goals as goal
-
-pub overflow_sub-last : goal.overflow_sub-last
-overflow_sub-last c = omega (arith, c.requires)
-
-pub overflow_add-start : goal.overflow_add-start
-overflow_add-start c = omega (arith, c.requires)
-
-pub differ_16-requires : goal.differ_16-requires
-differ_16-requires c = (omega (arith, c.requires), omega (arith, c.requires))
 
 pub returns-then-differ_16 : goal.returns-then-differ_16
 returns-then-differ_16 c =
@@ -20,29 +11,11 @@ returns-then-differ_16 c =
     let n = length name in
     sym (differ_block given.pool.now given.start name (n - 16) 16 n (omega (arith, c.requires)) (c.differ_16.ensures.fact c.if-differ_16.true))
 
-pub loop-i-init : goal.loop-i-init
-loop-i-init c =
-    let given = c.args in
-    agree_none given.pool.now given.start given.name.now
-
-pub overflow_add-start-in-loop-i : goal.overflow_add-start-in-loop-i
-overflow_add-start-in-loop-i c = omega (arith, c.requires, c.loop-i-test.true)
-
-pub differ_16-requires-in-loop-i : goal.differ_16-requires-in-loop-i
-differ_16-requires-in-loop-i c =
-    (omega (arith, c.requires, c.loop-i-test.true), omega (arith, c.requires, c.loop-i-test.true))
-
 pub returns-then-differ_16-2 : goal.returns-then-differ_16-2
 returns-then-differ_16-2 c =
     let name = c.args.name.now in
     let fits : c.loop-i.i + 16 ≤ length name = omega (arith, c.requires, c.loop-i-test.true) in
     sym (differ_block c.args.pool.now c.args.start name c.loop-i.i 16 (length name) fits (c.differ_16-in-loop-i.ensures.fact c.if-differ_16-2.true))
-
-pub overflow_add-i : goal.overflow_add-i
-overflow_add-i c = omega (arith, c.requires, c.loop-i-test.true)
-
-pub loop-i-smaller : goal.loop-i-smaller
-loop-i-smaller c = omega (arith, c.requires, c.loop-i-test.true)
 
 pub loop-i-preserved : goal.loop-i-preserved
 loop-i-preserved c =

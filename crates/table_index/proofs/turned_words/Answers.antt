@@ -4,33 +4,12 @@ use Rattle.table_index.specs.NameHash.{turned, turned_from, turned_words}
 use Rattle.table_index.proofs.NameHashing.{rest, turned_on, turned_all}
 use Rattle.table_index.proofs.turned_words.Goals as goal
 
-pub overflow_sub-n : goal.overflow_sub-n
-overflow_sub-n c = omega (arith, c.requires)
-
-pub word-sum-requires : goal.word-sum-requires
-word-sum-requires c = omega (arith, c.requires)
-
 pub loop-i-init : goal.loop-i-init
 unfolding turned_words
 loop-i-init c =
     let name = c.args.name.now in
     let all : rest name 0 ≡ (length name - 1) / 8 = omega arith in
     (omega (arith, c.requires), ap₂ (λ (n sum : ℕ). turned_from n name 0 sum) all c.word-sum.ensures)
-
-pub overflow_sub-n-in-loop-i : goal.overflow_sub-n-in-loop-i
-overflow_sub-n-in-loop-i c = omega (arith, c.loop-i.invariant.0)
-
-pub word-requires : goal.word-requires
-word-requires c = omega (arith, c.loop-i.invariant.0, c.loop-i-test.true)
-
-pub wrapping_add_u64-sum-requires : goal.wrapping_add_u64-sum-requires
-wrapping_add_u64-sum-requires c = tt
-
-pub overflow_add-i : goal.overflow_add-i
-overflow_add-i c = omega (arith, c.loop-i.invariant.0, c.loop-i-test.true)
-
-pub loop-i-smaller : goal.loop-i-smaller
-loop-i-smaller c = omega (arith, c.loop-i.invariant.0, c.loop-i-test.true)
 
 pub loop-i-preserved : goal.loop-i-preserved
 loop-i-preserved c =

@@ -4,4 +4,4 @@ use Rattle.tables.proofs.check_command.Goals as goal
 
 pub check_external-requires : goal.check_external-requires
 check_external-requires c =
-    record { at_in_bounds = (c.requires.at_in_bounds.0, other_two c.requires.at_in_bounds.1 c.if-list-at-eq1.false); ascii = c.requires.ascii }
+    record { at_in_bounds = (c.requires.at_in_bounds.0, other_two c.requires.at_in_bounds.1 c.if-list-at-eq-TEXT.false); ascii = c.requires.ascii }

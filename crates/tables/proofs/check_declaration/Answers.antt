@@ -9,34 +9,33 @@ use Rattle.tables.proofs.check_declaration.Goals as goal
 pub returns-then-pool-name_end : goal.returns-then-pool-name_end
 returns-then-pool-name_end c =
     let a = c.args in
-    c.refused.ensures ∙ past_refused a.pool.now a.name_start a.name_length a.text_start a.text_length a.at (omega arith) c.if-pool-name_end.true
+    past_refused a.pool.now a.name.start a.name.length a.text.start a.text.length a.at (omega arith) c.if-pool-name_end.true
 
 -- ASCII
 pub returns-then-name_end-ascii : goal.returns-then-name_end-ascii
 returns-then-name_end-ascii c =
     let a = c.args in
-    ascii_passed a.pool.now a.name_start a.name_length a.text_start a.text_length a.at a.ascii c.requires.ascii c.if-pool-name_end.false
+    ascii_passed a.pool.now a.name.start a.name.length a.text.start a.text.length a.at a.ascii c.requires c.if-pool-name_end.false
     c.if-name_end-ascii.true (omega arith) (omega arith)
 
 pub slice_bounds-ill_formed-end : goal.slice_bounds-ill_formed-end
 slice_bounds-ill_formed-end c =
     let a = c.args in
-    name_fits a.pool.now a.name_start a.name_length a.text_start a.text_length c.if-pool-name_end.false
+    name_fits a.pool.now a.name.start a.name.length a.text.start a.text.length c.if-pool-name_end.false
 
 pub slice_bounds-ill_formed-end-2 : goal.slice_bounds-ill_formed-end-2
 slice_bounds-ill_formed-end-2 c =
     let a = c.args in
-    text_fits a.pool.now a.name_start a.name_length a.text_start a.text_length c.if-pool-name_end.false
+    text_fits a.pool.now a.name.start a.name.length a.text.start a.text.length c.if-pool-name_end.false
 
 -- refusal 9
 pub returns-then-ill_formed : goal.returns-then-ill_formed
 returns-then-ill_formed c =
     let a = c.args in
-    c.refused-then-ill_formed.ensures
-    ∙ ill_refused a.pool.now a.name_start a.name_length a.text_start a.text_length a.at (omega arith) c.if-pool-name_end.false
+    ill_refused a.pool.now a.name.start a.name.length a.text.start a.text.length a.at (omega arith) c.if-pool-name_end.false
     (sym c.if-ill_formed.true ∙ c.ill_formed.ensures)
 
 pub returns : goal.returns
 returns c =
     let a = c.args in
-    well_passed a.pool.now a.name_start a.name_length a.text_start a.text_length a.at c.if-pool-name_end.false (sym c.if-ill_formed.false ∙ c.ill_formed.ensures)
+    well_passed a.pool.now a.name.start a.name.length a.text.start a.text.length a.at c.if-pool-name_end.false (sym c.if-ill_formed.false ∙ c.ill_formed.ensures)

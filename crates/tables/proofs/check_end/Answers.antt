@@ -1,4 +1,3 @@
-use mathlib.Core.Path.{◌∙◌}
 use native.Mathlib.Omega.{arith}
 use Rattle.tables.proofs.Commands.{last_none, last_other, last_more, last_end}
 use Rattle.tables.proofs.check_end.Goals as goal
@@ -6,19 +5,19 @@ use Rattle.tables.proofs.check_end.Goals as goal
 pub returns-then-at-list : goal.returns-then-at-list
 returns-then-at-list c =
     let given = c.args in
-    c.refused.ensures ∙ last_none given.list.now given.at given.count c.if-at-list.true
+    last_none given.list.now given.at given.count c.if-at-list.true
 
-pub returns-then-list-at-ne0 : goal.returns-then-list-at-ne0
-returns-then-list-at-ne0 c =
+pub returns-then-list-at-ne-END : goal.returns-then-list-at-ne-END
+returns-then-list-at-ne-END c =
     let given = c.args in
-    c.refused-then-list-at-ne0.ensures ∙ last_other given.list.now given.at given.count (omega arith) c.if-list-at-ne0.true
+    last_other given.list.now given.at given.count (omega arith) c.if-list-at-ne-END.true
 
 pub returns-then-at-list-2 : goal.returns-then-at-list-2
 returns-then-at-list-2 c =
     let given = c.args in
-    c.refused-then-at-list-2.ensures ∙ last_more given.list.now given.at given.count (omega arith) c.if-list-at-ne0.false c.if-at-list-2.true (omega arith)
+    last_more given.list.now given.at given.count (omega arith) c.if-list-at-ne-END.false c.if-at-list-2.true (omega arith)
 
 pub returns : goal.returns
 returns c =
     let given = c.args in
-    last_end given.list.now given.at given.count (omega arith) c.if-list-at-ne0.false c.if-at-list-2.false
+    last_end given.list.now given.at given.count (omega arith) c.if-list-at-ne-END.false c.if-at-list-2.false

@@ -1,18 +1,17 @@
-use mathlib.Core.Path.{◌∙◌}
 use native.Mathlib.Omega.{arith}
 use Rattle.entity.proofs.Commands.{long_list}
 use Rattle.tables.proofs.Commands.{long_pool}
 use Rattle.tables.proofs.check_table.Goals as goal
 
-pub returns-then-list-gt49154 : goal.returns-then-list-gt49154
-returns-then-list-gt49154 c =
+pub returns-then-list-gt-LONGEST_LIST : goal.returns-then-list-gt-LONGEST_LIST
+returns-then-list-gt-LONGEST_LIST c =
     let given = c.args in
-    c.refused.ensures ∙ long_list given.list.now given.pool.now (omega arith)
+    long_list given.list.now given.pool.now (omega arith)
 
-pub returns-then-pool-gt1048576 : goal.returns-then-pool-gt1048576
-returns-then-pool-gt1048576 c =
+pub returns-then-pool-gt-LONGEST_POOL : goal.returns-then-pool-gt-LONGEST_POOL
+returns-then-pool-gt-LONGEST_POOL c =
     let given = c.args in
-    c.refused-then-pool-gt1048576.ensures ∙ long_pool given.list.now given.pool.now (omega arith) (omega arith)
+    long_pool given.list.now given.pool.now (omega arith) (omega arith)
 
 pub check_commands-requires : goal.check_commands-requires
 check_commands-requires c = (omega arith, omega arith)

@@ -1,6 +1,6 @@
--- `binding_of` is a referent without the command, case by case (`refers_resolved`).
+-- A binding is a referent without the command, case by case (`refers_resolved`).
 use Rattle.entity.proofs.Referents.{refers_resolved}
-use Rattle.entity.proofs.binding_of.Goals as goal
+use Rattle.entity.proofs.BindingFromReferent.from.Goals as goal
 
 pub returns-in-Text : goal.returns-in-Text
 returns-in-Text c = λ list pool name k. refers_resolved list pool name c.args.referent k c.in-Text.is
