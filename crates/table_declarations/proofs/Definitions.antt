@@ -13,14 +13,15 @@ use Rattle.output.proofs.Clip.{over_more, length_over}
 use Rattle.table_grammar.specs.EntityValue.{Read, read, departs, exceeds, onward, literal, after_space, value_from, entity_value}
 use Rattle.table_grammar.specs.EntityDecl.{opening, declared_name, definition, Entity, entity, no_more}
 use Rattle.table_names.specs.NameTerms.{left}
-use Rattle.table_values.specs.ValueSteps.{fault, meant, Kept, Meets, Spaced}
-use Rattle.table_declarations.specs.DeclarationSteps.{KeptFault, MeetsEntity}
-use Rattle.table_values.specs.declared.Step.{Step}
-use Rattle.table_values.specs.declared.Step.TheVariants.{Next, Misplaced, Excessive, Refused as Wrong}
-use Rattle.table_declarations.specs.declared.Declared.TheVariants.{Next as Follows, Stopped}
+use Rattle.table_values.specs.ValueSteps.{Meets, Spaced}
+use Rattle.table_declarations.specs.DeclarationSteps.{MeetsEntity}
+use Rattle.table_values.specs.declared.Next.{Next}
+use Rattle.table_values.specs.declared.Fault.{Fault}
+use Rattle.table_values.specs.declared.Fault.TheVariants.{Misplaced}
+use Rattle.std.specs.Prelude.{Ok, Err}
 use Rattle.table_values.proofs.LeftPlaces.{left_end, left_ascii}
 use Rattle.table_values.proofs.Literals.{headed, stands_inside, literal_on, literal_off}
-use Rattle.table_values.proofs.EntityValues.{Stops, stops_on, stops_kept, put_same}
+use Rattle.table_values.proofs.EntityValues.{fault_onward, fault_same, fault_length, put_same, going}
 
 -- ---- the definition of an entity
 
@@ -64,11 +65,11 @@ quote_ascii b e = go (eqb b 34) refl (eqb b 39) refl (one_of (eqb b 34) (eqb b 3
     go false f false g z = absurd (true≢false (sym z))
 
 module _ (newer : Bool) (t : List ℕ) (i : ℕ) (old : List ℕ) where
-  pub definition_over : i ≤ length t → i ≡ length t → Meets newer t i (definition (left newer t i)) old old (Misplaced i)
+  pub definition_over : i ≤ length t → i ≡ length t → Meets newer t i (definition (left newer t i)) old old (Err (Misplaced i))
   definition_over h e = record { value = []; is = definition_by (left newer t i) (value_none (left newer t i) (left_end newer t i (omega arith))); kept = (h, refl) }
 
   module _ (h : i < length t) where
-    pub definition_bare : not (eqb (get_or t i 0) 34) && not (eqb (get_or t i 0) 39) ≡ true → Meets newer t i (definition (left newer t i)) old old (Misplaced i)
+    pub definition_bare : not (eqb (get_or t i 0) 34) && not (eqb (get_or t i 0) 39) ≡ true → Meets newer t i (definition (left newer t i)) old old (Err (Misplaced i))
     definition_bare e =
         let n = not_both (eqb (get_or t i 0) 34) (eqb (get_or t i 0) 39) e in
         let z = headed newer t i h in
@@ -90,22 +91,22 @@ module _ (newer : Bool) (t : List ℕ) (i : ℕ) (old : List ℕ) where
           (value_quoted (get_or t i 0) (left newer t i) (left newer t (i + 1)) (left_ascii newer t i h (omega (arith, a.0)) (omega (arith, a.1)))
           (one_of (eqb (get_or t i 0) 34) (eqb (get_or t i 0) 39) q) ∙ e)
 
-      pub definition_stopped : {new : List ℕ} (step : Step) → Stops step → Meets newer t (i + 1) (value_from (get_or t i 0) [] 0 (left newer t (i + 1))) old new step → length new ≡ length old
-          → Meets newer t i (definition (left newer t i)) old new step
-      definition_stopped {new} step s m e =
+      pub definition_stopped : {new : List ℕ} {f : Fault} → Meets newer t (i + 1) (value_from (get_or t i 0) [] 0 (left newer t (i + 1))) old new (Err f)
+          → Meets newer t i (definition (left newer t i)) old new (Err f)
+      definition_stopped {new} {f} m =
           record {
             value = [];
-            is = opened m.is ∙ stops_on newer t m.value [] step s (λ v end. onward (literal (62 ∷ []) (after_space end)) (λ w rest. read v rest));
-            kept = stops_kept t (i + 1) i m.value [] old new old new step s m.kept e;
+            is = opened m.is ∙ fault_onward newer t f (λ v end. onward (literal (62 ∷ []) (after_space end)) (λ w rest. read v rest));
+            kept = m.kept;
           }
 
-      module _ {new : List ℕ} {close len end : ℕ} (m : Meets newer t (i + 1) (value_from (get_or t i 0) [] 0 (left newer t (i + 1))) old new (Next close len)) (sp : Spaced newer t close end) where
+      module _ {new : List ℕ} {next : Next} {end : ℕ} (m : Meets newer t (i + 1) (value_from (get_or t i 0) [] 0 (left newer t (i + 1))) old new (Ok next)) (sp : Spaced newer t next.at end) where
         closing : {r : Read (List ℕ)} → literal (62 ∷ []) (left newer t end) ≡ r → definition (left newer t i) ≡ onward r (λ w rest. read m.value rest)
         closing e =
             opened m.is ∙ ap (λ (l : List ℕ). onward (literal (62 ∷ []) l) (λ w rest. read m.value rest)) sp.rest
             ∙ ap (λ (r : Read (List ℕ)). onward r (λ w rest. read m.value rest)) e
 
-        pub definition_unclosed : begins (62 ∷ []) (drop end t) ≡ false → Meets newer t i (definition (left newer t i)) old new (Misplaced end)
+        pub definition_unclosed : begins (62 ∷ []) (drop end t) ≡ false → Meets newer t i (definition (left newer t i)) old new (Err (Misplaced end))
         definition_unclosed e =
             record {
               value = [];
@@ -113,7 +114,7 @@ module _ (newer : Bool) (t : List ℕ) (i : ℕ) (old : List ℕ) where
               kept = (sp.to, ap length m.kept.holds ∙ length_over m.value old);
             }
 
-        pub definition_closed : begins (62 ∷ []) (drop end t) ≡ true → Meets newer t i (definition (left newer t i)) old new (Next (end + 1) len)
+        pub definition_closed : begins (62 ∷ []) (drop end t) ≡ true → Meets newer t i (definition (left newer t i)) old new (going (end + 1) next.len)
         definition_closed e =
             let k = m.kept in
             let inside = stands_inside newer t end 62 [] (omega arith) (omega arith) e in
@@ -135,18 +136,6 @@ module _ (newer : Bool) (t : List ℕ) (i : ℕ) (old : List ℕ) where
 nobody : Entity
 nobody = record { name = []; value = [] }
 
-fault_on : {B : Type 0} (newer : Bool) (t v : List ℕ) (step : Step) → Stops step → (more : List ℕ → List ℕ → Read B) → onward (meant newer t v step) more ≡ fault newer t step
-fault_on newer t v (Next at len) x more = absurd x
-fault_on newer t v (Misplaced at) x more = refl
-fault_on newer t v (Excessive at) x more = refl
-fault_on newer t v (Wrong number first) x more = refl
-
-fault_kept : (t : List ℕ) (i : ℕ) (v old new old' new' : List ℕ) (step : Step) → Stops step → Kept t i v old new step → length new' ≡ length old' → KeptFault t old' new' step
-fault_kept t i v old new old' new' (Next at len) x k e = absurd x
-fault_kept t i v old new old' new' (Misplaced at) x k e = (k.0, e)
-fault_kept t i v old new old' new' (Excessive at) x k e = (k.0, e)
-fault_kept t i v old new old' new' (Wrong number first) x k e = e
-
 module _ (newer : Bool) (t : List ℕ) (i : ℕ) (old : List ℕ) where
   entity_by : {r : Read (List ℕ)} → opening (left newer t i) ≡ r
       → entity (left newer t i) ≡ onward r (λ w t1. onward (declared_name t1) (λ n t2. onward (definition t2) (λ v t3. read (record { name = n; value = v }) t3)))
@@ -154,51 +143,51 @@ module _ (newer : Bool) (t : List ℕ) (i : ℕ) (old : List ℕ) where
       unfold entity in
       ap (λ (r : Read (List ℕ)). onward r (λ w t1. onward (declared_name t1) (λ n t2. onward (definition t2) (λ v t3. read (record { name = n; value = v }) t3)))) e
 
-  pub entity_unopened : (step : Step) → Stops step → Meets newer t i (opening (left newer t i)) old old step → MeetsEntity newer t i (entity (left newer t i)) old old (Stopped step)
-  entity_unopened step s m =
+  pub entity_unopened : {f : Fault} → Meets newer t i (opening (left newer t i)) old old (Err f) → MeetsEntity newer t i (entity (left newer t i)) old old (Err f)
+  entity_unopened {f} m =
       record {
         entity = nobody;
-        is = entity_by m.is ∙ fault_on newer t m.value step s (λ w t1. onward (declared_name t1) (λ n t2. onward (definition t2) (λ v t3. read (record { name = n; value = v }) t3)));
-        kept = fault_kept t i m.value old old old old step s m.kept refl;
+        is = entity_by m.is ∙ fault_onward newer t f (λ w t1. onward (declared_name t1) (λ n t2. onward (definition t2) (λ v t3. read (record { name = n; value = v }) t3)));
+        kept = m.kept;
       }
 
-  module _ {from zero' : ℕ} (o : Meets newer t i (opening (left newer t i)) old old (Next from zero')) where
-    named_by : {r : Read (List ℕ)} → declared_name (left newer t from) ≡ r
+  module _ {start : Next} (o : Meets newer t i (opening (left newer t i)) old old (Ok start)) where
+    named_by : {r : Read (List ℕ)} → declared_name (left newer t start.at) ≡ r
         → entity (left newer t i) ≡ onward r (λ n t2. onward (definition t2) (λ v t3. read (record { name = n; value = v }) t3))
     named_by e =
         entity_by o.is
         ∙ ap (λ (r : Read (List ℕ)). onward r (λ n t2. onward (definition t2) (λ v t3. read (record { name = n; value = v }) t3))) e
 
-    pub entity_unnamed : {new : List ℕ} (step : Step) → Stops step → Meets newer t from (declared_name (left newer t from)) old new step → length new ≡ length old
-        → MeetsEntity newer t i (entity (left newer t i)) old new (Stopped step)
-    entity_unnamed {new} step s m e =
+    pub entity_unnamed : {new : List ℕ} {f : Fault} → Meets newer t start.at (declared_name (left newer t start.at)) old new (Err f)
+        → MeetsEntity newer t i (entity (left newer t i)) old new (Err f)
+    entity_unnamed {new} {f} m =
         record {
           entity = nobody;
-          is = named_by m.is ∙ fault_on newer t m.value step s (λ n t2. onward (definition t2) (λ v t3. read (record { name = n; value = v }) t3));
-          kept = fault_kept t from m.value old new old new step s m.kept e;
+          is = named_by m.is ∙ fault_onward newer t f (λ n t2. onward (definition t2) (λ v t3. read (record { name = n; value = v }) t3));
+          kept = m.kept;
         }
 
-    module _ {new : List ℕ} {next len w : ℕ} (n : Meets newer t from (declared_name (left newer t from)) old new (Next next len)) (fits : w ≡ min len (length new)) where
-      defined_by : {r : Read (List ℕ)} → definition (left newer t next) ≡ r → entity (left newer t i) ≡ onward r (λ v t3. read (record { name = n.value; value = v }) t3)
+    module _ {new : List ℕ} {name : Next} {w : ℕ} (n : Meets newer t start.at (declared_name (left newer t start.at)) old new (Ok name)) (fits : w ≡ min name.len (length new)) where
+      defined_by : {r : Read (List ℕ)} → definition (left newer t name.at) ≡ r → entity (left newer t i) ≡ onward r (λ v t3. read (record { name = n.value; value = v }) t3)
       defined_by e = named_by n.is ∙ ap (λ (r : Read (List ℕ)). onward r (λ v t3. read (record { name = n.value; value = v }) t3)) e
 
       new_length : length new ≡ length old
       new_length = ap length n.kept.holds ∙ length_over n.value old
 
-      pub entity_undefined : {part : List ℕ} (step : Step) → Stops step → Meets newer t next (definition (left newer t next)) (mid_of w (length new - w) new) part step
-          → length part ≡ length (mid_of w (length new - w) new) → MeetsEntity newer t i (entity (left newer t i)) old (put_mid w (length new - w) new part) (Stopped step)
-      entity_undefined {part} step s m e =
+      pub entity_undefined : {part : List ℕ} {f : Fault} → Meets newer t name.at (definition (left newer t name.at)) (mid_of w (length new - w) new) part (Err f)
+          → MeetsEntity newer t i (entity (left newer t i)) old (put_mid w (length new - w) new part) (Err f)
+      entity_undefined {part} {f} m =
           record {
             entity = nobody;
-            is = defined_by m.is ∙ fault_on newer t m.value step s (λ v t3. read (record { name = n.value; value = v }) t3);
+            is = defined_by m.is ∙ fault_onward newer t f (λ v t3. read (record { name = n.value; value = v }) t3);
             kept =
-                fault_kept t next m.value (mid_of w (length new - w) new) part old (put_mid w (length new - w) new part) step s m.kept
-                (put_same w new part (omega (arith, fits)) e ∙ new_length);
+                fault_same t (mid_of w (length new - w) new) part old (put_mid w (length new - w) new part) f m.kept
+                (put_same w new part (omega (arith, fits)) (fault_length t (mid_of w (length new - w) new) part f m.kept) ∙ new_length);
           }
 
-      pub entity_declared : {part : List ℕ} {at more : ℕ} → Meets newer t next (definition (left newer t next)) (mid_of w (length new - w) new) part (Next at more)
-          → MeetsEntity newer t i (entity (left newer t i)) old (put_mid w (length new - w) new part) (Follows at len more)
-      entity_declared {part} {at} {more} m =
+      pub entity_declared : {part : List ℕ} {value : Next} → Meets newer t name.at (definition (left newer t name.at)) (mid_of w (length new - w) new) part (Ok value)
+          → MeetsEntity newer t i (entity (left newer t i)) old (put_mid w (length new - w) new part) (Ok (record { at = value.at; name = name.len; value = value.len }))
+      entity_declared {part} {value} m =
           record {
             entity = record { name = n.value; value = m.value };
             is = defined_by m.is;

@@ -13,15 +13,14 @@ use Rattle.table_grammar.specs.EntityValue.{Read, read, departs, exceeds, refuse
 use Rattle.table_grammar.specs.EntityDecl.{Entity, entity, no_more, one_more, entities_at, entities}
 use Rattle.table_grammar.specs.TableWritten.{command_at, command_of, commands_from, pool_of, most}
 use Rattle.table_names.specs.NameTerms.{left}
-use Rattle.table_values.specs.ValueSteps.{fault, Spaced}
-use Rattle.table_declarations.specs.DeclarationSteps.{KeptFault, MeetsEntity, MeetsAll}
-use Rattle.table_values.specs.declared.Step.{Step}
-use Rattle.table_values.specs.declared.Step.TheVariants.{Next, Misplaced, Excessive, Refused as Wrong}
-use Rattle.table_declarations.specs.declared.Declared.TheVariants.{Next as Follows, Stopped}
-use Rattle.table_declarations.specs.declared.Outcome.TheVariants.{Read as Whole, Stopped as Broken}
+use Rattle.table_values.specs.ValueSteps.{fault, KeptFault, Spaced}
+use Rattle.table_declarations.specs.DeclarationSteps.{MeetsEntity, MeetsAll}
+use Rattle.table_values.specs.declared.Fault.{Fault}
+use Rattle.table_declarations.specs.declared.Declared.{Declared}
+use Rattle.std.specs.Prelude.{Ok, Err}
 use Rattle.table_values.proofs.LeftPlaces.{left_end}
 use Rattle.table_values.proofs.Literals.{headed}
-use Rattle.table_values.proofs.EntityValues.{put_same}
+use Rattle.table_values.proofs.EntityValues.{fault_onward, fault_same, fault_length, put_same}
 use Rattle.table_grammar.proofs.ValidTables.{commands_length}
 
 -- these, and then what a reader gives
@@ -39,24 +38,6 @@ after_one es e (read fs end) = ap (λ (l : List Entity). read l end) (sym (appen
 after_one es e (departs rest) = refl
 after_one es e (exceeds rest) = refl
 after_one es e (refused number first) = refl
-
-after_fault : (es : List Entity) (newer : Bool) (t : List ℕ) (step : Step) → after es (fault newer t step) ≡ fault newer t step
-after_fault es newer t (Next at len) = refl
-after_fault es newer t (Misplaced at) = refl
-after_fault es newer t (Excessive at) = refl
-after_fault es newer t (Wrong number first) = refl
-
-fault_onward : (newer : Bool) (t : List ℕ) (step : Step) (more : Entity → List ℕ → Read (List Entity)) → onward (fault newer t step) more ≡ fault newer t step
-fault_onward newer t (Next at len) more = refl
-fault_onward newer t (Misplaced at) more = refl
-fault_onward newer t (Excessive at) more = refl
-fault_onward newer t (Wrong number first) more = refl
-
-pub fault_same : (t old new old' new' : List ℕ) (step : Step) → KeptFault t old new step → length new' ≡ length old' → KeptFault t old' new' step
-fault_same t old new old' new' (Next at len) k e = absurd k
-fault_same t old new old' new' (Misplaced at) k e = (k.0, e)
-fault_same t old new old' new' (Excessive at) k e = (k.0, e)
-fault_same t old new old' new' (Wrong number first) k e = e
 
 -- ---- one entity more in list and pool
 
@@ -133,7 +114,7 @@ module _ {newer : Bool} {t list pool list' pool' : List ℕ} {i count used : ℕ
   gathered_pool = ap length g.texts ∙ length_over (pool_of g.found) pool
 
   -- the text is over
-  pub gathered_all : length t ≤ i → length t ≤ longest_text → MeetsAll newer t list pool list' pool' (Whole count used)
+  pub gathered_all : length t ≤ i → length t ≤ longest_text → MeetsAll newer t list pool list' pool' (Ok (record { count = count; pool = used }))
   gathered_all h short =
       record {
         found = g.found;
@@ -154,15 +135,15 @@ module _ {newer : Bool} {t list pool list' pool' : List ℕ} {i count used : ℕ
       over_at (suc m) = unfold entities_at in refl
 
   -- one declaration too many
-  pub gathered_beyond : count ≡ most → (step : Step) → no_more (left newer t i) ≡ fault newer t step → KeptFault t pool pool step
-      → MeetsAll newer t list pool list' pool' (Broken step)
-  gathered_beyond e step f k =
+  pub gathered_beyond : count ≡ most → (f : Fault) → no_more (left newer t i) ≡ fault newer t f → KeptFault t pool pool f
+      → MeetsAll newer t list pool list' pool' (Err f)
+  gathered_beyond e f is k =
       record {
         found = [];
         is =
             g.on ∙ ap (λ (m : ℕ). after g.found (entities_at m (left newer t i))) none_left ∙ none_at (left newer t i)
-            ∙ ap (after g.found) f ∙ after_fault g.found newer t step;
-        kept = (fault_same t pool pool pool pool' step k gathered_pool, gathered_list);
+            ∙ ap (after g.found) is ∙ fault_onward newer t f (λ fs end. read (g.found ++ fs) end);
+        kept = (fault_same t pool pool pool pool' f k gathered_pool, gathered_list);
       }
     where
       none_left : g.more ≡ 0
@@ -186,36 +167,35 @@ module _ {newer : Bool} {t list pool list' pool' : List ℕ} {i count used : ℕ
     some_left m e q = n (omega (arith, g.spare, e, q))
 
     module _ {part : List ℕ} {w : ℕ} (least : w ≡ min used (length pool')) where
-      pub gathered_stopped : {step : Step} → MeetsEntity newer t i (entity (left newer t i)) (mid_of w (length pool' - w) pool') part (Stopped step)
-          → length part ≡ length (mid_of w (length pool' - w) pool') → MeetsAll newer t list pool list' (put_mid w (length pool' - w) pool' part) (Broken step)
-      gathered_stopped {step} m e = go g.more refl
+      pub gathered_stopped : {f : Fault} → MeetsEntity newer t i (entity (left newer t i)) (mid_of w (length pool' - w) pool') part (Err f)
+          → MeetsAll newer t list pool list' (put_mid w (length pool' - w) pool' part) (Err f)
+      gathered_stopped {f} m = go g.more refl
         where
-          go : (k : ℕ) → g.more ≡ k → MeetsAll newer t list pool list' (put_mid w (length pool' - w) pool' part) (Broken step)
+          go : (k : ℕ) → g.more ≡ k → MeetsAll newer t list pool list' (put_mid w (length pool' - w) pool' part) (Err f)
           go zero q = absurd (some_left zero q refl)
           go (suc k) q =
+              let then = λ (e : Entity) (rest : List ℕ). onward (entities_at k (after_space rest)) (λ es end. read (e ∷ es) end) in
               record {
                 found = [];
                 is =
-                    g.on ∙ ap (after g.found) (spare_one k q ∙ ap (λ (r : Read Entity). onward r
-                    (λ e rest. onward (entities_at k (after_space rest)) (λ es end. read (e ∷ es) end))) m.is ∙ fault_onward newer t step
-                    (λ e rest. onward (entities_at k (after_space rest)) (λ es end. read (e ∷ es) end)))
-                    ∙ after_fault g.found newer t step;
+                    g.on ∙ ap (after g.found) (spare_one k q ∙ ap (λ (r : Read Entity). onward r then) m.is ∙ fault_onward newer t f then)
+                    ∙ fault_onward newer t f (λ fs end. read (g.found ++ fs) end);
                 kept = (
-                  fault_same t (mid_of w (length pool' - w) pool') part pool (put_mid w (length pool' - w) pool' part) step m.kept
-                      (put_same w pool' part (omega (arith, least)) e ∙ gathered_pool),
+                  fault_same t (mid_of w (length pool' - w) pool') part pool (put_mid w (length pool' - w) pool' part) f m.kept
+                      (put_same w pool' part (omega (arith, least)) (fault_length t (mid_of w (length pool' - w) pool') part f m.kept) ∙ gathered_pool),
                   gathered_list,
                 );
               }
 
-      pub gathered_more : {at name value next v : ℕ} {command : List ℕ} → MeetsEntity newer t i (entity (left newer t i)) (mid_of w (length pool' - w) pool') part (Follows at name value)
-          → v ≡ min (12 * count) (length list') → command ≡ over (command_at used name value) (mid_of v (length list' - v) list') → Spaced newer t at next
-          → Gathered newer t list pool (put_mid v (length list' - v) list' command) (put_mid w (length pool' - w) pool' part) next (count + 1) (used + (name + value))
-      gathered_more {at} {name} {value} {next} {v} {command} m fits c s = go g.more refl
+      pub gathered_more : {d : Declared} {next v : ℕ} {command : List ℕ} → MeetsEntity newer t i (entity (left newer t i)) (mid_of w (length pool' - w) pool') part (Ok d)
+          → v ≡ min (12 * count) (length list') → command ≡ over (command_at used d.name d.value) (mid_of v (length list' - v) list') → Spaced newer t d.at next
+          → Gathered newer t list pool (put_mid v (length list' - v) list' command) (put_mid w (length pool' - w) pool' part) next (count + 1) (used + (d.name + d.value))
+      gathered_more {d} {next} {v} {command} m fits c s = go g.more refl
         where
           e : Entity
           e = m.entity
 
-          go : (k : ℕ) → g.more ≡ k → Gathered newer t list pool (put_mid v (length list' - v) list' command) (put_mid w (length pool' - w) pool' part) next (count + 1) (used + (name + value))
+          go : (k : ℕ) → g.more ≡ k → Gathered newer t list pool (put_mid v (length list' - v) list' command) (put_mid w (length pool' - w) pool' part) next (count + 1) (used + (d.name + d.value))
           go zero q = absurd (some_left zero q refl)
           go (suc k) q =
               record {
@@ -242,7 +222,7 @@ module _ {newer : Bool} {t list pool list' pool' : List ℕ} {i count used : ℕ
                     );
                 small = omega (arith, g.small, m.kept.small, s.from);
                 commands =
-                    over_more (commands_from 0 g.found) (command_at used name value) list g.commands (omega (arith, commands_length 0 g.found, g.counted)) fits c
+                    over_more (commands_from 0 g.found) (command_at used d.name d.value) list g.commands (omega (arith, commands_length 0 g.found, g.counted)) fits c
                     ∙ ap (λ (l : List ℕ). over l list) (ap (λ (l : List ℕ). commands_from 0 g.found ++ l)
                     (command_same e {x = 0 + length (pool_of g.found)} (omega (arith, g.sized)) m.kept.named m.kept.valued) ∙ sym (commands_append 0 g.found e));
                 texts =

@@ -2,7 +2,7 @@
 use mathlib.Core.Bool.{Bool, true, false}
 use mathlib.Core.List.{List, [], ◌∷◌}
 use mathlib.Core.Path.{◌≡◌, sym, ap, ◌∙◌}
-use Prim.Native.Nat.{ℕ, zero, suc, ◌+◌, ◌≤◌, ◌<◌, zero-le}
+use Prim.Native.Nat.{ℕ, zero, suc, ◌+◌, ◌≤◌, ◌<◌}
 use native.Mathlib.Nat.{not-suc-le-zero}
 use native.Mathlib.Omega.{arith}
 use lib.ListN.{length, drop, get_or, drop_of_length-le}
@@ -24,9 +24,6 @@ pub record Matching (newer : Bool) (t : List ℕ) (i : ℕ) (word : List ℕ) (k
   pub few : k ≤ length word
   pub to : i + k ≤ length t
   pub on : literal word (left newer t i) ≡ literal (drop k word) (left newer t (i + k))
-
-pub matching_start : (newer : Bool) (t : List ℕ) (i : ℕ) (word : List ℕ) → i ≤ length t → Matching newer t i word 0
-matching_start newer t i word h = let q : i + 0 ≡ i = omega arith in record { few = zero-le; to = omega arith; on = ap (λ (j : ℕ). literal word (left newer t j)) (sym q) }
 
 module _ {newer : Bool} {t : List ℕ} {i : ℕ} {word : List ℕ} {k : ℕ} (m : Matching newer t i word k) (plain : PlainWord word) where
   pub matching_more : k < length word → begins (get_or word k 0 ∷ []) (drop (i + k) t) ≡ true → Matching newer t i word (k + 1)
@@ -54,15 +51,17 @@ module _ {newer : Bool} {t : List ℕ} {i : ℕ} {word : List ℕ} {k : ℕ} (m 
             ∙ literal_off newer t (i + k) (get_or word k 0) (drop (k + 1) word) p.0 p.1 e;
       }
 
-pub matching_whole : {newer : Bool} {t : List ℕ} {i : ℕ} {word : List ℕ} {k : ℕ} → Matching newer t i word k → length word ≤ k → Literally newer t i word (i + k)
+pub matching_whole : {newer : Bool} {t : List ℕ} {i : ℕ} {word : List ℕ} {k : ℕ} → Matching newer t i word k → length word ≤ k → Literally newer t i word (i + length word)
 unfolding literal
 matching_whole {newer} {t} {i} {word} {k} m h =
-    record {
+    let q : k ≡ length word = omega (arith, m.few) in
+    let whole : Literally newer t i word (i + k) = record {
       to = m.to;
       most = omega (arith, m.few);
       whole = λ q. m.on ∙ ap (λ (l : List ℕ). literal l (left newer t (i + k))) (drop_of_length-le word h);
       cut = λ l. absurd (omega arith);
-    }
+    } in
+    rw q at whole
 
 -- ---- the keyword, and white space
 

@@ -11,7 +11,7 @@ use borrow.Rule.Slice.PartMut.{mid_of, put_mid}
 use Rattle.text.proofs.Bytes.{or_left, or_right}
 use Rattle.text.specs.Call.{Called, called, call_of, laid}
 use Rattle.text.specs.Version.{Rule}
-use Rattle.text.specs.declared.Answer.{Answer}
+use Rattle.text.specs.Answers.{Answer}
 use Rattle.output.specs.Over.{over}
 use Rattle.output.proofs.Clip.{over_byte, over_fits}
 use Rattle.output.proofs.Laid.{rest_part, rest_put}
@@ -22,11 +22,11 @@ use Rattle.table_grammar.specs.EntityDecl.{Entity, entities}
 use Rattle.table_grammar.specs.TableWritten.{commands_from, list_of, pool_of, most, no_room, tabled, read_declarations}
 use Rattle.table_names.specs.NameTerms.{left}
 use Rattle.table_values.specs.ValueSteps.{fault}
-use Rattle.table_declarations.specs.DeclarationSteps.{meant_all, KeptAll, KeptFault, MeetsAll, Counted, Inside}
-use Rattle.table_values.specs.declared.Step.{Step}
-use Rattle.table_values.specs.declared.Step.TheVariants.{Next, Misplaced, Excessive, Refused as Wrong}
-use Rattle.table_declarations.specs.declared.Outcome.{Outcome}
-use Rattle.table_declarations.specs.declared.Outcome.TheVariants.{Read as Whole, Stopped as Broken}
+use Rattle.table_declarations.specs.DeclarationSteps.{meant_all, KeptAll, MeetsAll, Counted}
+use Rattle.table_values.specs.declared.Fault.{Fault}
+use Rattle.table_values.specs.declared.Fault.TheVariants.{Misplaced, Excessive, Refused as Wrong}
+use Rattle.std.specs.Prelude.{Result, Ok, Err}
+use Rattle.table_declarations.specs.declared.Totals.{Totals}
 use Rattle.table_values.proofs.EntityValues.{put_same}
 use Rattle.table_grammar.proofs.ValidTables.{commands_length, list_length_lem}
 
@@ -42,23 +42,22 @@ is_read (departs rest) = false
 is_read (exceeds rest) = false
 is_read (refused number first) = false
 
-never_fault : (newer : Bool) (t : List ℕ) (es : List Entity) (s : Step) → read es [] ≡ fault newer t s → ⊥
-never_fault newer t es (Next at len) e = true≢false (ap is_read e)
+never_fault : (newer : Bool) (t : List ℕ) (es : List Entity) (f : Fault) → read es [] ≡ fault newer t f → ⊥
 never_fault newer t es (Misplaced at) e = true≢false (ap is_read e)
 never_fault newer t es (Excessive at) e = true≢false (ap is_read e)
-never_fault newer t es (Wrong number first) e = true≢false (ap is_read e)
+never_fault newer t es (Wrong refusal) e = true≢false (ap is_read e)
 
 -- what is written for a text that reads as these
-pub written_again : {newer : Bool} {t list pool list' pool' : List ℕ} {r : Outcome} (es : List Entity) → entities most (left newer t 0) ≡ read es []
+pub written_again : {newer : Bool} {t list pool list' pool' : List ℕ} {r : Result Totals Fault} (es : List Entity) → entities most (left newer t 0) ≡ read es []
     → MeetsAll newer t list pool list' pool' r → (list' ≡ over (commands_from 0 es) list) × (pool' ≡ over (pool_of es) pool)
 written_again {newer} {t} {list} {pool} {list'} {pool'} {r} es e m = go r m.found (sym e ∙ m.is) m.kept
   where
-    go : (r : Outcome) (found : List Entity) → read es [] ≡ meant_all newer t found r → KeptAll t found list pool list' pool' r
+    go : (r : Result Totals Fault) (found : List Entity) → read es [] ≡ meant_all newer t found r → KeptAll t found list pool list' pool' r
         → (list' ≡ over (commands_from 0 es) list) × (pool' ≡ over (pool_of es) pool)
-    go (Whole count used) found q k =
+    go (Ok totals) found q k =
         let same : found ≡ es = sym (ap found_of q) in
         (k.commands ∙ ap (λ (l : List Entity). over (commands_from 0 l) list) same, k.texts ∙ ap (λ (l : List Entity). over (pool_of l) pool) same)
-    go (Broken s) found q k = absurd (never_fault newer t es s q)
+    go (Err f) found q k = absurd (never_fault newer t es f q)
 
 -- ---- the list: the mark, the commands, the end
 
@@ -110,16 +109,10 @@ module _ (newer : Bool) (t list pool : List ℕ) where
       same : called 0 (length' ∷ size ∷ []) (list' ∷ pool' ∷ []) ≡ answered (read es [])
       same = unfold tabled in rw (p, q, x, y, no_room_lem es list pool p q f)
 
-  pub call_broken : (s : Step) (a : Answer) → entities most (left newer t 0) ≡ fault newer t s
-      → ((list pool : List ℕ) → call_of a (list ∷ pool ∷ []) ≡ tabled (left newer t 0) (fault newer t s) list pool)
+  pub call_broken : (f : Fault) (a : Answer) → entities most (left newer t 0) ≡ fault newer t f
+      → ((list pool : List ℕ) → call_of a (list ∷ pool ∷ []) ≡ tabled (left newer t 0) (fault newer t f) list pool)
       → call_of a (list ∷ pool ∷ []) ≡ answered (entities most (left newer t 0))
-  call_broken s a e f = f list pool ∙ sym (ap answered e)
-
-pub fault_inside : (t old new : List ℕ) (s : Step) → KeptFault t old new s → Inside t s
-fault_inside t old new (Next at len) k = absurd k
-fault_inside t old new (Misplaced at) k = k.0
-fault_inside t old new (Excessive at) k = k.0
-fault_inside t old new (Wrong number first) k = tt
+  call_broken f a e told = told list pool ∙ sym (ap answered e)
 
 -- the call by the version's rule
 pub call_rule : (newer : Bool) (r : Rule) (t list pool : List ℕ) → rule_for newer ≡ r → tabled (left newer t 0) (entities most (left newer t 0)) list pool ≡ read_declarations r t list pool
@@ -131,9 +124,6 @@ pub nothing_before : (part rest : List ℕ) → length part ≡ 0 → part ++ re
 nothing_before [] rest e = refl
 nothing_before (x ∷ part) rest e = absurd (omega arith)
 
-pub all_told : {newer : Bool} {t list pool list' pool' : List ℕ} {r s : Outcome} → r ≡ s → MeetsAll newer t list pool list' pool' r → MeetsAll newer t list pool list' pool' s
-all_told {newer} {t} {list} {pool} {list'} {pool'} e m = subst (λ (x : Outcome). MeetsAll newer t list pool list' pool' x) e m
-
 pub found_same : {es fs : List Entity} → read es [] ≡ read fs [] → es ≡ fs
 found_same e = ap found_of e
 
@@ -144,45 +134,38 @@ put_inside list part h e l = rw (put_same 1 list part h e) l
 -- ---- from the count to the answer
 
 module _ (newer : Bool) (r : Rule) (t : List ℕ) (rule : rule_for newer ≡ r) where
-  module _ {l p l' p' : List ℕ} {count size : ℕ} (m : MeetsAll newer t l p l' p' (Whole count size)) (list pool : List ℕ) where
-    sized_list : 12 * count + 2 ≡ length (list_of m.found)
+  module _ {l p l' p' : List ℕ} {totals : Totals} (m : MeetsAll newer t l p l' p' (Ok totals)) (list pool : List ℕ) where
+    sized_list : 12 * totals.count + 2 ≡ length (list_of m.found)
     sized_list = omega (arith, list_length_lem m.found, m.kept.counted)
 
     abbrev tests : Bool
-    tests = ltb (length list) (12 * count + 2) || ltb (length pool) size || ltb 1048576 size
+    tests = ltb (length list) (12 * totals.count + 2) || ltb (length pool) totals.pool || ltb 1048576 totals.pool
 
-    pub answer_short : tests ≡ true → called 23 ((12 * count + 2) ∷ size ∷ []) (list ∷ pool ∷ []) ≡ read_declarations r t list pool
+    pub answer_short : tests ≡ true → called 23 ((12 * totals.count + 2) ∷ totals.pool ∷ []) (list ∷ pool ∷ []) ≡ read_declarations r t list pool
     answer_short f = call_short newer t list pool m.is sized_list m.kept.sized f ∙ call_rule newer r t list pool rule
 
-    pub answer_ready : tests ≡ false → Counted newer t (12 * count + 2) list pool
+    pub answer_ready : tests ≡ false → Counted newer t (12 * totals.count + 2) list pool
     answer_ready f =
-        let x = or_left (ltb (length list) (12 * count + 2) || ltb (length pool) size) (ltb 1048576 size) f in
+        let x = or_left (ltb (length list) (12 * totals.count + 2) || ltb (length pool) totals.pool) (ltb 1048576 totals.pool) f in
         record {
           found = m.found;
           is = m.is;
           length_is = sized_list;
-          list_fits = ltb-false (length list) (12 * count + 2) (or_left (ltb (length list) (12 * count + 2)) (ltb (length pool) size) x);
-          pool_fits = subst (λ (n : ℕ). n ≤ length pool) m.kept.sized (ltb-false (length pool) size (or_right (ltb (length list) (12 * count + 2)) (ltb (length pool) size) x));
+          list_fits = ltb-false (length list) (12 * totals.count + 2) (or_left (ltb (length list) (12 * totals.count + 2)) (ltb (length pool) totals.pool) x);
+          pool_fits = subst (λ (n : ℕ). n ≤ length pool) m.kept.sized (ltb-false (length pool) totals.pool (or_right (ltb (length list) (12 * totals.count + 2)) (ltb (length pool) totals.pool) x));
         }
 
     pub answer_done : {list' pool' : List ℕ} → tests ≡ false
         → ((es : List Entity) → entities most (left newer t 0) ≡ read es [] → (list' ≡ laid (list_of es) list) × (pool' ≡ laid (pool_of es) pool))
-        → called 0 ((12 * count + 2) ∷ size ∷ []) (list' ∷ pool' ∷ []) ≡ read_declarations r t list pool
+        → called 0 ((12 * totals.count + 2) ∷ totals.pool ∷ []) (list' ∷ pool' ∷ []) ≡ read_declarations r t list pool
     answer_done f w =
         let z = w m.found m.is in
         call_done newer t list pool m.is sized_list m.kept.sized f z.0 z.1 ∙ call_rule newer r t list pool rule
 
-  pub answer_broken : {l p l' p' : List ℕ} (s : Step) (a : Answer) → MeetsAll newer t l p l' p' (Broken s) → (list pool : List ℕ)
-      → ((list pool : List ℕ) → call_of a (list ∷ pool ∷ []) ≡ tabled (left newer t 0) (fault newer t s) list pool)
+  pub answer_broken : {l p l' p' : List ℕ} {f : Fault} (a : Answer) → MeetsAll newer t l p l' p' (Err f) → (list pool : List ℕ)
+      → ((list pool : List ℕ) → call_of a (list ∷ pool ∷ []) ≡ tabled (left newer t 0) (fault newer t f) list pool)
       → call_of a (list ∷ pool ∷ []) ≡ read_declarations r t list pool
-  answer_broken s a m list pool f = call_broken newer t list pool s a m.is f ∙ call_rule newer r t list pool rule
-
-pub broken_inside : {newer : Bool} {t l p l' p' : List ℕ} (s : Step) → MeetsAll newer t l p l' p' (Broken s) → Inside t s
-broken_inside {t = t} {p = p} {p' = p'} s m = fault_inside t p p' s m.kept.0
-
--- buffers by equations
-pub same_buffers : {list list' pool pool' : List ℕ} (P : List ℕ → List ℕ → Type 0) → list' ≡ list → pool' ≡ pool → P list pool → P list' pool'
-same_buffers {list} {list'} {pool} {pool'} P e f x = subst (λ (l : List ℕ). P l pool') (sym e) (subst (λ (q : List ℕ). P list q) (sym f) x)
+  answer_broken {f = f} a m list pool told = call_broken newer t list pool f a m.is told ∙ call_rule newer r t list pool rule
 
 pub set_inside : (list part : List ℕ) (b : ℕ) {k : ℕ} → 1 ≤ length list → length part ≡ length (mid_of 1 (length list - 1) list) → k < length list
     → k < length (set (put_mid 1 (length list - 1) list part) 0 b)

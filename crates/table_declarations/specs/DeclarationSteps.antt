@@ -1,17 +1,16 @@
 -- The terms in which declarations are proved; no promise of a call rests on them. Assumes nothing.
-use Rattle.std.specs.Prelude.{◌≡◌, Bool, List, [], ◌∷◌, ◌++◌, ℕ, ◌+◌, ◌*◌, ◌≤◌, ◌<◌, length}
+use Rattle.std.specs.Prelude.{◌≡◌, Bool, List, [], ◌∷◌, ◌++◌, ℕ, ◌+◌, ◌*◌, ◌≤◌, ◌<◌, length, Result, Ok, Err}
+use Rattle.text.specs.Refusals.{second_of}
 use Rattle.output.specs.Over.{over}
 use Rattle.table_grammar.specs.EntityValue.{Read, read, departs, literal}
 use Rattle.table_grammar.specs.EntityDecl.{Entity, entities}
 use Rattle.table_grammar.specs.TableWritten.{commands_from, list_of, pool_of, most}
 use Rattle.table_names.specs.NameTerms.{left}
-use Rattle.table_values.specs.ValueSteps.{fault}
-use Rattle.table_values.specs.declared.Step.{Step}
-use Rattle.table_values.specs.declared.Step.TheVariants.{Next, Misplaced, Excessive, Refused}
+use Rattle.table_values.specs.ValueSteps.{fault, KeptFault}
+use Rattle.table_values.specs.declared.Fault.{Fault}
+use Rattle.table_values.specs.declared.Fault.TheVariants.{Misplaced, Excessive, Refused}
 use Rattle.table_declarations.specs.declared.Declared.{Declared}
-use Rattle.table_declarations.specs.declared.Declared.TheVariants.{Next as Follows, Stopped}
-use Rattle.table_declarations.specs.declared.Outcome.{Outcome}
-use Rattle.table_declarations.specs.declared.Outcome.TheVariants.{Read as Whole, Stopped as Broken}
+use Rattle.table_declarations.specs.declared.Totals.{Totals}
 
 -- a word of printable ASCII: no byte of it starts a line end
 abbrev pub PlainWord : List ℕ → Type 0
@@ -27,15 +26,9 @@ pub record Literally (newer : Bool) (t : List ℕ) (i : ℕ) (word : List ℕ) (
 
 -- ---- declarations
 
-abbrev pub KeptFault : List ℕ → List ℕ → List ℕ → Step → Type 0
-KeptFault t old new (Next at len) = ⊥
-KeptFault t old new (Misplaced at) = (at ≤ length t) × (length new ≡ length old)
-KeptFault t old new (Excessive at) = (at ≤ length t) × (length new ≡ length old)
-KeptFault t old new (Refused number first) = length new ≡ length old
-
-abbrev pub meant_entity : Bool → List ℕ → Entity → Declared → Read Entity
-meant_entity newer t e (Follows at n v) = read e (left newer t at)
-meant_entity newer t e (Stopped s) = fault newer t s
+abbrev pub meant_entity : Bool → List ℕ → Entity → Result Declared Fault → Read Entity
+meant_entity newer t e (Ok d) = read e (left newer t d.at)
+meant_entity newer t e (Err f) = fault newer t f
 
 pub record Described (t : List ℕ) (i : ℕ) (e : Entity) (old new : List ℕ) (at n v : ℕ) : Type 0 where
   pub on : i < at
@@ -45,19 +38,19 @@ pub record Described (t : List ℕ) (i : ℕ) (e : Entity) (old new : List ℕ) 
   pub small : n + v + 4 * i ≤ 4 * at
   pub holds : new ≡ over (e.name ++ e.value) old
 
-abbrev pub KeptEntity : List ℕ → ℕ → Entity → List ℕ → List ℕ → Declared → Type 0
-KeptEntity t i e old new (Follows at n v) = Described t i e old new at n v
-KeptEntity t i e old new (Stopped s) = KeptFault t old new s
+abbrev pub KeptEntity : List ℕ → ℕ → Entity → List ℕ → List ℕ → Result Declared Fault → Type 0
+KeptEntity t i e old new (Ok d) = Described t i e old new d.at d.name d.value
+KeptEntity t i e old new (Err f) = KeptFault t old new f
 
 -- a declaration from `i` on is what a reader makes of the text there
-pub record MeetsEntity (newer : Bool) (t : List ℕ) (i : ℕ) (wanted : Read Entity) (old new : List ℕ) (r : Declared) : Type 0 where
+pub record MeetsEntity (newer : Bool) (t : List ℕ) (i : ℕ) (wanted : Read Entity) (old new : List ℕ) (r : Result Declared Fault) : Type 0 where
   pub entity : Entity
   pub is : wanted ≡ meant_entity newer t entity r
   pub kept : KeptEntity t i entity old new r
 
-abbrev pub meant_all : Bool → List ℕ → List Entity → Outcome → Read (List Entity)
-meant_all newer t es (Whole count used) = read es []
-meant_all newer t es (Broken s) = fault newer t s
+abbrev pub meant_all : Bool → List ℕ → List Entity → Result Totals Fault → Read (List Entity)
+meant_all newer t es (Ok totals) = read es []
+meant_all newer t es (Err f) = fault newer t f
 
 pub record Tabled (es : List Entity) (list pool list' pool' : List ℕ) (count used : ℕ) : Type 0 where
   pub counted : count ≡ length es
@@ -67,23 +60,22 @@ pub record Tabled (es : List Entity) (list pool list' pool' : List ℕ) (count u
   pub commands : list' ≡ over (commands_from 0 es) list
   pub texts : pool' ≡ over (pool_of es) pool
 
-abbrev pub KeptAll : List ℕ → List Entity → List ℕ → List ℕ → List ℕ → List ℕ → Outcome → Type 0
-KeptAll t es list pool list' pool' (Whole count used) = Tabled es list pool list' pool' count used
-KeptAll t es list pool list' pool' (Broken s) = KeptFault t pool pool' s × (length list' ≡ length list)
+abbrev pub KeptAll : List ℕ → List Entity → List ℕ → List ℕ → List ℕ → List ℕ → Result Totals Fault → Type 0
+KeptAll t es list pool list' pool' (Ok totals) = Tabled es list pool list' pool' totals.count totals.pool
+KeptAll t es list pool list' pool' (Err f) = KeptFault t pool pool' f × (length list' ≡ length list)
 
 -- all declarations of a text
-pub record MeetsAll (newer : Bool) (t list pool list' pool' : List ℕ) (r : Outcome) : Type 0 where
+pub record MeetsAll (newer : Bool) (t list pool list' pool' : List ℕ) (r : Result Totals Fault) : Type 0 where
   pub found : List Entity
   pub is : entities most (left newer t 0) ≡ meant_all newer t found r
   pub kept : KeptAll t found list pool list' pool' r
 
 -- ---- the answer
 
-abbrev pub Inside : List ℕ → Step → Type 0
-Inside t (Next at len) = at ≤ length t
+abbrev pub Inside : List ℕ → Fault → Type 0
 Inside t (Misplaced at) = at ≤ length t
 Inside t (Excessive at) = at ≤ length t
-Inside t (Refused number first) = Unit {0}
+Inside t (Refused refusal) = second_of refusal ≡ 0
 
 -- a text that was read, and what there is to write has room
 pub record Counted (newer : Bool) (t : List ℕ) (size : ℕ) (list pool : List ℕ) : Type 0 where

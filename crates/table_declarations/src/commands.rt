@@ -8,20 +8,11 @@ pub fn put_command(start: usize, name: usize, value: usize, out: &mut [u8])
     requires { (start ≤ 67108864) × (name ≤ 67108864) }
     ensures { out.new ≡ over (command_at start name value) out.old }
 {
-    let text = start + name;
-    let command = [
-        1,
-        (start % 256) as u8,
-        (start / 256 % 256) as u8,
-        (start / 65536 % 256) as u8,
-        (start / 16777216 % 256) as u8,
-        (name % 256) as u8,
-        (text % 256) as u8,
-        (text / 256 % 256) as u8,
-        (text / 65536 % 256) as u8,
-        (text / 16777216 % 256) as u8,
-        (value % 256) as u8,
-        (value / 256 % 256) as u8,
-    ];
+    let [s0, s1, s2, s3] = (start as u32).to_le_bytes();
+    let [t0, t1, t2, t3] = ((start + name) as u32).to_le_bytes();
+    let name = (name % 256) as u8;
+    let low = (value % 256) as u8;
+    let high = (value / 256 % 256) as u8;
+    let command = [1, s0, s1, s2, s3, name, t0, t1, t2, t3, low, high];
     output::put_over(&command, out);
 }

@@ -13,8 +13,8 @@ use Rattle.text.specs.Version.{Rule}
 use Rattle.text.specs.Utf8.{State, between, next, after, WellFormed}
 use Rattle.text.proofs.Bytes.{pick_by, and_left, and_right}
 use Rattle.text.proofs.Utf8.{after_append, append_well_formed, ascii_well_formed, all_ascii, next_ascii, settled, split_ascii}
-use Rattle.text.specs.declared.Answer.{Answer}
-use Rattle.text.specs.declared.Answer.TheVariants.{Done, Refused}
+use Rattle.text.specs.Answers.{Answer}
+use Rattle.text.specs.Answers.{Done, Refused}
 use Rattle.charref.specs.CharRef.{char_number, any_character, number_answer}
 use Rattle.eols.specs.LineEnds.{eols}
 use Rattle.eols.proofs.Normal.{eols_well_formed}

@@ -11,8 +11,8 @@ use borrow.Author.Tests.{eqb-true, eqb-false}
 use Rattle.text.specs.Bytes.{pick}
 use Rattle.text.proofs.Bytes.{pick_by}
 use Rattle.charref.specs.CharRef.{char_number, any_character, number_answer, encode}
-use Rattle.charref.specs.declared.CharNumber.{CharNumber}
-use Rattle.charref.specs.declared.CharNumber.TheVariants.{Char, UnexpectedSign, InvalidNumber, InvalidCodepoint, IllegalCharacter, Forbidden}
+use Rattle.charref.specs.CharNumbers.{CharNumber}
+use Rattle.charref.specs.CharNumbers.{Char, UnexpectedSign, InvalidNumber, InvalidCodepoint, IllegalCharacter, Forbidden}
 use Rattle.table_names.specs.NameChars.{name_length}
 use Rattle.table_grammar.specs.EntityValue.{Read, read, departs, exceeds, refused, onward, literal, is_white, after_space, space, name, name_of, numbered, char_ref_from, entity_ref, reference, value_from, entity_value}
 use Rattle.table_grammar.specs.EntityDecl.{keyword, opening, declared_name, definition, Entity, entity, no_more, one_more, entities_at, entities}

@@ -11,8 +11,8 @@ use lib.ListN.{length}
 use borrow.Author.Tests.{eqb-true, eq-eqb, ne_eqb, le-ltb}
 use Rattle.text.specs.Bytes.{pick}
 use Rattle.charref.specs.CharRef.{char_number, any_character, number_answer, encode}
-use Rattle.charref.specs.declared.CharNumber.{CharNumber}
-use Rattle.charref.specs.declared.CharNumber.TheVariants.{Char}
+use Rattle.charref.specs.CharNumbers.{CharNumber}
+use Rattle.charref.specs.CharNumbers.{Char}
 use Rattle.charref.proofs.Encoding.{by_size}
 use Rattle.legal.proofs.Decoding.{char_ascii}
 use Rattle.table_names.specs.NameChars.{is_name_start, is_name_char, char_width, name_chars}

@@ -10,8 +10,8 @@ use lib.ListN.{length, take, drop, length-drop, drop_of_length-le}
 use lib.Seq.{drop-drop}
 use borrow.Author.Tests.{ltb-true, ltb-false}
 use Rattle.text.proofs.Bytes.{pick_by}
-use Rattle.text.specs.declared.Answer.{Answer}
-use Rattle.text.specs.declared.Answer.TheVariants.{Done, Refused}
+use Rattle.text.specs.Answers.{Answer}
+use Rattle.text.specs.Answers.{Done, Refused}
 use Rattle.charref.specs.CharRef.{char_number, any_character, number_answer}
 use Rattle.table_names.specs.NameChars.{name_length}
 use Rattle.table_grammar.specs.EntityValue.{Read, read, departs, exceeds, refused, onward, literal, name, name_of, numbered, char_ref_from, entity_ref, reference, value_from}

@@ -8,7 +8,7 @@ use lib.ListN.{length, length-append}
 use borrow.Author.Tests.{ne_eqb, le-ltb}
 use Rattle.text.specs.Utf8.{well_formed, WellFormed}
 use Rattle.text.specs.Call.{passed}
-use Rattle.text.specs.declared.Answer.{Answer}
+use Rattle.text.specs.Answers.{Answer}
 use Rattle.text.proofs.Utf8.{testable}
 use Rattle.entity.specs.Table.{Declaration, inside, declaration, name_of, text_of, mark_size, runs_past, ill_formed, declaration_check, end_check, commands_check, size_check, table_check, ValidTable}
 use Rattle.table_grammar.specs.EntityDecl.{Entity}

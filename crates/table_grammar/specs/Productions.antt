@@ -2,7 +2,7 @@
 -- production, and what goes into the pool for it (document 02, K3). Assumes nothing.
 use Rattle.std.specs.Prelude.{◌≡◌, ◌≢◌, true, List, [], ◌∷◌, ◌++◌, ℕ}
 use Rattle.charref.specs.CharRef.{char_number, any_character, encode}
-use Rattle.charref.specs.declared.CharNumber.TheVariants.{Char}
+use Rattle.charref.specs.CharNumbers.{Char}
 use Rattle.table_names.specs.NameChars.{is_name_start, is_name_char}
 use Rattle.table_grammar.specs.EntityValue.{is_white}
 use Rattle.table_grammar.specs.EntityDecl.{keyword, Entity}

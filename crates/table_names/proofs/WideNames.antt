@@ -1,8 +1,11 @@
 -- Names above U+007F: a character of two, three or four bytes by its number, which is no name character where the form is overlong, a surrogate
 -- or beyond U+10FFFF. Assumes nothing.
 use mathlib.Core.Path.{◌≡◌, refl, sym, ap, ap₂, ◌∙◌}
-use mathlib.Core.Bool.{Bool, true, false, true≢false, ◌||◌}
-use mathlib.Core.Option.{Option, none, some}
+use mathlib.Core.Bool.{Bool, true, false, true≢false}
+use mathlib.Core.Option.{Option as Maybe, none, some}
+use Rattle.std.specs.Prelude.{Option, Some, None}
+use Rattle.std.specs.Option.{unwrap_or, is_some}
+use Rattle.table_names.proofs.TailBits.{tail_is, tail_not}
 use mathlib.Core.List.{List, ◌∷◌}
 use Prim.Native.Nat.{ℕ, zero, suc, ◌+◌, ◌-◌, ◌*◌, ◌≤◌, ◌<◌}
 use native.Mathlib.Omega.{arith}
@@ -12,7 +15,7 @@ use borrow.Author.Tests.{eqb-true, eqb-false, ne_eqb, ltb-true, ltb-false}
 use Rattle.text.specs.Bytes.{pick, within}
 use Rattle.text.specs.Version.{xml10}
 use Rattle.text.specs.Utf8.{State, between, one, two, first, is_between}
-use Rattle.text.proofs.Bytes.{inside, above, below, within_low, within_top, or_left, or_right}
+use Rattle.text.proofs.Bytes.{inside, above, below, within_low, within_top}
 use Rattle.text.proofs.Patterns.{at_head}
 use Rattle.text.proofs.FirstByte.{first_low, first_e0, first_ed, first_two, first_f0, first_three, first_f4, first_high}
 use Rattle.legal.specs.Legal.{char_from}
@@ -97,15 +100,12 @@ name_scalar false =
 
 -- ---- tails by what they add
 
-pub tail_none : (b c : ℕ) → c ≡ tail_bits b → c ≡ 64 → within 0x80 0xBF b ≡ false
-tail_none b c e z = go (within 0x80 0xBF b) refl
+pub tail_none : (b : ℕ) → tail_bits b ≡ None → within 0x80 0xBF b ≡ false
+tail_none b e = go (within 0x80 0xBF b) refl
   where
-    added : within 0x80 0xBF b ≡ true → tail_bits b ≡ b - 0x80
-    added f = unfold tail_bits in rw f
-
     go : (x : Bool) → within 0x80 0xBF b ≡ x → within 0x80 0xBF b ≡ false
     go false f = f
-    go true f = absurd (omega (arith, within_low 0x80 0xBF b f, within_top 0x80 0xBF b f, e ∙ added f, z))
+    go true f = absurd (true≢false (ap is_some (sym (tail_is b f) ∙ e)))
 
 pub record TailIs (b c : ℕ) : Type 0 where
   pub tail : within 0x80 0xBF b ≡ true
@@ -113,45 +113,23 @@ pub record TailIs (b c : ℕ) : Type 0 where
   pub low : 0x80 ≤ b
   pub top : b ≤ 0xBF
 
-pub tail_some : (b c : ℕ) → c ≡ tail_bits b → (c ≡ 64 → ⊥) → TailIs b c
-tail_some b c e n = go (within 0x80 0xBF b) refl
+pub tail_some : (b : ℕ) {c : ℕ} → tail_bits b ≡ Some c → TailIs b c
+tail_some b {c} e = go (within 0x80 0xBF b) refl
   where
-    added : within 0x80 0xBF b ≡ true → tail_bits b ≡ b - 0x80
-    added f = unfold tail_bits in rw f
-
-    lacks : within 0x80 0xBF b ≡ false → tail_bits b ≡ 64
-    lacks f = unfold tail_bits in rw f
-
     go : (x : Bool) → within 0x80 0xBF b ≡ x → TailIs b c
-    go true f = record { tail = f; adds = e ∙ added f; low = within_low 0x80 0xBF b f; top = within_top 0x80 0xBF b f }
-    go false f = absurd (n (e ∙ lacks f))
+    go true f =
+        record { tail = f; adds = ap (λ (o : Option ℕ). unwrap_or o 0) (sym e ∙ tail_is b f); low = within_low 0x80 0xBF b f; top = within_top 0x80 0xBF b f }
+    go false f = absurd (true≢false (ap is_some (sym e ∙ tail_not b f)))
 
--- where none of the tests for 64 holds the bytes after the first are tails
+-- both bytes after the first are tails
 pub record Tails3 (t : List ℕ) (i c d : ℕ) : Type 0 where
   pub tail_2 : TailIs (get_or t (i + 1) 0) c
   pub tail_3 : TailIs (get_or t (i + 2) 0) d
-
-pub tails_3 : (t : List ℕ) (i c d : ℕ) → c ≡ tail_bits (get_or t (i + 1) 0) → d ≡ tail_bits (get_or t (i + 2) 0) → eqb c 64 || eqb d 64 ≡ false → Tails3 t i c d
-tails_3 t i c d p q e =
-    record {
-      tail_2 = tail_some (get_or t (i + 1) 0) c p (eqb-false c 64 (or_left (eqb c 64) (eqb d 64) e));
-      tail_3 = tail_some (get_or t (i + 2) 0) d q (eqb-false d 64 (or_right (eqb c 64) (eqb d 64) e));
-    }
 
 pub record Tails4 (t : List ℕ) (i c d e : ℕ) : Type 0 where
   pub tail_2 : TailIs (get_or t (i + 1) 0) c
   pub tail_3 : TailIs (get_or t (i + 2) 0) d
   pub tail_4 : TailIs (get_or t (i + 3) 0) e
-
-pub tails_4 : (t : List ℕ) (i c d e : ℕ) → c ≡ tail_bits (get_or t (i + 1) 0) → d ≡ tail_bits (get_or t (i + 2) 0) → e ≡ tail_bits (get_or t (i + 3) 0)
-    → eqb c 64 || eqb d 64 || eqb e 64 ≡ false → Tails4 t i c d e
-tails_4 t i c d e p q r f =
-    let two = tails_3 t i c d p q (or_left (eqb c 64 || eqb d 64) (eqb e 64) f) in
-    record {
-      tail_2 = two.tail_2;
-      tail_3 = two.tail_3;
-      tail_4 = tail_some (get_or t (i + 3) 0) e r (eqb-false e 64 (or_right (eqb c 64 || eqb d 64) (eqb e 64) f));
-    }
 
 -- ---- so many bytes of a text
 
@@ -182,7 +160,7 @@ at_four t i h =
 
 -- ---- characters of two and three bytes
 
-width_is : (test : ℕ → Bool) (b : ℕ) (bs : List ℕ) {o : Option ℕ} {k : ℕ} → char_from between 0 (b ∷ bs) ≡ o → char_size b ≡ k
+width_is : (test : ℕ → Bool) (b : ℕ) (bs : List ℕ) {o : Maybe ℕ} {k : ℕ} → char_from between 0 (b ∷ bs) ≡ o → char_size b ≡ k
     → char_width test (b ∷ bs) ≡ pick (passes test o) k 0
 unfolding char_width
 width_is test b bs e f = rw (e, f)
@@ -201,13 +179,13 @@ abbrev more : ℕ → ℕ → ℕ
 more n c = 64 * n + (c - 0x80)
 
 -- the number, where each test of a tail holds
-abbrev if_one : Bool → ℕ → Option ℕ
+abbrev if_one : Bool → ℕ → Maybe ℕ
 if_one x n = pick x (some n) none
 
-abbrev if_two : Bool → Bool → ℕ → Option ℕ
+abbrev if_two : Bool → Bool → ℕ → Maybe ℕ
 if_two x y n = pick x (if_one y n) none
 
-abbrev if_three : Bool → Bool → Bool → ℕ → Option ℕ
+abbrev if_three : Bool → Bool → Bool → ℕ → Maybe ℕ
 if_three x y z n = pick x (if_two y z n) none
 
 one_left : (n c : ℕ) (bs : List ℕ) → char_from one n (c ∷ bs) ≡ if_one (within 0x80 0xBF c) (more n c)
@@ -221,7 +199,7 @@ two_left : {s : State} {lo hi : ℕ} (w : Waits s lo hi one) (n c d : ℕ) (bs :
     → char_from s n (c ∷ d ∷ bs) ≡ if_two (within lo hi c) (within 0x80 0xBF d) (more (more n c) d)
 two_left {s} {lo} {hi} w n c d bs = go (within lo hi c) refl
   where
-    by : Bool → Option ℕ
+    by : Bool → Maybe ℕ
     by x = if_two x (within 0x80 0xBF d) (more (more n c) d)
 
     go : (x : Bool) → within lo hi c ≡ x → char_from s n (c ∷ d ∷ bs) ≡ if_two (within lo hi c) (within 0x80 0xBF d) (more (more n c) d)
@@ -232,7 +210,7 @@ three_left : {s : State} {lo hi : ℕ} (w : Waits s lo hi two) (n c d e : ℕ) (
     → char_from s n (c ∷ d ∷ e ∷ bs) ≡ if_three (within lo hi c) (within 0x80 0xBF d) (within 0x80 0xBF e) (more (more (more n c) d) e)
 three_left {s} {lo} {hi} w n c d e bs = go (within lo hi c) refl
   where
-    by : Bool → Option ℕ
+    by : Bool → Maybe ℕ
     by x = if_three x (within 0x80 0xBF d) (within 0x80 0xBF e) (more (more (more n c) d) e)
 
     go : (x : Bool) → within lo hi c ≡ x → char_from s n (c ∷ d ∷ e ∷ bs) ≡ by (within lo hi c)
@@ -350,9 +328,6 @@ lead3 b l k = go (eqb b 0xE0) refl (eqb b 0xED) refl
           within_is = λ c d g o. omega arith;
         }
 
-pick_none : (test : ℕ → Bool) (k : ℕ) (x y : Bool) (o : Option ℕ) → (x ≡ false → y ≡ false) → x ≡ false → pick (passes test (pick y o none)) k 0 ≡ 0
-pick_none test k x y o f e = ap (λ (z : Bool). pick (passes test (pick z o none)) k 0) (f e)
-
 narrow : (lo hi c : ℕ) → 0x80 ≤ lo → hi ≤ 0xBF → within 0x80 0xBF c ≡ false → within lo hi c ≡ false
 narrow lo hi c l h e = go (within lo hi c) refl
   where
@@ -410,22 +385,6 @@ module _ (test : ℕ → Bool) (s : Scalar test) (t : List ℕ) (i : ℕ) (h : i
             let q = x.tail_3 in
             let o = (lead3 (get_or t i 0) l k).outside (second t i) (third t i) p.low p.top q.low q.top g (omega (arith, e, m)) in
             ap (λ (z : Bool). pick z 3 0) (sym f ∙ s.surrogate n (omega (arith, e, o.0)) (omega (arith, e, o.1))) ∙ sym (three_in g q.tail)
-
--- one of two is no tail
-pub no_tails : {X : Type 0} (c d : ℕ) → eqb c 64 || eqb d 64 ≡ true → (c ≡ 64 → X) → (d ≡ 64 → X) → X
-no_tails {X} c d e f g = go (eqb c 64) refl e
-  where
-    go : (x : Bool) → eqb c 64 ≡ x → x || eqb d 64 ≡ true → X
-    go true p q = f (eqb-true c 64 p)
-    go false p q = g (eqb-true d 64 q)
-
--- one of three
-pub no_three : {X : Type 0} (c d e : ℕ) → eqb c 64 || eqb d 64 || eqb e 64 ≡ true → (c ≡ 64 → X) → (d ≡ 64 → X) → (e ≡ 64 → X) → X
-no_three {X} c d e p f g h = go (eqb c 64 || eqb d 64) refl p
-  where
-    go : (x : Bool) → eqb c 64 || eqb d 64 ≡ x → x || eqb e 64 ≡ true → X
-    go true q r = no_tails c d q f g
-    go false q r = h (eqb-true e 64 r)
 
 -- ---- four bytes
 

@@ -4,7 +4,7 @@
 ghost use Rattle.std.specs.Prelude.{◌≡◌, Bool, ℕ, ◌+◌, ◌≤◌, ◌<◌, length, drop, get_or};
 ghost use Rattle.text.specs.Bytes.{pick, within};
 ghost use Rattle.table_names.specs.NameChars.{is_name_start, is_name_char, char_width, name_chars, name_length};
-ghost use Rattle.table_names.specs.NameTerms.{tail_bits};
+ghost use Rattle.table_names.specs.NameTerms.{tail_bits, width_of, Numbered};
 
 // [4] NameStartChar below U+0080.
 fn is_name_start_byte(b: u8) -> bool
@@ -57,7 +57,8 @@ fn is_name_char(c: usize) -> bool
         | ((0x203f <= c) & (c <= 0x2040))
 }
 
-// A character of two bytes or more, by its number: is it a name start character, or a name character?
+// A character of two bytes or more, by its number: is it a name start character, or a name character? (A flag, as a closure's F.post would stand
+// in the clause of each width.)
 fn is_name(c: usize, first: bool) -> bool
     ensures { result ≡ pick first is_name_start is_name_char c }
 {
@@ -67,84 +68,77 @@ fn is_name(c: usize, first: bool) -> bool
     is_name_char(c)
 }
 
-// What the byte at i adds to its character's number, 64 where it is no UTF8-tail.
-fn tail_at(text: &[u8], i: usize) -> usize
+// The width of a character, by its number, where it is one that may stand there; else 0.
+fn width_of(number: Option<usize>, width: usize, first: bool) -> usize
+    ensures { result ≡ width_of (pick first is_name_start is_name_char) number width }
+{
+    match number {
+        Some(c) if is_name(c, first) => width,
+        _ => 0,
+    }
+}
+
+// What the byte at i adds to its character's number, where it is a UTF8-tail.
+fn tail_at(text: &[u8], i: usize) -> Option<usize>
     requires { i < length text.now }
     ensures { result ≡ tail_bits (get_or text.now i 0) }
 {
-    let b = entity::wide(text[i]);
+    let b = text[i];
     if (0x80 <= b) & (b <= 0xbf) {
-        return b - 0x80;
+        return Some(usize::from(b - 0x80));
     }
-    64
+    None
 }
 
-// Two bytes.
-fn two_width(text: &[u8], i: usize, first: bool) -> usize
+// The number of the character of two bytes at i. (A function for each size: one loop over the tails would be handed the size, what is taken off
+// the first byte, and the least number.)
+fn two_bytes(text: &[u8], i: usize) -> Option<usize>
     requires { (i < length text.now) × (0xC2 ≤ get_or text.now i 0) × (get_or text.now i 0 < 0xE0) }
-    ensures { result ≡ char_width (pick first is_name_start is_name_char) (drop i text.now) }
+    ensures { Numbered text.now i 2 result }
 {
     if text.len() - i < 2 {
-        return 0;
+        return None;
     }
-    let c = tail_at(text, i + 1);
-    if c == 64 {
-        return 0;
-    }
-    if is_name(64 * (entity::wide(text[i]) - 0xc0) + c, first) {
-        return 2;
-    }
-    0
+    let c = tail_at(text, i + 1)?;
+    Some(64 * (usize::from(text[i]) - 0xc0) + c)
 }
 
 // Three bytes; a number below U+0800 is an overlong form.
-fn three_width(text: &[u8], i: usize, first: bool) -> usize
+fn three_bytes(text: &[u8], i: usize) -> Option<usize>
     requires { (i < length text.now) × (0xE0 ≤ get_or text.now i 0) × (get_or text.now i 0 < 0xF0) }
-    ensures { result ≡ char_width (pick first is_name_start is_name_char) (drop i text.now) }
+    ensures { Numbered text.now i 3 result }
 {
     if text.len() - i < 3 {
-        return 0;
+        return None;
     }
-    let c = tail_at(text, i + 1);
-    let d = tail_at(text, i + 2);
-    if (c == 64) | (d == 64) {
-        return 0;
-    }
-    let number = 64 * (64 * (entity::wide(text[i]) - 0xe0) + c) + d;
+    let c = tail_at(text, i + 1)?;
+    let d = tail_at(text, i + 2)?;
+    let number = 64 * (64 * (usize::from(text[i]) - 0xe0) + c) + d;
     if number < 0x800 {
-        return 0;
+        return None;
     }
-    if is_name(number, first) {
-        return 3;
-    }
-    0
+    Some(number)
 }
 
 // Four bytes; a number below U+10000 is an overlong form.
-fn four_width(text: &[u8], i: usize, first: bool) -> usize
+fn four_bytes(text: &[u8], i: usize) -> Option<usize>
     requires { (i < length text.now) × (0xF0 ≤ get_or text.now i 0) × (get_or text.now i 0 < 0x100) }
-    ensures { result ≡ char_width (pick first is_name_start is_name_char) (drop i text.now) }
+    ensures { Numbered text.now i 4 result }
 {
     if text.len() - i < 4 {
-        return 0;
+        return None;
     }
-    let c = tail_at(text, i + 1);
-    let d = tail_at(text, i + 2);
-    let e = tail_at(text, i + 3);
-    if (c == 64) | (d == 64) | (e == 64) {
-        return 0;
-    }
-    let number = 64 * (64 * (64 * (entity::wide(text[i]) - 0xf0) + c) + d) + e;
+    let c = tail_at(text, i + 1)?;
+    let d = tail_at(text, i + 2)?;
+    let e = tail_at(text, i + 3)?;
+    let number = 64 * (64 * (64 * (usize::from(text[i]) - 0xf0) + c) + d) + e;
     if number < 0x10000 {
-        return 0;
+        return None;
     }
-    if is_name(number, first) {
-        return 4;
-    }
-    0
+    Some(number)
 }
 
-// Two bytes or more.
+// The width of a character of two bytes or more.
 fn wide_width(text: &[u8], i: usize, first: bool) -> usize
     requires { (i < length text.now) × (0x80 ≤ get_or text.now i 0) }
     ensures { result ≡ char_width (pick first is_name_start is_name_char) (drop i text.now) }
@@ -154,15 +148,15 @@ fn wide_width(text: &[u8], i: usize, first: bool) -> usize
         return 0;
     }
     if b < 0xe0 {
-        return two_width(text, i, first);
+        return width_of(two_bytes(text, i), 2, first);
     }
     if b < 0xf0 {
-        return three_width(text, i, first);
+        return width_of(three_bytes(text, i), 3, first);
     }
-    four_width(text, i, first)
+    width_of(four_bytes(text, i), 4, first)
 }
 
-// The width of the name start character at i, 0 where none is.
+// The width of the name start character at i, 0 where none is: the definition `char_width` says 0.
 fn name_start_width(text: &[u8], i: usize) -> usize
     requires { i < length text.now }
     ensures { result ≡ char_width is_name_start (drop i text.now) }
@@ -195,12 +189,13 @@ fn name_char_width(text: &[u8], i: usize) -> usize
     wide_width(text, i, false)
 }
 
-// Where the name characters from `from` on end.
+// Where the name characters from `from` on end. (By hand, as a turn goes on by a character's width.)
 fn name_chars_end(text: &[u8], from: usize) -> usize
     requires { from ≤ length text.now }
     ensures { (result ≤ length text.now) × (result ≡ from + name_chars 0 (drop from text.now)) }
 {
     let mut i = from;
+    // By hand: a character has one to four bytes.
     while i < text.len() {
         let width = name_char_width(text, i);
         if width == 0 {

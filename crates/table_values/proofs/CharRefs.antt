@@ -14,10 +14,15 @@ use borrow.Author.Tests.{eqb-true, eqb-false, eq-eqb, ne_eqb, ltb-true, ltb-fals
 use Rattle.text.specs.Bytes.{begins}
 use Rattle.text.proofs.Bytes.{or_left, or_right}
 use Rattle.text.proofs.Patterns.{at_head}
-use Rattle.text.specs.declared.Answer.{Answer}
-use Rattle.text.specs.declared.Answer.TheVariants.{Done, Refused}
+use Rattle.std.specs.Prelude.{Result, Ok, Err}
+use Rattle.text.specs.Answers.{Answer}
+use Rattle.text.specs.Refusals.{number_of, first_of, second_of}
+use Rattle.charref.specs.Errors.{read_as, answer_as, refusal_for}
+use Rattle.charref.specs.declared.ParseCharRefError.{ParseCharRefError}
+use Rattle.charref.specs.declared.ParseCharRefError.TheVariants as error
+use Rattle.charref.proofs.Errors.{answers}
 use Rattle.charref.specs.CharRef.{digit_value, number_from, small, in_base, judge, char_number, any_character, number_answer, encode}
-use Rattle.charref.specs.declared.CharNumber.{CharNumber}
+use Rattle.charref.specs.CharNumbers.{CharNumber}
 use Rattle.charref.proofs.Numbers.{number_step, number_stop_lem}
 use Rattle.runs.specs.RunEnds.{RunEnd}
 use Rattle.eols.specs.LineEnds.{line_end}
@@ -285,10 +290,27 @@ module _ (quote : ℕ) (newer : Bool) (t : List ℕ) (from end : ℕ) (ascii : Q
         at_end : (b : ℕ) (digits bs : List ℕ) → b ≡ 59 → char_ref_from quote digits (b ∷ bs) ≡ numbered (number_answer (char_number any_character digits)) bs
         at_end b digits bs q = unfold char_ref_from in rw (eq-eqb b 59 q)
 
-    pub number_read : {c second : ℕ} (a : Answer) → a ≡ number_answer (char_number any_character (take (end - from) (drop from t))) → a ≡ Done c second → get_or t end 0 ≡ 59
-        → char_ref_from quote [] (left newer t from) ≡ read (encode c) (left newer t (end + 1))
-    number_read a e f q = number_ended q ∙ ap (λ (x : Answer). numbered x (left newer t (end + 1))) (sym e ∙ f)
+    abbrev parsed : CharNumber
+    parsed = char_number any_character (take (end - from) (drop from t))
 
-    pub number_refused : {number first second : ℕ} (a : Answer) → a ≡ number_answer (char_number any_character (take (end - from) (drop from t))) → a ≡ Refused number first second → get_or t end 0 ≡ 59
-        → char_ref_from quote [] (left newer t from) ≡ refused number first
-    number_refused a e f q = number_ended q ∙ ap (λ (x : Answer). numbered x (left newer t (end + 1))) (sym e ∙ f)
+    -- by what the digits were parsed as
+    number_parsed : {r : Result ℕ ParseCharRefError} → r ≡ read_as parsed → get_or t end 0 ≡ 59
+        → char_ref_from quote [] (left newer t from) ≡ numbered (answer_as r) (left newer t (end + 1))
+    number_parsed e q =
+        number_ended q ∙ ap (λ (x : Answer). numbered x (left newer t (end + 1))) (sym (answers parsed) ∙ ap answer_as (sym e))
+
+    pub number_read : {c : ℕ} → Ok c ≡ read_as parsed → get_or t end 0 ≡ 59
+        → char_ref_from quote [] (left newer t from) ≡ read (encode c) (left newer t (end + 1))
+    number_read e q = number_parsed e q
+
+    pub number_refused : {e : ParseCharRefError} → Err e ≡ read_as parsed → get_or t end 0 ≡ 59
+        → char_ref_from quote [] (left newer t from) ≡ refused (number_of (refusal_for e)) (first_of (refusal_for e))
+    number_refused e q = number_parsed e q
+
+-- a number's refusal has no second word
+pub no_second : (e : ParseCharRefError) → second_of (refusal_for e) ≡ 0
+no_second error.UnexpectedSign = refl
+no_second error.InvalidNumber = refl
+no_second (error.InvalidCodepoint n) = refl
+no_second error.IllegalCharacter = refl
+no_second error.Forbidden = refl

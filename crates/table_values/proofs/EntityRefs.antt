@@ -14,7 +14,9 @@ use Rattle.table_values.proofs.LeftPlaces.{left_end, left_ascii}
 use Rattle.table_grammar.specs.EntityValue.{Read, read, onward, literal, char_ref_from, entity_ref, reference, name}
 use Rattle.table_names.specs.NameTerms.{left}
 use Rattle.table_values.specs.ValueSteps.{Meets}
-use Rattle.table_values.specs.declared.Step.TheVariants.{Next, Misplaced}
+use Rattle.table_values.specs.declared.Fault.TheVariants.{Misplaced}
+use Rattle.table_values.proofs.EntityValues.{going}
+use Rattle.std.specs.Prelude.{Err}
 use Rattle.output.specs.Over.{over}
 use Rattle.text.proofs.Patterns.{at_head, begins_one}
 use Rattle.text.specs.Bytes.{begins}
@@ -58,7 +60,7 @@ module _ {newer : Bool} {t : List ℕ} (i : ℕ) {e : ℕ} (x : NameAt newer t (
   ref_by : {r : Read (List ℕ)} → name (left newer t (i + 1)) ≡ r → entity_ref (left newer t (i + 1)) ≡ onward r (λ n end. onward (literal (59 ∷ []) end) (λ w rest. read (38 ∷ n ++ 59 ∷ []) rest))
   ref_by q = unfold entity_ref in ap (λ (r : Read (List ℕ)). onward r (λ n end. onward (literal (59 ∷ []) end) (λ w rest. read (38 ∷ n ++ 59 ∷ []) rest))) q
 
-  pub ref_none : e ≡ i + 1 → Meets newer t i (entity_ref (left newer t (i + 1))) old old (Misplaced e)
+  pub ref_none : e ≡ i + 1 → Meets newer t i (entity_ref (left newer t (i + 1))) old old (Err (Misplaced e))
   ref_none q = record { value = []; is = ref_by (name_none x q); kept = (x.to, refl) }
 
   module _ (g : e ≡ i + 1 → ⊥) where
@@ -68,7 +70,7 @@ module _ {newer : Bool} {t : List ℕ} (i : ℕ) {e : ℕ} (x : NameAt newer t (
     closed_by : {r : Read (List ℕ)} → literal (59 ∷ []) (left newer t e) ≡ r → entity_ref (left newer t (i + 1)) ≡ onward r (λ w rest. read (38 ∷ take (e - (i + 1)) (drop (i + 1) t) ++ 59 ∷ []) rest)
     closed_by q = ref_by (name_some x some) ∙ ap (λ (r : Read (List ℕ)). onward r (λ w rest. read (38 ∷ take (e - (i + 1)) (drop (i + 1) t) ++ 59 ∷ []) rest)) q
 
-    pub ref_open : begins (59 ∷ []) (drop e t) ≡ false → Meets newer t i (entity_ref (left newer t (i + 1))) old old (Misplaced e)
+    pub ref_open : begins (59 ∷ []) (drop e t) ≡ false → Meets newer t i (entity_ref (left newer t (i + 1))) old old (Err (Misplaced e))
     ref_open q = record { value = []; is = closed_by (literal_off newer t e 59 [] (omega arith) (omega arith) q); kept = (x.to, refl) }
 
     module _ (h : i < length t) (amp : get_or t i 0 ≡ 38) (q : begins (59 ∷ []) (drop e t) ≡ true) where
@@ -92,7 +94,7 @@ module _ {newer : Bool} {t : List ℕ} (i : ℕ) {e : ℕ} (x : NameAt newer t (
       literal_nothing : (l : List ℕ) → literal [] l ≡ read [] l
       literal_nothing l = unfold literal in refl
 
-      pub ref_closed : {new : List ℕ} → new ≡ over (take (e + 1 - i) (drop i t)) old → Meets newer t i (entity_ref (left newer t (i + 1))) old new (Next (e + 1) (e + 1 - i))
+      pub ref_closed : {new : List ℕ} → new ≡ over (take (e + 1 - i) (drop i t)) old → Meets newer t i (entity_ref (left newer t (i + 1))) old new (going (e + 1) (e + 1 - i))
       ref_closed o =
           record {
             value = take (e + 1 - i) (drop i t);

@@ -1,5 +1,5 @@
 -- Entity values: one byte, a run, a line end, a reference; what a reader of a value has so far (`Valuing`). Assumes nothing.
-use mathlib.Core.Path.{◌≡◌, refl, sym, ap, ◌∙◌, subst}
+use mathlib.Core.Path.{◌≡◌, refl, sym, ap, ◌∙◌}
 use mathlib.Core.Logic.{◌≢◌}
 use mathlib.Core.Bool.{Bool, true, false, ◌||◌}
 use mathlib.Core.List.{List, [], ◌∷◌, ◌++◌, append_assoc, append-nil}
@@ -22,9 +22,11 @@ use Rattle.eols.specs.LineEnds.{line_end}
 use Rattle.eols.specs.Stops.{rule_for}
 use Rattle.table_grammar.specs.EntityValue.{Read, read, departs, exceeds, refused, onward, reference, value_from}
 use Rattle.table_names.specs.NameTerms.{left}
-use Rattle.table_values.specs.ValueSteps.{meant, Kept, Meets, value_stop, value_step, Quote}
-use Rattle.table_values.specs.declared.Step.{Step}
-use Rattle.table_values.specs.declared.Step.TheVariants.{Next, Misplaced, Excessive, Refused as Wrong}
+use Rattle.table_values.specs.ValueSteps.{fault, KeptFault, Kept, Meets, value_stop, value_step, Quote}
+use Rattle.table_values.specs.declared.Next.{Next}
+use Rattle.table_values.specs.declared.Fault.{Fault}
+use Rattle.table_values.specs.declared.Fault.TheVariants.{Misplaced, Excessive, Refused as Wrong}
+use Rattle.std.specs.Prelude.{Result, Ok, Err}
 use Rattle.table_values.proofs.LeftPlaces.{left_end, left_byte, left_ascii, left_kept, left_ended, ended_inside}
 use Rattle.table_values.proofs.Literals.{headed}
 use Rattle.table_grammar.proofs.ReferenceEnds.{Ends, tail_drop, reference_ends, value_skip}
@@ -32,24 +34,25 @@ use Rattle.table_values.proofs.ValueStops.{value_lines}
 
 -- ---- steps that stop
 
--- a step that does not go on
-abbrev pub Stops : Step → Type 0
-Stops (Next at len) = ⊥
-Stops (Misplaced at) = Unit {0}
-Stops (Excessive at) = Unit {0}
-Stops (Wrong number first) = Unit {0}
+pub fault_onward : {A B : Type 0} (newer : Bool) (t : List ℕ) (f : Fault) (more : A → List ℕ → Read B) → onward (fault newer t f) more ≡ fault newer t f
+fault_onward newer t (Misplaced at) more = refl
+fault_onward newer t (Excessive at) more = refl
+fault_onward newer t (Wrong refusal) more = refl
 
-pub stops_on : (newer : Bool) (t v u : List ℕ) (step : Step) → Stops step → (more : List ℕ → List ℕ → Read (List ℕ)) → onward (meant newer t v step) more ≡ meant newer t u step
-stops_on newer t v u (Next at len) x more = absurd x
-stops_on newer t v u (Misplaced at) x more = refl
-stops_on newer t v u (Excessive at) x more = refl
-stops_on newer t v u (Wrong number first) x more = refl
+-- it says of the output its length alone
+pub fault_same : (t old new old' new' : List ℕ) (f : Fault) → KeptFault t old new f → length new' ≡ length old' → KeptFault t old' new' f
+fault_same t old new old' new' (Misplaced at) k e = (k.0, e)
+fault_same t old new old' new' (Excessive at) k e = (k.0, e)
+fault_same t old new old' new' (Wrong refusal) k e = (e, k.1)
 
-pub stops_kept : (t : List ℕ) (i j : ℕ) (v u old new old' new' : List ℕ) (step : Step) → Stops step → Kept t i v old new step → length new' ≡ length old' → Kept t j u old' new' step
-stops_kept t i j v u old new old' new' (Next at len) x k e = absurd x
-stops_kept t i j v u old new old' new' (Misplaced at) x k e = (k.0, e)
-stops_kept t i j v u old new old' new' (Excessive at) x k e = (k.0, e)
-stops_kept t i j v u old new old' new' (Wrong number first) x k e = e
+pub fault_length : (t old new : List ℕ) (f : Fault) → KeptFault t old new f → length new ≡ length old
+fault_length t old new (Misplaced at) k = k.1
+fault_length t old new (Excessive at) k = k.1
+fault_length t old new (Wrong refusal) k = k.0
+
+-- a step that goes on at `at`
+abbrev pub going : ℕ → ℕ → Result Next Fault
+going at len = Ok (record { at = at; len = len })
 
 pub put_same : (w : ℕ) (out part : List ℕ) → w ≤ length out → length part ≡ length (mid_of w (length out - w) out) → length (put_mid w (length out - w) out part) ≡ length out
 put_same w out part h e =
@@ -135,9 +138,6 @@ pub record Valuing (quote : ℕ) (newer : Bool) (t : List ℕ) (from : ℕ) (old
   pub small : len + 4 * from ≤ 4 * i
   pub holds : out ≡ over value old
 
-pub valuing_start : (quote : ℕ) (newer : Bool) (t : List ℕ) (from : ℕ) (old : List ℕ) → from ≤ length t → Valuing quote newer t from old old from 0
-valuing_start quote newer t from old h = record { value = []; order = le_refl from; to = h; on = refl; size = refl; small = omega arith; holds = refl }
-
 pub valuing_length : {quote : ℕ} {newer : Bool} {t : List ℕ} {from : ℕ} {old out : List ℕ} {i len : ℕ} → Valuing quote newer t from old out i len → length out ≡ length old
 valuing_length {old = old} x = ap length x.holds ∙ length_over x.value old
 
@@ -160,7 +160,7 @@ valuing_run {quote} {newer} {t} {from} {old} {out} {i} {len} {e} {w} {part} x p 
 
 module _ {quote : ℕ} {newer : Bool} {t : List ℕ} {from : ℕ} {old out : List ℕ} {e len : ℕ} (x : Valuing quote newer t from old out e len) where
   -- the text ends
-  pub valuing_ended : e ≡ length t → Meets newer t from (value_from quote [] 0 (left newer t from)) old out (Misplaced e)
+  pub valuing_ended : e ≡ length t → Meets newer t from (value_from quote [] 0 (left newer t from)) old out (Err (Misplaced e))
   valuing_ended q =
       let z = left_end newer t e (omega arith) in
       record {
@@ -175,14 +175,14 @@ module _ {quote : ℕ} {newer : Bool} {t : List ℕ} {from : ℕ} {old out : Lis
       at_quote : left newer t e ≡ quote ∷ left newer t (e + 1)
       at_quote = rw q at (left_ascii newer t e h (omega (arith, ascii.0)) (omega (arith, ascii.1)))
 
-      pub valuing_long : 65535 < len → Meets newer t from (value_from quote [] 0 (left newer t from)) old out (Excessive e)
+      pub valuing_long : 65535 < len → Meets newer t from (value_from quote [] 0 (left newer t from)) old out (Err (Excessive e))
       valuing_long l =
           record { value = []; is = x.on ∙ ap (value_from quote x.value 0) at_quote ∙ long ∙ ap (λ (l : List ℕ). exceeds l) (sym at_quote); kept = (omega arith, valuing_length x) }
         where
           long : value_from quote x.value 0 (quote ∷ left newer t (e + 1)) ≡ exceeds (quote ∷ left newer t (e + 1))
           long = unfold value_from in rw (eq-eqb quote quote refl, lt-ltb 65535 (length x.value) (omega (arith, x.size)))
 
-      pub valuing_closed : len ≤ 65535 → Meets newer t from (value_from quote [] 0 (left newer t from)) old out (Next (e + 1) len)
+      pub valuing_closed : len ≤ 65535 → Meets newer t from (value_from quote [] 0 (left newer t from)) old out (going (e + 1) len)
       valuing_closed l =
           record {
             value = x.value;
@@ -203,9 +203,9 @@ module _ {quote : ℕ} {newer : Bool} {t : List ℕ} {from : ℕ} {old out : Lis
           ∙ ap (λ (l : List ℕ). onward (value_step quote l) (λ w rest. value_from quote (x.value ++ w) 0 rest)) (sym z.is)
 
       module _ {w : ℕ} {part : List ℕ} (m : w ≡ min len (length out)) where
-        pub valuing_step : {at more : ℕ} → Meets newer t e (value_step quote (left newer t e)) (mid_of w (length out - w) out) part (Next at more)
-            → Valuing quote newer t from old (put_mid w (length out - w) out part) at (len + more)
-        valuing_step {at} {more} s =
+        pub valuing_step : {next : Next} → Meets newer t e (value_step quote (left newer t e)) (mid_of w (length out - w) out) part (Ok next)
+            → Valuing quote newer t from old (put_mid w (length out - w) out part) next.at (len + next.len)
+        valuing_step {next} s =
             let k = s.kept in
             record {
               value = x.value ++ s.value;
@@ -218,25 +218,24 @@ module _ {quote : ℕ} {newer : Bool} {t : List ℕ} {from : ℕ} {old out : Lis
             }
 
         -- one that stops the reading
-        pub valuing_stopped : (step : Step) → Stops step → length part ≡ length (mid_of w (length out - w) out)
-            → Meets newer t e (value_step quote (left newer t e)) (mid_of w (length out - w) out) part step
-            → Meets newer t from (value_from quote [] 0 (left newer t from)) old (put_mid w (length out - w) out part) step
-        valuing_stopped step stops same s =
+        pub valuing_stopped : (f : Fault) → Meets newer t e (value_step quote (left newer t e)) (mid_of w (length out - w) out) part (Err f)
+            → Meets newer t from (value_from quote [] 0 (left newer t from)) old (put_mid w (length out - w) out part) (Err f)
+        valuing_stopped f s =
             record {
               value = [];
               is =
-                  x.on ∙ other_stop ∙ ap (λ (r : Read (List ℕ)). onward r (λ w rest. value_from quote (x.value ++ w) 0 rest)) s.is ∙ stops_on
-                  newer t s.value [] step stops (λ w rest. value_from quote (x.value ++ w) 0 rest);
-              kept = stops_kept t e from s.value [] (mid_of w (length out - w) out) part old (put_mid w (length out - w) out part) step stops s.kept (put_length ∙ valuing_length x);
+                  x.on ∙ other_stop ∙ ap (λ (r : Read (List ℕ)). onward r (λ w rest. value_from quote (x.value ++ w) 0 rest)) s.is
+                  ∙ fault_onward newer t f (λ w rest. value_from quote (x.value ++ w) 0 rest);
+              kept = fault_same t (mid_of w (length out - w) out) part old (put_mid w (length out - w) out part) f s.kept (put_length ∙ valuing_length x);
             }
           where
             put_length : length (put_mid w (length out - w) out part) ≡ length out
-            put_length = put_same w out part (omega (arith, m)) same
+            put_length = put_same w out part (omega (arith, m)) (fault_length t (mid_of w (length out - w) out) part f s.kept)
 
 -- ---- a line end, or a byte that may start one
 
 pub line_byte : (quote : ℕ) (newer : Bool) (t : List ℕ) (i b at : ℕ) (old : List ℕ) → i < at → at ≤ length t → b ≢ 37 → b ≢ 38 → left newer t i ≡ b ∷ left newer t at
-    → Meets newer t i (value_step quote (left newer t i)) old (set old 0 b) (Next at 1)
+    → Meets newer t i (value_step quote (left newer t i)) old (set old 0 b) (going at 1)
 line_byte quote newer t i b at old h k n m e =
     record {
       value = b ∷ [];
@@ -248,11 +247,11 @@ line_byte quote newer t i b at old h k n m e =
     plain = rw (ne_eqb b 37 n, ne_eqb b 38 m)
 
 pub line_kept : (quote : ℕ) (newer : Bool) (t : List ℕ) (i w : ℕ) (old : List ℕ) → i < length t → get_or t i 0 ≢ 37 → get_or t i 0 ≢ 38 → w ≡ 0 → w ≡ line_end (rule_for newer) (drop i t)
-    → Meets newer t i (value_step quote (left newer t i)) old (set old 0 (get_or t i 0)) (Next (i + 1) 1)
+    → Meets newer t i (value_step quote (left newer t i)) old (set old 0 (get_or t i 0)) (going (i + 1) 1)
 line_kept quote newer t i w old h n m z e = line_byte quote newer t i (get_or t i 0) (i + 1) old (omega arith) (omega arith) n m (left_kept newer t i h (sym z ∙ e))
 
 pub line_ended : (quote : ℕ) (newer : Bool) (t : List ℕ) (i w : ℕ) (old : List ℕ) → i < length t → (w ≡ 0 → ⊥) → w ≡ line_end (rule_for newer) (drop i t)
-    → Meets newer t i (value_step quote (left newer t i)) old (set old 0 10) (Next (i + w) 1)
+    → Meets newer t i (value_step quote (left newer t i)) old (set old 0 10) (going (i + w) 1)
 line_ended quote newer t i w old h n e =
     line_byte quote newer t i 10 (i + w) old (omega arith) (ended_inside newer t i w h n e) (λ q. absurd (omega arith)) (λ q. absurd (omega arith)) (left_ended newer t i w h n e)
 
@@ -266,33 +265,17 @@ percent_step quote newer t i h e =
     let z : left newer t i ≡ 37 ∷ left newer t (i + 1) = rw e at (left_ascii newer t i h (omega arith) (omega arith)) in
     ap (value_step quote) z ∙ ap (λ (l : List ℕ). departs l) (sym z)
 
-pub meets_as : {newer : Bool} {t : List ℕ} {i : ℕ} {wanted other : Read (List ℕ)} {old new : List ℕ} {r : Step} → other ≡ wanted → Meets newer t i wanted old new r → Meets newer t i other old new r
+pub meets_as : {newer : Bool} {t : List ℕ} {i : ℕ} {wanted other : Read (List ℕ)} {old new : List ℕ} {r : Result Next Fault} → other ≡ wanted → Meets newer t i wanted old new r → Meets newer t i other old new r
 meets_as e m = record { value = m.value; is = e ∙ m.is; kept = m.kept }
 
 -- a step from a later place
-pub kept_earlier : (t : List ℕ) (i j : ℕ) (v old new : List ℕ) (r : Step) → i ≤ j → Kept t j v old new r → Kept t i v old new r
-kept_earlier t i j v old new (Next at len) h k = record { on = omega (arith, k.on); to = k.to; size = k.size; small = omega (arith, k.small); holds = k.holds }
-kept_earlier t i j v old new (Misplaced at) h k = k
-kept_earlier t i j v old new (Excessive at) h k = k
-kept_earlier t i j v old new (Wrong number first) h k = k
+pub kept_earlier : (t : List ℕ) (i j : ℕ) (v old new : List ℕ) (r : Result Next Fault) → i ≤ j → Kept t j v old new r → Kept t i v old new r
+kept_earlier t i j v old new (Ok next) h k = record { on = omega (arith, k.on); to = k.to; size = k.size; small = omega (arith, k.small); holds = k.holds }
+kept_earlier t i j v old new (Err f) h k = k
 
-pub meets_earlier : {newer : Bool} {t : List ℕ} {i j : ℕ} {wanted : Read (List ℕ)} {old new : List ℕ} {r : Step} → i ≤ j → Meets newer t j wanted old new r → Meets newer t i wanted old new r
+pub meets_earlier : {newer : Bool} {t : List ℕ} {i j : ℕ} {wanted : Read (List ℕ)} {old new : List ℕ} {r : Result Next Fault} → i ≤ j → Meets newer t j wanted old new r → Meets newer t i wanted old new r
 meets_earlier {newer} {t} {i} {j} {wanted} {old} {new} {r} h m = record { value = m.value; is = m.is; kept = kept_earlier t i j m.value old new r h m.kept }
 
 -- the output by an equation
-pub meets_put : {newer : Bool} {t : List ℕ} {i : ℕ} {wanted : Read (List ℕ)} {old new new' : List ℕ} {r : Step} → new' ≡ new → Meets newer t i wanted old new r → Meets newer t i wanted old new' r
+pub meets_put : {newer : Bool} {t : List ℕ} {i : ℕ} {wanted : Read (List ℕ)} {old new new' : List ℕ} {r : Result Next Fault} → new' ≡ new → Meets newer t i wanted old new r → Meets newer t i wanted old new' r
 meets_put {newer} {t} {i} {wanted} {old} {new} {new'} {r} e m = rw e m
-
--- the step by an equation
-pub meets_told : {newer : Bool} {t : List ℕ} {i : ℕ} {wanted : Read (List ℕ)} {old new : List ℕ} {r s : Step} → r ≡ s → Meets newer t i wanted old new r → Meets newer t i wanted old new s
-meets_told {newer} {t} {i} {wanted} {old} {new} e m = subst (λ (x : Step). Meets newer t i wanted old new x) e m
-
--- a step that stops keeps the output's length
-pub stopped_length : {newer : Bool} {t : List ℕ} {i : ℕ} {wanted : Read (List ℕ)} {old new : List ℕ} (r : Step) → Stops r → Meets newer t i wanted old new r → length new ≡ length old
-stopped_length {t = t} {i} {old = old} {new} r k m = go r k m.value m.kept
-  where
-    go : (r : Step) → Stops r → (v : List ℕ) → Kept t i v old new r → length new ≡ length old
-    go (Next at len) k v x = absurd k
-    go (Misplaced at) k v x = x.1
-    go (Excessive at) k v x = x.1
-    go (Wrong number first) k v x = x

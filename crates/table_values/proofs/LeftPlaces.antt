@@ -3,13 +3,12 @@
 use mathlib.Core.Path.{◌≡◌, refl, ap, ◌∙◌}
 use mathlib.Core.Bool.{Bool, true, false}
 use mathlib.Core.List.{List, [], ◌∷◌, ◌++◌}
-use Prim.Native.Nat.{ℕ, ◌+◌, ◌-◌, ◌≤◌, ◌<◌}
+use Prim.Native.Nat.{ℕ, ◌+◌, ◌≤◌, ◌<◌}
 use native.Mathlib.Omega.{arith}
 use lib.ListN.{length, take, drop, get_or}
 use borrow.Author.Tests.{ne_eqb}
 use Rattle.text.specs.Bytes.{begins}
 use Rattle.text.proofs.Patterns.{at_head}
-use Rattle.output.specs.Runs.{Plain}
 use Rattle.output.proofs.Runs.{plain_byte}
 use Rattle.runs.specs.RunEnds.{line_stop}
 use Rattle.eols.specs.LineEnds.{line_end}
@@ -20,12 +19,6 @@ use Rattle.table_names.specs.NameTerms.{left}
 
 pub left_end : (newer : Bool) (t : List ℕ) (i : ℕ) → length t ≤ i → left newer t i ≡ []
 left_end newer t i h = eols_over newer t i h
-
--- a run without line ends
-pub left_run : (newer : Bool) (t : List ℕ) (i e : ℕ) → Plain (line_stop newer) t i e → left newer t i ≡ take (e - i) (drop i t) ++ left newer t e
-left_run newer t i e p =
-    let q : i + (e - i) ≡ e = omega (arith, p.from) in
-    rw q at (plain_run_lem newer t i (e - i) (rw q p))
 
 pub left_byte : (newer : Bool) (t : List ℕ) (i : ℕ) → i < length t → line_stop newer (get_or t i 0) ≡ false
     → left newer t i ≡ get_or t i 0 ∷ left newer t (i + 1)

@@ -6,4 +6,3 @@ pub mod ValueStops
 pub mod EntityValues
 pub mod CharRefs
 pub mod EntityRefs
-pub mod StepKinds

@@ -4,10 +4,9 @@ use mathlib.Core.Bool.{Bool, true, false, ◌||◌}
 use mathlib.Core.List.{List, [], ◌∷◌}
 use Prim.Native.Nat.{ℕ, zero, suc, ◌+◌, ◌≤◌, ◌<◌}
 use native.Mathlib.Omega.{arith}
-use native.Mathlib.Nat.{le_refl}
 use lib.Dec.{eqb}
 use lib.ListN.{length, drop, get_or}
-use borrow.Author.Tests.{ne_eqb, eqb-true, eqb-false}
+use borrow.Author.Tests.{ne_eqb, eqb-true}
 use Rattle.text.proofs.Patterns.{at_head}
 use Rattle.eols.specs.LineEnds.{line_end}
 use Rattle.eols.specs.Stops.{rule_for}
@@ -85,18 +84,6 @@ pub record Spacing (newer : Bool) (t : List ℕ) (from i : ℕ) : Type 0 where
   pub to : i ≤ length t
   pub on : after_space (left newer t from) ≡ after_space (left newer t i)
   pub some : from < i → space (left newer t from) ≡ read [] (after_space (left newer t i))
-
-pub spacing_start : (newer : Bool) (t : List ℕ) (from : ℕ) → from ≤ length t → Spacing newer t from from
-spacing_start newer t from h = record { order = le_refl from; to = h; on = refl; some = λ l. absurd (omega arith) }
-
-pub spacing_more : {newer : Bool} {t : List ℕ} {from i w : ℕ} → Spacing newer t from i → White newer t i w → (w ≡ 0 → ⊥) → Spacing newer t from (i + w)
-spacing_more {newer} {t} {from} {i} {w} s x n =
-    let p = x.white n in
-    record { order = omega (arith, s.order); to = x.inside; on = s.on ∙ p.on; some = λ l. go (eqb i from) refl p }
-  where
-    go : (y : Bool) → eqb i from ≡ y → Passes (left newer t i) (left newer t (i + w)) → space (left newer t from) ≡ read [] (after_space (left newer t (i + w)))
-    go true e p = ap (λ (k : ℕ). space (left newer t k)) (sym (eqb-true i from e)) ∙ p.some
-    go false e p = let q = eqb-false i from e in s.some (omega (arith, s.order)) ∙ ap (λ (l : List ℕ). read [] l) p.on
 
 pub spacing_end : {newer : Bool} {t : List ℕ} {from i : ℕ} → Spacing newer t from i → Dark (left newer t i) → Spaced newer t from i
 spacing_end {newer} {t} {from} {i} s d =

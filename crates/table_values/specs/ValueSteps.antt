@@ -1,12 +1,14 @@
 -- The terms in which white space, references and values are proved; no promise of a call rests on them. Assumes nothing.
-use Rattle.std.specs.Prelude.{◌≡◌, Bool, ◌||◌, List, [], ◌∷◌, ℕ, ◌+◌, ◌*◌, ◌≤◌, ◌<◌, length, eqb}
+use Rattle.std.specs.Prelude.{◌≡◌, Bool, ◌||◌, List, [], ◌∷◌, ℕ, ◌+◌, ◌*◌, ◌≤◌, ◌<◌, length, eqb, Result, Ok, Err}
 use Rattle.text.specs.Bytes.{pick}
+use Rattle.text.specs.Refusals.{number_of, first_of, second_of}
 use Rattle.output.specs.Over.{over}
 use Rattle.runs.specs.RunEnds.{line_stop}
 use Rattle.table_names.specs.NameTerms.{left}
 use Rattle.table_grammar.specs.EntityValue.{Read, read, departs, exceeds, refused, after_space, space, reference}
-use Rattle.table_values.specs.declared.Step.{Step}
-use Rattle.table_values.specs.declared.Step.TheVariants.{Next, Misplaced, Excessive, Refused}
+use Rattle.table_values.specs.declared.Next.{Next}
+use Rattle.table_values.specs.declared.Fault.{Fault}
+use Rattle.table_values.specs.declared.Fault.TheVariants.{Misplaced, Excessive, Refused}
 
 -- no white space stands there; the reader passes some, and what is left then is `rest`
 pub record Dark (t : List ℕ) : Type 0 where
@@ -32,18 +34,15 @@ pub record Spaced (newer : Bool) (t : List ℕ) (i e : ℕ) : Type 0 where
   pub some : i < e → space (left newer t i) ≡ read [] (left newer t e)
 
 -- a reader that does not go on
-abbrev pub fault : {A : Type 0} → Bool → List ℕ → Step → Read A
-fault newer t (Next at len) = departs (left newer t at)
+abbrev pub fault : {A : Type 0} → Bool → List ℕ → Fault → Read A
 fault newer t (Misplaced at) = departs (left newer t at)
 fault newer t (Excessive at) = exceeds (left newer t at)
-fault newer t (Refused number first) = refused number first
+fault newer t (Refused refusal) = refused (number_of refusal) (first_of refusal)
 
 -- what a step stands for, where it read these bytes
-abbrev pub meant : Bool → List ℕ → List ℕ → Step → Read (List ℕ)
-meant newer t v (Next at len) = read v (left newer t at)
-meant newer t v (Misplaced at) = departs (left newer t at)
-meant newer t v (Excessive at) = exceeds (left newer t at)
-meant newer t v (Refused number first) = refused number first
+abbrev pub meant : Bool → List ℕ → List ℕ → Result Next Fault → Read (List ℕ)
+meant newer t v (Ok next) = read v (left newer t next.at)
+meant newer t v (Err f) = fault newer t f
 
 -- it went on from `i` to `at`, and `len` bytes of the output, or as many as it has, are those that it read
 pub record Went (t : List ℕ) (i : ℕ) (v old new : List ℕ) (at len : ℕ) : Type 0 where
@@ -53,14 +52,18 @@ pub record Went (t : List ℕ) (i : ℕ) (v old new : List ℕ) (at len : ℕ) :
   pub small : len + 4 * i ≤ 4 * at
   pub holds : new ≡ over v old
 
-abbrev pub Kept : List ℕ → ℕ → List ℕ → List ℕ → List ℕ → Step → Type 0
-Kept t i v old new (Next at len) = Went t i v old new at len
-Kept t i v old new (Misplaced at) = (at ≤ length t) × (length new ≡ length old)
-Kept t i v old new (Excessive at) = (at ≤ length t) × (length new ≡ length old)
-Kept t i v old new (Refused number first) = length new ≡ length old
+-- the place at which it stopped is in the text, or a number's refusal has no second word; the output is as long as it was
+abbrev pub KeptFault : List ℕ → List ℕ → List ℕ → Fault → Type 0
+KeptFault t old new (Misplaced at) = (at ≤ length t) × (length new ≡ length old)
+KeptFault t old new (Excessive at) = (at ≤ length t) × (length new ≡ length old)
+KeptFault t old new (Refused refusal) = (length new ≡ length old) × (second_of refusal ≡ 0)
+
+abbrev pub Kept : List ℕ → ℕ → List ℕ → List ℕ → List ℕ → Result Next Fault → Type 0
+Kept t i v old new (Ok next) = Went t i v old new next.at next.len
+Kept t i v old new (Err f) = KeptFault t old new f
 
 -- a step from `i` on is what a reader makes of the text there
-pub record Meets (newer : Bool) (t : List ℕ) (i : ℕ) (wanted : Read (List ℕ)) (old new : List ℕ) (r : Step) : Type 0 where
+pub record Meets (newer : Bool) (t : List ℕ) (i : ℕ) (wanted : Read (List ℕ)) (old new : List ℕ) (r : Result Next Fault) : Type 0 where
   pub value : List ℕ
   pub is : wanted ≡ meant newer t value r
   pub kept : Kept t i value old new r

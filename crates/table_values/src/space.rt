@@ -14,12 +14,13 @@ fn space_width(text: &[u8], i: usize, newer: bool) -> usize
     eols::eol_width(text, i, newer)
 }
 
-// Where the white space from `from` on ends.
+// Where the white space from `from` on ends. (By hand, as a turn goes on by a line end's width; `eol_width` says 0 where none starts.)
 pub fn space_end(text: &[u8], from: usize, newer: bool) -> usize
     requires { from ≤ length text.now }
     ensures { Spaced newer text.now from result }
 {
     let mut i = from;
+    // By hand: a blank has one to three bytes.
     while i < text.len() {
         let width = space_width(text, i, newer);
         if width == 0 {

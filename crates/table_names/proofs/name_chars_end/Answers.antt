@@ -1,5 +1,4 @@
 -- `name_chars_end`: the name characters passed and those to come are the same at each turn (`chars_on`).
-use mathlib.Core.Path.{refl}
 use native.Mathlib.Omega.{arith}
 use lib.ListN.{drop}
 use Rattle.text.specs.Version.{xml10}
@@ -7,12 +6,6 @@ use Rattle.table_names.specs.NameChars.{name_chars}
 use Rattle.table_names.proofs.NamesPast.{On, chars_stop, chars_on, chars_over}
 use Rattle.table_names.proofs.name_chars_end.Goals as goal
 use Rattle.table_names.proofs.name_chars_end.Goals.{Else-width-eq0}
-
-pub loop-i-init : goal.loop-i-init
-loop-i-init c = (c.requires, refl)
-
-pub name_char_width-width-requires : goal.name_char_width-width-requires
-name_char_width-width-requires c = c.loop-i-test.true
 
 pub returns-then-width-eq0 : goal.returns-then-width-eq0
 returns-then-width-eq0 c = (
@@ -32,9 +25,6 @@ on c =
 
 pub overflow_add-i : goal.overflow_add-i
 overflow_add-i c = omega (arith, (on c).fits)
-
-pub loop-i-smaller : goal.loop-i-smaller
-loop-i-smaller c = omega (arith, (on c).fits, c.if-width-eq0.false)
 
 pub loop-i-preserved : goal.loop-i-preserved
 loop-i-preserved c = ((on c).fits, omega (arith, c.loop-i.invariant.1, (on c).on))

@@ -1,9 +1,7 @@
 -- `entity_step`: no name (`ref_none`), no `;` after it (`ref_open`), else the reference as it is written (`ref_closed`).
 use mathlib.Core.Path.{sym, ◌∙◌}
-use mathlib.Core.List.{[]}
 use Prim.Native.Nat.{◌+◌}
 use native.Mathlib.Omega.{arith}
-use Rattle.table_values.proofs.Literals.{stands_inside}
 use Rattle.table_names.proofs.NamesPast.{name_past}
 use Rattle.table_values.proofs.EntityRefs.{ref_none, ref_open, ref_closed}
 use Rattle.table_values.proofs.entity_step.Goals as goal
@@ -17,14 +15,6 @@ pub returns-then-not-byte_at : goal.returns-then-not-byte_at
 returns-then-not-byte_at c =
     ref_open c.args.i (name_past c.args.newer c.args.text.now (c.args.i + 1) c.name_end-end.result (omega (arith, c.requires.0))
     c.name_end-end.ensures.1) c.args.out.now c.if-end-i.false (sym c.byte_at.ensures ∙ c.if-not-byte_at.true)
-
-pub slice_bounds-put_over-end : goal.slice_bounds-put_over-end
-slice_bounds-put_over-end c =
-    omega (
-      arith,
-      stands_inside c.args.newer c.args.text.now c.name_end-end.result 59 [] (omega arith) (omega arith)
-          (sym c.byte_at.ensures ∙ c.if-not-byte_at.false),
-    )
 
 pub returns : goal.returns
 returns c =

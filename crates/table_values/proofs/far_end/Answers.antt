@@ -1,22 +1,18 @@
--- `far_end`: behind the blocks, byte by byte, what is passed stays a run (`plain_join`).
-use mathlib.Core.Path.{sym, ◌∙◌}
-use Rattle.output.proofs.Runs.{plain_byte, plain_join}
-use native.Mathlib.Omega.{arith}
-use Rattle.table_values.proofs.ValueStops.{run_ends, run_over}
+-- `far_end`: the blocks, and behind them the first stop of the rest, or its end (`run_first`).
+use Rattle.std.proofs.Common.{rules, length, ◌-◌}
+use borrow.Author.Tests.{tests}
+use borrow.Rule.Slice.PartMut.{mid_of}
+use Rattle.std.proofs.lemmas.Iterator.{YieldsList-from_slice}
+use Rattle.std.proofs.lemmas.Iterator.Search.{position_from_yields_List}
+use Rattle.table_values.specs.ValueSteps.{value_stop}
+use Rattle.table_values.proofs.ValueStops.{run_first, run_joined}
 use Rattle.table_values.proofs.far_end.Goals as goal
 
-pub plain_blocks-i-requires : goal.plain_blocks-i-requires
-plain_blocks-i-requires c = c.requires
-
-pub loop-i-init : goal.loop-i-init
-loop-i-init c = c.plain_blocks-i.ensures
-
-pub returns-then-is_stop : goal.returns-then-is_stop
-returns-then-is_stop c = run_ends _ _ c.loop-i.invariant (sym c.is_stop.ensures ∙ c.if-is_stop.true)
-
-pub loop-i-preserved : goal.loop-i-preserved
-loop-i-preserved c =
-    plain_join _ _ _ c.loop-i.i _ c.loop-i.invariant (plain_byte _ _ _ c.loop-i-test.true (sym c.is_stop.ensures ∙ c.if-is_stop.false))
-
 pub returns : goal.returns
-returns c = run_over _ _ c.loop-i.invariant (λ l. omega (arith, l, c.loop-i-test.false))
+returns c =
+    let text = c.args.text.now in
+    let near = c.plain_blocks-near.result in
+    let stop = value_stop c.args.quote c.args.newer in
+    let rest = YieldsList-from_slice (mid_of near (length text - near) text) c.iter.ensures.rest in
+    let first = position_from_yields_List stop _ _ c.position.result c.position.ensures.ran rest (λ x b q k. search (rules, tests)) in
+    run_joined c.plain_blocks-near.ensures (run_first stop text c.position.result c.plain_blocks-near.ensures.to first c.unwrap_or.ensures)

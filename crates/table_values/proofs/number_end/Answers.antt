@@ -1,27 +1,17 @@
--- `number_end`: byte by byte, what is passed stays a run (`plain_join`).
-use native.Mathlib.Omega.{arith}
-use Rattle.output.proofs.Runs.{plain_none, plain_byte, plain_join}
-use Rattle.table_values.proofs.ValueStops.{run_ends, run_over}
+-- `number_end`: the first `;` or quote of the rest, or its end (`run_first`).
+use Rattle.std.proofs.Common.{rules, length, ◌-◌}
+use borrow.Author.Tests.{tests}
+use borrow.Rule.Slice.PartMut.{mid_of}
+use Rattle.std.proofs.lemmas.Iterator.{YieldsList-from_slice}
+use Rattle.std.proofs.lemmas.Iterator.Search.{position_from_yields_List}
+use Rattle.table_values.specs.ValueSteps.{number_stop}
+use Rattle.table_values.proofs.ValueStops.{run_first}
 use Rattle.table_values.proofs.number_end.Goals as goal
 
-pub loop-i-init : goal.loop-i-init
-loop-i-init c = plain_none _ _ _ c.requires
-
-pub bounds-text-i : goal.bounds-text-i
-bounds-text-i c = c.loop-i-test.true
-
-pub bounds-text-i-in-loop-i : goal.bounds-text-i-in-loop-i
-bounds-text-i-in-loop-i c = c.loop-i-test.true
-
-pub returns-then-text-i : goal.returns-then-text-i
-returns-then-text-i c = run_ends _ _ c.loop-i.invariant c.if-text-i.true
-
-pub loop-i-smaller : goal.loop-i-smaller
-loop-i-smaller c = omega (arith, c.loop-i-test.true)
-
-pub loop-i-preserved : goal.loop-i-preserved
-loop-i-preserved c =
-    plain_join _ _ _ c.loop-i.i _ c.loop-i.invariant (plain_byte _ _ _ c.loop-i-test.true c.if-text-i.false)
-
 pub returns : goal.returns
-returns c = run_over _ _ c.loop-i.invariant (λ l. omega (arith, l, c.loop-i-test.false))
+returns c =
+    let text = c.args.text.now in
+    let stop = number_stop c.args.quote in
+    let rest = YieldsList-from_slice (mid_of c.args.from (length text - c.args.from) text) c.iter.ensures.rest in
+    let first = position_from_yields_List stop _ _ c.position.result c.position.ensures.ran rest (λ x b q k. search (rules, tests)) in
+    run_first stop text c.position.result c.requires first c.unwrap_or.ensures

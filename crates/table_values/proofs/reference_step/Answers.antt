@@ -5,21 +5,9 @@ use Prim.Native.Nat.{ℕ, ◌+◌}
 use native.Mathlib.Omega.{arith}
 use Rattle.table_grammar.specs.EntityValue.{char_ref_from}
 use Rattle.table_names.specs.NameTerms.{left}
-use Rattle.table_values.proofs.Literals.{stands_inside}
 use Rattle.table_values.proofs.EntityValues.{meets_as, meets_earlier}
 use Rattle.table_values.proofs.EntityRefs.{reference_number, reference_entity}
 use Rattle.table_values.proofs.reference_step.Goals as goal
-
-pub number_step-requires : goal.number_step-requires
-number_step-requires c = (
-  omega (
-    arith,
-    stands_inside c.args.newer c.args.text.now (c.args.i + 1) 35 [] (omega arith) (omega arith)
-        (sym c.byte_at.ensures ∙ c.if-byte_at.true),
-  ),
-  c.requires.2,
-  c.requires.3,
-)
 
 pub returns-then-byte_at : goal.returns-then-byte_at
 returns-then-byte_at c =
