@@ -7,7 +7,7 @@ use lib.Dec.{ltb}
 use borrow.Author.Tests.{ltb-false}
 use Rattle.text.specs.Bytes.{pick}
 use Rattle.text.specs.Call.{version_check}
-use Rattle.text.specs.declared.Answer.TheVariants.{Done, Refused}
+use Rattle.text.specs.Answers.{Done, Refused}
 use Rattle.attribute.specs.Checks.{settings_check}
 
 module _ (version depth limit : ℕ) {first second : ℕ} (e : settings_check version depth limit ≡ Done first second) where

@@ -12,7 +12,7 @@ use lib.Seq.{drop-cons}
 use borrow.Author.Tests.{eqb-true}
 use Rattle.text.specs.Bytes.{begins, same_bytes}
 use Rattle.text.proofs.Bytes.{pick_both}
-use Rattle.charref.specs.declared.CharNumber.{CharNumber}
+use Rattle.charref.specs.CharNumbers.{CharNumber}
 use Rattle.legal.specs.Legal.{fault_at}
 use Rattle.legal.specs.FirstFault.{may_by, faults_by}
 use Rattle.legal.proofs.Faults.{fault_ascii, fault_amp, fault_white, fault_next_line, fault_e2}

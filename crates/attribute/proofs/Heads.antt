@@ -14,8 +14,8 @@ use Rattle.text.proofs.Bytes.{pick_by, pick_both}
 use Rattle.text.proofs.Utf8.{settle, next_ascii}
 use Rattle.eols.specs.LineEnds.{line_end}
 use Rattle.eols.proofs.Normal.{line_end_settles}
-use Rattle.charref.specs.declared.CharNumber.{CharNumber}
-use Rattle.charref.specs.declared.CharNumber.TheVariants.{Char}
+use Rattle.charref.specs.CharNumbers.{CharNumber}
+use Rattle.charref.specs.CharNumbers.{Char}
 use Rattle.tokens.specs.Tokens.{kept, space, copy, stop, Head, head, name_at}
 use Rattle.tokens.proofs.Carried.{Moving}
 use Rattle.tokens.proofs.Lengths.{Fits, fits_moves, reference_fits, lengths}

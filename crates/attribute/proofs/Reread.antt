@@ -7,7 +7,7 @@ use mathlib.Core.Bool.{Bool, true, false}
 use mathlib.Core.List.{List, [], ◌∷◌, ◌++◌}
 use Rattle.text.specs.Bytes.{begins}
 use Rattle.text.specs.Version.{Rule, xml10, xml11}
-use Rattle.charref.specs.declared.CharNumber.TheVariants.{Char}
+use Rattle.charref.specs.CharNumbers.{Char}
 use Rattle.escape.specs.Escape.{attribute, level_set, write_byte}
 use Rattle.escape.proofs.View.{Kind, Other, is_lt, is_gt, is_amp_lem, is_apos, is_quot, is_cr_lem, is_lf, is_tab, is_other, kind}
 use Rattle.entity.specs.Binding.{Bound, predefined, binding}

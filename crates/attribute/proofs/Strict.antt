@@ -9,8 +9,8 @@ use lib.ListN.{length}
 use Rattle.text.specs.Bytes.{pick, same_bytes}
 use Rattle.text.specs.Version.{Rule}
 use Rattle.charref.specs.CharRef.{char_number, any_character, number_answer}
-use Rattle.charref.specs.declared.CharNumber.{CharNumber}
-use Rattle.charref.specs.declared.CharNumber.TheVariants.{Char, Forbidden}
+use Rattle.charref.specs.CharNumbers.{CharNumber}
+use Rattle.charref.specs.CharNumbers.{Char, Forbidden}
 use Rattle.charref.proofs.Rules.{char_related}
 use Rattle.entity.specs.Binding.{Bound, text, external, predefined, unknown}
 use Rattle.legal.specs.Legal.{is_char, in_value, in_table, may_stand, fault_at}

@@ -10,7 +10,7 @@ use lib.ListN.{length}
 use Rattle.text.specs.Bytes.{pick, within}
 use Rattle.text.specs.Version.{Rule, xml10, xml11}
 use Rattle.text.proofs.Bytes.{and_left, and_right, within_low, within_top}
-use Rattle.charref.specs.declared.CharNumber.TheVariants.{Char}
+use Rattle.charref.specs.CharNumbers.{Char}
 use Rattle.escape.specs.Escape.{attribute, level_set, write_byte}
 use Rattle.escape.proofs.View.{Kind, Other, is_lt, is_gt, is_amp_lem, is_apos, is_quot, is_cr_lem, is_lf, is_tab, is_other, kind}
 use Rattle.legal.specs.Legal.{is_char, Place, in_value, in_table, may_stand, fault_at}

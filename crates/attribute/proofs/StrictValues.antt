@@ -14,8 +14,8 @@ use Rattle.text.specs.Utf8.{State, between, next, after, is_between, WellFormed}
 use Rattle.text.proofs.Bytes.{pick_by, pick_both, and_left, contrary, below}
 use Rattle.text.proofs.Utf8.{settled, ascii_well_formed}
 use Rattle.charref.specs.CharRef.{char_number, encode}
-use Rattle.charref.specs.declared.CharNumber.{CharNumber}
-use Rattle.charref.specs.declared.CharNumber.TheVariants.{Char, Forbidden}
+use Rattle.charref.specs.CharNumbers.{CharNumber}
+use Rattle.charref.specs.CharNumbers.{Char, Forbidden}
 use Rattle.charref.proofs.Numbers.{legal_character}
 use Rattle.charref.proofs.Rules.{char_given}
 use Rattle.legal.specs.Legal.{is_char, is_restricted, in_value, in_table, may_stand, bits, char_from, refuses, fault_at}

@@ -12,7 +12,7 @@ use Rattle.text.specs.Version.{Rule}
 use Rattle.text.specs.Utf8.{State, between, WellFormed}
 use Rattle.text.proofs.Utf8.{ascii_well_formed}
 use Rattle.charref.specs.CharRef.{any_character}
-use Rattle.charref.specs.declared.CharNumber.TheVariants.{Char}
+use Rattle.charref.specs.CharNumbers.{Char}
 use Rattle.entity.specs.Table.{marked, ValidTable}
 use Rattle.entity.specs.Binding.{Bound, binding, ShortBound, GoodBound}
 use Rattle.entity.proofs.Tables.{binding_good, binding_short}

@@ -2,8 +2,8 @@
 use Rattle.std.specs.Prelude.{ℕ, ltb}
 use Rattle.text.specs.Bytes.{pick}
 use Rattle.text.specs.Call.{version_check}
-use Rattle.text.specs.declared.Answer.{Answer}
-use Rattle.text.specs.declared.Answer.TheVariants.{Refused}
+use Rattle.text.specs.Answers.{Answer}
+use Rattle.text.specs.Answers.{Refused}
 
 -- refusals 2, 3 and 4: depth over 128, opening limit over 1,000,000, unknown version byte
 unfoldable pub settings_check : ℕ → ℕ → ℕ → Answer

@@ -6,10 +6,10 @@ use Rattle.legal.specs.FirstFault.{may_by, faults_by}
 use Rattle.eols.specs.Stops.{rule_for}
 use Rattle.eols.specs.declared.Step.{Step}
 use Rattle.entity.specs.Binding.{Bound, predefined}
-use Rattle.text.specs.declared.Answer.{Answer}
-use Rattle.text.specs.declared.Answer.TheVariants.{Done, Refused}
-use Rattle.tokens.specs.declared.Step.{Step as Onward}
-use Rattle.tokens.specs.declared.Step.TheVariants.{Next, Stopped}
+use Rattle.text.specs.Answers.{Answer}
+use Rattle.text.specs.Answers.{Done, Refused}
+use Rattle.tokens.specs.Walking.{Step as Onward}
+use Rattle.tokens.specs.Walking.{Next, Stopped}
 use Rattle.tokens.specs.Tokens.{Stop, Heads, token_of, name_at, reference_at}
 use Rattle.tokens.specs.Outcome.{Outcome, done}
 use Rattle.tokens.specs.Walking.{head_at, next_at, outcome_of}

@@ -3,7 +3,7 @@ use Rattle.std.specs.Prelude.{ℕ, zero, suc, ◌+◌, List, [], ◌∷◌, Bool
 use Rattle.text.specs.Bytes.{pick, same_bytes}
 use Rattle.text.specs.Version.{Rule}
 use Rattle.charref.specs.CharRef.{any_character}
-use Rattle.charref.specs.declared.CharNumber.{CharNumber}
+use Rattle.charref.specs.CharNumbers.{CharNumber}
 use Rattle.entity.specs.Table.{marked}
 use Rattle.entity.specs.Binding.{Bound, text, external, predefined, unknown, binding}
 use Rattle.tokens.specs.Tokens.{Stop, kept, space, number, named, unterminated, Heads, tokens}

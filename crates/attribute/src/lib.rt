@@ -3,27 +3,21 @@
 #![tactic(auto)]
 
 ghost use Rattle.std.specs.Prelude.{◌≡◌};
+ghost use Rattle.text.specs.Call.{answered};
 ghost use Rattle.attribute.specs.Checks.{settings_check};
 
-use text::{Answer, refusals};
+use text::Answer;
+use text::refusals::Refusal;
 
 // Refusals 2, 3 and 4.
 pub fn check_settings(version: u8, depth: u64, limit: u64) -> Answer
-    ensures { result ≡ settings_check version depth limit }
+    ensures { answered result ≡ settings_check version depth limit }
 {
     if 128 < depth {
-        return Answer::Refused {
-            number: refusals::DEPTH_TOO_LARGE,
-            first: 0,
-            second: 0,
-        };
+        return Err(Refusal::DepthTooLarge);
     }
     if 1000000 < limit {
-        return Answer::Refused {
-            number: refusals::LIMIT_TOO_LARGE,
-            first: 0,
-            second: 0,
-        };
+        return Err(Refusal::LimitTooLarge);
     }
     text::check_version(version)
 }

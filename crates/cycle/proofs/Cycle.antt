@@ -9,14 +9,14 @@ use native.Mathlib.Nat.{le_refl}
 use lib.ListN.{length, take, drop, length-append, length-drop}
 use lib.Seq.{length-take-le}
 use borrow.Rule.Slice.PartMut.{mid_of, put_mid}
-use Rattle.text.specs.declared.Answer.{Answer}
-use Rattle.text.specs.declared.Answer.TheVariants.{Done, Refused}
+use Rattle.text.specs.Answers.{Answer}
+use Rattle.text.specs.Answers.{Done, Refused}
 use Rattle.output.proofs.Laid.{rest_part, rest_put}
 use Rattle.entity.specs.Table.{little_endian, part}
 use Rattle.entity.specs.Commands.{command_text, Defines}
 use Rattle.tokens.specs.Tokens.{Heads}
-use Rattle.tokens.specs.declared.Step.{Step}
-use Rattle.tokens.specs.declared.Step.TheVariants.{Next, Stopped}
+use Rattle.tokens.specs.Walking.{Step}
+use Rattle.tokens.specs.Walking.{Next, Stopped}
 use Rattle.attribute.specs.Walk.{Settings, walk}
 use Rattle.attribute.specs.Steps.{read_by, step_from}
 use Rattle.memory.specs.Slots.{slot_of, Kept}
@@ -25,7 +25,9 @@ use Rattle.memory.specs.declared.Reading.{Reading}
 use Rattle.memory.specs.declared.Place.{Place}
 use Rattle.memory.specs.declared.Reached.{Reached}
 use Rattle.memory.specs.declared.Reached.TheVariants.{End, Opening, Paused}
-use Rattle.memory.specs.declared.Reached.TheVariants.{Stopped as Refusal}
+use Rattle.memory.specs.declared.Stop.{Stop}
+use Rattle.std.specs.Prelude.{Result, Ok, Err}
+use Rattle.text.specs.Call.{answered as told}
 use Rattle.memory.proofs.Keeping.{kept_length}
 use Rattle.memory.proofs.Levels.{refuses_some, Sound, place_of, opened_plain, came_room, opens_lent, lent_on}
 use Rattle.memory.proofs.Readings.{by_inner, by_limit, inner_level_lem}
@@ -134,12 +136,12 @@ module _ (r : Reading) (list pool text : List ℕ) (p : Place) {old seen out wor
   goes_lent n = lent_on level n.v n.whole n.begun r.base n.room n.size (g.came n.v n.whole n.begun n.size n.came)
 
   -- and came on to where it says
-  module _ {new kept : List ℕ} {x : Reached} (f : FlatKeeps level r.base (place_of at len made) out words new kept x) where
-    reached : {y : Reached} → x ≡ y → (v whole : List ℕ) (begun : ℕ) → length v ≡ r.base
+  module _ {new kept : List ℕ} {x : Result Reached Stop} (f : FlatKeeps level r.base (place_of at len made) out words new kept x) where
+    reached : {y : Result Reached Stop} → x ≡ y → (v whole : List ℕ) (begun : ℕ) → length v ≡ r.base
         → Came level v whole begun old seen p.at p.len p.openings → Reaches level v whole begun new kept y
     reached is v whole begun e c = subst (Reaches level v whole begun new kept) is (f.reaches r.depth (le_refl _) v whole begun e (g.came v whole begun e c))
 
-    pub keeps_end : {all now : ℕ} → x ≡ End all now → StepsKeep level r.base p old seen new kept (Done all now)
+    pub keeps_end : {all now : ℕ} → x ≡ Ok (End all now) → StepsKeep level r.base p old seen new kept (Done all now)
     keeps_end is =
         record {
           buffer = f.buffer ∙ g.buffer;
@@ -147,8 +149,8 @@ module _ (r : Reading) (list pool text : List ℕ) (p : Place) {old seen out wor
           finishes = λ v whole begun e c. turn_end level (reached is v whole begun e c);
         }
 
-    pub keeps_stopped : {number first second made_then : ℕ} → x ≡ Refusal number first second made_then
-        → StepsKeep level r.base p old seen new kept (Refused number first second)
+    pub keeps_stopped : {stop : Stop} → x ≡ Err stop
+        → StepsKeep level r.base p old seen new kept (told (Err stop.refusal))
     keeps_stopped is =
         record {
           buffer = f.buffer ∙ g.buffer;
@@ -157,14 +159,14 @@ module _ (r : Reading) (list pool text : List ℕ) (p : Place) {old seen out wor
         }
 
     -- with a memory nothing is paused at
-    pub never_paused : {i before now : ℕ} → x ≡ Paused i before now → 84 ≤ length seen → ⊥
+    pub never_paused : {here : Place} → x ≡ Ok (Paused here) → 84 ≤ length seen → ⊥
     never_paused is full =
         let o = subst (Onward (length text) at words) is f.onward in
         omega (arith, full, g.kept, o.2)
 
     -- ---- an opening
 
-    module _ (n : Lent level r.base old seen p) {i next command slot before now : ℕ} (is : x ≡ Opening i next command slot before now)
+    module _ (n : Lent level r.base old seen p) {i next command slot before now : ℕ} (is : x ≡ Ok (Opening i next command slot before now))
         (sound : Sound (settings_of r list pool) list pool) where
       opens : Opens level n.v n.whole n.begun new kept i next command slot before now
       opens = reached is n.v n.whole n.begun n.size n.came

@@ -15,8 +15,8 @@ use Rattle.halts.specs.Halts.{any_stop, stop_byte}
 use Rattle.tokens.specs.Tokens.{Token, copy, stop, barred, Head, head, Heads, token_of, skip_of, tokens}
 use Rattle.tokens.specs.Outcome.{Outcome, done, refused, prepend, run}
 use Rattle.tokens.specs.Walking.{step_of}
-use Rattle.tokens.specs.declared.Step.{Step}
-use Rattle.tokens.specs.declared.Step.TheVariants.{Next, Stopped}
+use Rattle.tokens.specs.Walking.{Step}
+use Rattle.tokens.specs.Walking.{Next, Stopped}
 use Rattle.attribute.specs.Steps.{heads_by, fault_by, read_by}
 use Rattle.legal.specs.FirstFault.{FirstFault}
 use Rattle.attribute.proofs.Guards.{unguarded, bars, walk_clear, clear_of}

@@ -3,7 +3,7 @@
 use Rattle.std.specs.Prelude.{ℕ, ◌+◌, ◌≤◌, ◌<◌, ◌≡◌, ◌≢◌, List, length, take}
 use Rattle.tokens.specs.Outcome.{Outcome, done, refused}
 use Rattle.tokens.specs.Walking.{step_of}
-use Rattle.tokens.specs.declared.Step.{Step}
+use Rattle.tokens.specs.Walking.{Step}
 use Rattle.attribute.specs.Walk.{Settings, walk}
 use Rattle.attribute.specs.Steps.{heads_by, read_by}
 use Rattle.memory.specs.Slots.{shaped, shaped_in}

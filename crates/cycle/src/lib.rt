@@ -3,6 +3,8 @@
 #![tactic(auto)]
 
 ghost use Rattle.std.specs.Prelude.{◌≡◌, ◌≤◌, length};
+ghost use Rattle.tokens.specs.Walking.{stepped};
+ghost use Rattle.text.specs.Call.{answered};
 ghost use Rattle.entity.specs.Table.{ValidTable};
 ghost use Rattle.entity.specs.Commands.{Defines};
 ghost use Rattle.attribute.specs.Walk.{Settings, walk};
@@ -12,8 +14,9 @@ ghost use Rattle.memory.specs.Levels.{settings_of, level_of, Fitted, Lent, StepK
 ghost use Rattle.cycle.specs.Cycle.{Bottom, BottomFault, Openable, LentInner, Walkable};
 
 use memory::{Place, Reached, Reading};
-use text::{Answer, refusals};
-use tokens::Step;
+use text::refusals::Refusal;
+use text::{Answer, Success};
+use tokens::{Next, Step};
 
 // The first character of a text at depth 0 that may not stand there, where no stop comes before it; else the text's end.
 pub fn bottom_fault(text: &[u8], how: u8, guard: u8) -> usize
@@ -59,29 +62,21 @@ fn bottom_step(
     out: &mut [u8],
 ) -> Step
     requires { length text.now ≤ 16777216 }
-    ensures { (s : Settings) → Bottom form (walk s (read_by how guard) 0 text.now openings) next out.old out.new result }
+    ensures { (s : Settings) → Bottom form (walk s (read_by how guard) 0 text.now openings) next out.old out.new (stepped result) }
 {
     let fault = bottom_fault(text, how, guard);
     if fault != text.len() {
-        return Step::Stopped {
-            number: refusals::FORBIDDEN_CHARACTER,
-            first: fault as u64,
-            second: 0,
-        };
+        return Err(Refusal::ForbiddenCharacter(fault as u64));
     }
     if halts::has_stop(text, how == 1) {
-        return Step::Stopped {
-            number: refusals::TOO_DEEP,
-            first: 0,
-            second: 0,
-        };
+        return Err(Refusal::TooDeep);
     }
     let len = write_text(text, form, out);
-    Step::Next {
+    Ok(Next {
         at: next,
         len,
         openings,
-    }
+    })
 }
 
 // The step that opens the text of a command, at the end of whose reference the place is: the text is walked with the depth one less.
@@ -99,7 +94,7 @@ fn normalize_attr_step(
     requires openable { Openable reading place seen.old }
     requires defines { Defines list.now pool.now command }
     requires lent_inner { LentInner reading place command list.now pool.now out.old seen.old }
-    ensures { StepKeeps (settings_of reading list.now pool.now) reading.form list.now pool.now reading.depth command reading.base place out.old seen.old out.new seen.new result }
+    ensures { StepKeeps (settings_of reading list.now pool.now) reading.form list.now pool.now reading.depth command reading.base place out.old seen.old out.new seen.new (stepped result) }
 {
     let start = entity::text_start(list, command);
     let end = start + entity::text_length(list, command);
@@ -132,22 +127,12 @@ fn normalize_attr_step(
         limit: reading.limit,
         base: reading.base + place.len,
     };
-    match normalize_attr_steps(&pool[start..end], begun, below, list, pool, seen, out) {
-        Answer::Done { first: len, second } => Step::Next {
-            at: next,
-            len: len as usize,
-            openings: second,
-        },
-        Answer::Refused {
-            number,
-            first: a,
-            second,
-        } => Step::Stopped {
-            number,
-            first: a,
-            second,
-        },
-    }
+    let walked = normalize_attr_steps(&pool[start..end], begun, below, list, pool, seen, out)?;
+    Ok(Next {
+        at: next,
+        len: walked.first as usize,
+        openings: walked.second,
+    })
 }
 
 // The walker: a text, outer or of the table, from a place on. It is lent a memory, so that nothing pauses for want of one.
@@ -165,7 +150,7 @@ pub fn normalize_attr_steps(
     requires walkable { Walkable reading text.now }
     requires in_bounds { 84 ≤ length seen.old }
     requires lent { Lent (level_of reading list.now pool.now text.now) reading.base out.old seen.old begun }
-    ensures { StepsKeep (level_of reading list.now pool.now text.now) reading.base begun out.old seen.old out.new seen.new result }
+    ensures { StepsKeep (level_of reading list.now pool.now text.now) reading.base begun out.old seen.old out.new seen.new (answered result) }
 {
     let mut at = begun.at;
     let mut len = begun.len;
@@ -177,33 +162,17 @@ pub fn normalize_attr_steps(
             openings: made,
         };
         let first = halts::next_halt(text, at, reading.how == 1);
-        match flat::normalize_flat(text, place, first, reading, list, pool, seen, out) {
+        match flat::normalize_flat(text, place, first, reading, list, pool, seen, out)? {
             Reached::End { len: all, openings } => {
-                return Answer::Done {
+                return Ok(Success {
                     first: all as u64,
                     second: openings,
-                };
+                });
             }
-            Reached::Stopped {
-                number,
-                first: a,
-                second,
-                openings: _,
-            } => {
-                return Answer::Refused {
-                    number,
-                    first: a,
-                    second,
-                };
-            }
-            Reached::Paused {
-                at: from,
-                len: before,
-                openings,
-            } => {
-                at = from;
-                len = before;
-                made = openings;
+            Reached::Paused(here) => {
+                at = here.at;
+                len = here.len;
+                made = here.openings;
             }
             Reached::Opening {
                 at: _,
@@ -213,13 +182,13 @@ pub fn normalize_attr_steps(
                 len: before,
                 openings,
             } => {
-                let rest = output::least(before, out.len());
+                let rest = before.min(out.len());
                 let opened = Place {
                     at: next,
                     len: before,
                     openings,
                 };
-                match normalize_attr_step(
+                let step = normalize_attr_step(
                     command,
                     opened,
                     reading,
@@ -227,37 +196,19 @@ pub fn normalize_attr_steps(
                     pool,
                     seen,
                     &mut out[rest..],
-                ) {
-                    Step::Next {
-                        at: after,
-                        len: more,
-                        openings: now_made,
-                    } => {
-                        memory::keep(
-                            command,
-                            slot,
-                            reading.depth,
-                            reading.base + before,
-                            more,
-                            now_made - openings,
-                            seen,
-                        );
-                        at = after;
-                        len = before + more;
-                        made = now_made;
-                    }
-                    Step::Stopped {
-                        number,
-                        first: a,
-                        second,
-                    } => {
-                        return Answer::Refused {
-                            number,
-                            first: a,
-                            second,
-                        };
-                    }
-                }
+                )?;
+                memory::keep(
+                    command,
+                    slot,
+                    reading.depth,
+                    reading.base + before,
+                    step.len,
+                    step.openings - openings,
+                    seen,
+                );
+                at = step.at;
+                len = before + step.len;
+                made = step.openings;
             }
         }
     }

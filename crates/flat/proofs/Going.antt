@@ -15,13 +15,16 @@ use Rattle.memory.specs.Slots.{shaped}
 use Rattle.memory.specs.Levels.{Level, level_of, at_depth, Came, Lent, FlatKeeps}
 use Rattle.memory.specs.declared.Reading.{Reading}
 use Rattle.memory.specs.declared.Place.{Place}
-use Rattle.memory.specs.declared.Reached.TheVariants.{End, Opening, Paused, Stopped}
+use Rattle.memory.specs.declared.Reached.TheVariants.{End, Opening, Paused}
 use Rattle.memory.proofs.Levels.{place_of, came_end}
 use Rattle.memory.proofs.Stretches.{smooth_part}
 use Rattle.memory.proofs.Readings.{read_at, came_run, run_barred, lent_room, lent_within}
 use Rattle.flat.specs.Between.{Writes, HaltKeeps}
 use Rattle.flat.specs.declared.Halted.TheVariants.{Next}
-use Rattle.flat.specs.declared.Halted.TheVariants.{Opening as Opens, Paused as Pauses, Stopped as Stops}
+use Rattle.flat.specs.declared.Halted.TheVariants.{Opening as Opens, Paused as Pauses}
+use Rattle.std.specs.Prelude.{Ok, Err}
+use Rattle.text.specs.declared.refusals.Refusal.{Refusal}
+use Rattle.text.specs.declared.refusals.Refusal.TheVariants.{ForbiddenCharacter}
 
 -- from the place `p` on, over what the buffers held there, the loop has come to `at`, whose next halt is at `end`, after `met` halts
 pub record Going (r : Reading) (t list pool : List ℕ) (p : Place) (old₀ seen₀ old seen : List ℕ) (at end len made met : ℕ) : Type 0 where
@@ -59,7 +62,7 @@ module _ (r : Reading) (t list pool : List ℕ) (p : Place) (old₀ seen₀ : Li
     going_within = lent_within r list pool t going_lent
 
     -- a character of the run may not stand: refusal 26, before the run is written
-    pub going_barred : {fault : ℕ} → FirstFault (fault_by r.guard) t at end fault → fault ≢ end → FlatKeeps l r.base p old₀ seen₀ old seen (Stopped 26 fault 0 made)
+    pub going_barred : {fault : ℕ} → FirstFault (fault_by r.guard) t at end fault → fault ≢ end → FlatKeeps l r.base p old₀ seen₀ old seen (Err (record { refusal = ForbiddenCharacter fault; openings = made }))
     going_barred {fault} f other =
         let inside : fault < end = omega (arith, f.within, other) in
         let smooth : Smooth (eqb r.how 1) t at fault = smooth_part g.halt.smooth f.clean.from f.within in
@@ -91,7 +94,7 @@ module _ (r : Reading) (t list pool : List ℕ) (p : Place) (old₀ seen₀ : Li
       run_room = lent_room r list pool t run_lent
 
       -- the text is at its end
-      pub going_end : end ≡ length t → FlatKeeps l r.base p old₀ seen₀ new seen (End (len + size) made)
+      pub going_end : end ≡ length t → FlatKeeps l r.base p old₀ seen₀ new seen (Ok (End (len + size) made))
       going_end q =
           record {
             onward = tt;
@@ -101,8 +104,8 @@ module _ (r : Reading) (t list pool : List ℕ) (p : Place) (old₀ seen₀ : Li
           }
 
       module _ {last after : List ℕ} where
-        pub going_opens : {next command slot : ℕ} → HaltKeeps l r.base here new seen last after (Opens next command slot)
-            → FlatKeeps l r.base p old₀ seen₀ last after (Opening end next command slot (len + size) made)
+        pub going_opens : {next command slot : ℕ} → HaltKeeps l r.base here new seen last after (Ok (Opens next command slot))
+            → FlatKeeps l r.base p old₀ seen₀ last after (Ok (Opening end next command slot (len + size) made))
         going_opens k =
             record {
               onward = (omega (arith, g.from, g.halt.smooth.from, k.past.0), k.past.1);
@@ -111,8 +114,8 @@ module _ (r : Reading) (t list pool : List ℕ) (p : Place) (old₀ seen₀ : Li
               reaches = λ d le v whole begun e c. k.goes d le v whole begun e (run_came d le v whole begun e c);
             }
 
-        pub going_paused : end ≢ length t → HaltKeeps l r.base here new seen last after Pauses
-            → FlatKeeps l r.base p old₀ seen₀ last after (Paused end (len + size) made)
+        pub going_paused : end ≢ length t → HaltKeeps l r.base here new seen last after (Ok Pauses)
+            → FlatKeeps l r.base p old₀ seen₀ last after (Ok (Paused here))
         going_paused q k =
             record {
               onward = (omega (arith, g.from, g.halt.smooth.from), omega (arith, q, g.halt.smooth.to), sym g.words ∙ k.past);
@@ -121,9 +124,9 @@ module _ (r : Reading) (t list pool : List ℕ) (p : Place) (old₀ seen₀ : Li
               reaches = λ d le v whole begun e c. k.goes d le v whole begun e (run_came d le v whole begun e c);
             }
 
-        pub going_stopped : {number first second : ℕ} → HaltKeeps l r.base here new seen last after (Stops number first second)
-            → FlatKeeps l r.base p old₀ seen₀ last after (Stopped number first second made)
-        going_stopped k =
+        pub going_stopped : {refusal : Refusal} → HaltKeeps l r.base here new seen last after (Err refusal)
+            → FlatKeeps l r.base p old₀ seen₀ last after (Err (record { refusal = refusal; openings = made }))
+        going_stopped {refusal} k =
             record {
               onward = tt;
               buffer = k.buffer ∙ run.1.buffer ∙ g.buffer;
@@ -132,7 +135,7 @@ module _ (r : Reading) (t list pool : List ℕ) (p : Place) (old₀ seen₀ : Li
             }
 
         -- the halt is passed
-        module _ {next more now : ℕ} (k : HaltKeeps l r.base here new seen last after (Next next more now)) where
+        module _ {next more now : ℕ} (k : HaltKeeps l r.base here new seen last after (Ok (Next next more now))) where
           pub going_on : at < next
           going_on = omega (arith, g.halt.smooth.from, k.past.0)
 

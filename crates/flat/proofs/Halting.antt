@@ -2,7 +2,7 @@
 -- (`halt_external`, `halt_predefined`, `halt_unknown`), all of them after a lookup (`halt_indexed`), characters and refusals (`halt_char`, `halt_refused`), line ends (`halt_blank`). Assumes nothing.
 use mathlib.Core.Path.{◌≡◌, refl, sym, ap, subst, ◌∙◌}
 use mathlib.Core.Logic.{◌≢◌}
-use mathlib.Core.Bool.{Bool, true, false, true≢false, ◌&&◌, ◌||◌}
+use mathlib.Core.Bool.{Bool, true, false}
 use mathlib.Core.List.{List, [], ◌∷◌}
 use Prim.Native.Nat.{ℕ, ◌+◌, ◌-◌, ◌≤◌, ◌<◌}
 use native.Mathlib.Omega.{arith}
@@ -10,14 +10,14 @@ use native.Mathlib.Nat.{le_refl}
 use lib.Dec.{eqb, ltb}
 use lib.ListN.{length, get_or, set, take, drop, length-take}
 use lib.Seq.{take_all}
-use borrow.Author.Tests.{eq-eqb, eqb-true, ne_eqb, ltb-true, ltb-false}
+use borrow.Author.Tests.{eq-eqb, ltb-true, ltb-false}
 use Rattle.charref.specs.CharRef.{encode}
 use Rattle.legal.specs.FirstFault.{Clean}
 use Rattle.charref.proofs.Encoding.{encode_at_most}
 use Rattle.halts.specs.Halts.{halts, Smooth, blanks_spaced}
 use Rattle.text.specs.Utf8.{WellFormed}
 use Rattle.text.proofs.Utf8.{ascii_well_formed}
-use Rattle.text.specs.declared.Answer.TheVariants.{Done, Refused}
+use Rattle.text.specs.Answers.{Done, Refused}
 use Rattle.entity.specs.Table.{little_endian, part, declarations, ValidTable}
 use Rattle.entity.proofs.Commands.{long_list}
 use Rattle.entity.specs.Binding.{text, external, predefined, unknown, predefined_of, binding, bound_to}
@@ -41,7 +41,11 @@ use Rattle.memory.proofs.Keeping.{memory_more, kept_length, noted_length, memory
 use Rattle.memory.proofs.Readings.{read_at, by_bind, by_inner, by_limit, by_legal, token_named, next_named, read_opens, read_taken, came_leaf, came_blank}
 use Rattle.flat.specs.Between.{Writes, Leaf, ForChar, ForName, ForPlain, name_of, Answers, Past, HaltKeeps, Referred}
 use Rattle.flat.specs.declared.Halted.{Halted}
-use Rattle.flat.specs.declared.Halted.TheVariants.{Next, Opening, Paused, Stopped}
+use Rattle.flat.specs.declared.Halted.TheVariants.{Next, Opening, Paused}
+use Rattle.std.specs.Prelude.{Result, Ok, Err}
+use Rattle.text.specs.Refusals.{number_of, first_of, second_of}
+use Rattle.text.specs.declared.refusals.Refusal.{Refusal}
+use Rattle.text.specs.declared.refusals.Refusal.TheVariants.{TooManyOpenings, UnrecognizedEntity, ExternalEntity}
 
 -- ---- a reference to the text of a command
 
@@ -129,7 +133,7 @@ module _ (r : Reading) (t list pool : List ℕ) (p : Place) {command next : ℕ}
 
   module _ {slot : ℕ} (known : slot < 16) (old seen : List ℕ) where
     -- refusal 17
-    pub halt_limit : p.openings ≡ r.limit → HaltKeeps (level_of r list pool t) r.base p old seen old seen (Stopped 17 p.at 0)
+    pub halt_limit : p.openings ≡ r.limit → HaltKeeps (level_of r list pool t) r.base p old seen old seen (Err (TooManyOpenings p.at))
     halt_limit q =
         record {
           past = tt;
@@ -140,7 +144,7 @@ module _ (r : Reading) (t list pool : List ℕ) (p : Place) {command next : ℕ}
 
     -- what is kept of it
     pub halt_again : {new : List ℕ} {count made : ℕ} → Taken command slot r p seen old new count made
-        → HaltKeeps (level_of r list pool t) r.base p old seen new seen (Next next count made)
+        → HaltKeeps (level_of r list pool t) r.base p old seen new seen (Ok (Next next count made))
     halt_again {new} {count} {made} x =
         record {
           past = (k.on, k.to);
@@ -153,7 +157,7 @@ module _ (r : Reading) (t list pool : List ℕ) (p : Place) {command next : ℕ}
         }
 
     module _ (room : p.openings ≢ r.limit) where
-      pub halt_opens : HaltKeeps (level_of r list pool t) r.base p old seen old seen (Opening next command slot)
+      pub halt_opens : HaltKeeps (level_of r list pool t) r.base p old seen old seen (Ok (Opening next command slot))
       halt_opens =
           record {
             past = (k.on, k.to);
@@ -166,7 +170,7 @@ module _ (r : Reading) (t list pool : List ℕ) (p : Place) {command next : ℕ}
       pub halt_leaf : r.depth ≢ 1 → Leaf (eqb r.inner 1) r.inguard value → {new after : List ℕ} {size : ℕ}
           → Writes (shaped r.form (blanks_spaced (take (length value - 0) (drop 0 value)))) p.len old new size
           → Kept seen slot command (slot_of 2 (r.base + p.len) size 1) after
-          → HaltKeeps (level_of r list pool t) r.base p old seen new after (Next next size (p.openings + 1))
+          → HaltKeeps (level_of r list pool t) r.base p old seen new after (Ok (Next next size (p.openings + 1)))
       halt_leaf two leaf {new} {after} {size} written kept =
           record {
             past = (k.on, k.to);
@@ -179,14 +183,14 @@ module _ (r : Reading) (t list pool : List ℕ) (p : Place) {command next : ℕ}
 
 -- ---- the memory after a name was looked up
 
-past_indexed : (size at : ℕ) (words seen : List ℕ) → length seen ≡ length words → (x : Halted) → Past size at seen x → Past size at words x
-past_indexed size at words seen e (Next next len made) q = q
-past_indexed size at words seen e (Opening next command slot) q = q
-past_indexed size at words seen e Paused q = sym e ∙ q
-past_indexed size at words seen e (Stopped number first second) q = q
+past_indexed : (size at : ℕ) (words seen : List ℕ) → length seen ≡ length words → (x : Result Halted Refusal) → Past size at seen x → Past size at words x
+past_indexed size at words seen e (Ok (Next next len made)) q = q
+past_indexed size at words seen e (Ok (Opening next command slot)) q = q
+past_indexed size at words seen e (Ok Paused) q = sym e ∙ q
+past_indexed size at words seen e (Err r) q = q
 
 -- what is kept from there on is kept from before the lookup on
-pub halt_indexed : (l : Level) {base : ℕ} {p : Place} {old words seen new kept : List ℕ} (x : Halted) → Indexed l.list l.pool words seen
+pub halt_indexed : (l : Level) {base : ℕ} {p : Place} {old words seen new kept : List ℕ} (x : Result Halted Refusal) → Indexed l.list l.pool words seen
     → HaltKeeps l base p old seen new kept x → HaltKeeps l base p old words new kept x
 halt_indexed l {base} {p} {old} {words} {seen} x i h =
     record {
@@ -239,7 +243,7 @@ module _ (r : Reading) (t list pool : List ℕ) (p : Place) (deep : r.depth ≢ 
 
   -- a reference that stands for a character
   pub halt_char : {c next more : ℕ} → ForChar r.inguard t p.at c next → {new : List ℕ} → Writes (shaped r.form (encode c)) p.len old new more
-      → HaltKeeps level r.base p old seen new seen (Next next more p.openings)
+      → HaltKeeps level r.base p old seen new seen (Ok (Next next more p.openings))
   halt_char {c} {next} {more} f {new} w =
       record {
         past = (omega (arith, f.on), f.to);
@@ -255,8 +259,9 @@ module _ (r : Reading) (t list pool : List ℕ) (p : Place) (deep : r.depth ≢ 
       }
 
   -- one that is refused
-  pub halt_refused : {number first second : ℕ} → p.at < length t → Answers r.inguard t p.at (λ n. refused [] n number first second)
-      → HaltKeeps level r.base p old seen old seen (Stopped number first second)
+  pub halt_refused : {why : Refusal} → p.at < length t
+      → Answers r.inguard t p.at (λ n. refused [] n (number_of why) (first_of why) (second_of why))
+      → HaltKeeps level r.base p old seen old seen (Err why)
   halt_refused inside f =
       record {
         past = tt;
@@ -276,7 +281,7 @@ module _ (r : Reading) (t list pool : List ℕ) (p : Place) (deep : r.depth ≢ 
     bind = by_bind r.inner r.inguard list pool r.limit name
 
     -- refusal 27, whatever the openings so far
-    pub halt_external : binding list pool name ≡ external → HaltKeeps level r.base p old seen old seen (Stopped 27 p.at 0)
+    pub halt_external : binding list pool name ≡ external → HaltKeeps level r.base p old seen old seen (Err (ExternalEntity p.at))
     unfolding bound_to
     halt_external e =
         record {
@@ -290,7 +295,7 @@ module _ (r : Reading) (t list pool : List ℕ) (p : Place) (deep : r.depth ≢ 
         }
 
     -- refusal 11
-    pub halt_unknown : binding list pool name ≡ unknown → HaltKeeps level r.base p old seen old seen (Stopped 11 (p.at + 1) end)
+    pub halt_unknown : binding list pool name ≡ unknown → HaltKeeps level r.base p old seen old seen (Err (UnrecognizedEntity (p.at + 1) end))
     unfolding bound_to
     halt_unknown e =
         record {
@@ -306,7 +311,7 @@ module _ (r : Reading) (t list pool : List ℕ) (p : Place) (deep : r.depth ≢ 
     -- a predefined name is its byte, where the memory that is left is one still
     halt_byte : {b : ℕ} → binding list pool name ≡ predefined (b ∷ []) → {new after : List ℕ} {size : ℕ} → Writes (shaped r.form (b ∷ [])) p.len old new size
         → length after ≡ length seen → ((v : List ℕ) → Memory reads r.form list pool v seen → Memory reads r.form list pool v after)
-        → HaltKeeps level r.base p old seen new after (Next (end + 1) size p.openings)
+        → HaltKeeps level r.base p old seen new after (Ok (Next (end + 1) size p.openings))
     unfolding bound_to
     halt_byte {b} e {new} {after} {size} w words keeps =
         record {
@@ -342,11 +347,11 @@ module _ (r : Reading) (t list pool : List ℕ) (p : Place) (deep : r.depth ≢ 
 
     -- that the table does not define it is kept, or was known
     pub halt_predefined : {b : ℕ} → predefined_of name ≡ predefined (b ∷ []) → binding list pool name ≡ predefined (b ∷ []) → {new after : List ℕ} {size : ℕ}
-        → Writes (shaped r.form (b ∷ [])) p.len old new size → Noted seen b after → HaltKeeps level r.base p old seen new after (Next (end + 1) size p.openings)
+        → Writes (shaped r.form (b ∷ [])) p.len old new size → Noted seen b after → HaltKeeps level r.base p old seen new after (Ok (Next (end + 1) size p.openings))
     halt_predefined plain e w noted = halt_byte e w (noted_length noted) (λ v m. memory_noted reads r.form list pool m name f.no_amp plain e noted)
 
     pub halt_plain : {b : ℕ} → binding list pool name ≡ predefined (b ∷ []) → {new : List ℕ} {size : ℕ} → Writes (shaped r.form (b ∷ [])) p.len old new size
-        → HaltKeeps level r.base p old seen new seen (Next (end + 1) size p.openings)
+        → HaltKeeps level r.base p old seen new seen (Ok (Next (end + 1) size p.openings))
     halt_plain e w = halt_byte e w refl (λ v m. m)
 
 -- the byte of a predefined name is ASCII
@@ -358,7 +363,7 @@ plain_ascii t list pool at b f =
 
 pub halt_blank : (r : Reading) (t list pool : List ℕ) (p : Place) → r.depth ≢ 0 → (old seen : List ℕ) → p.at < length t → {w : ℕ}
     → halts (eqb r.how 1) (drop p.at t) ≡ true → Blank (heads_by r.how) t p.at (record { byte = 32; width = w }) → {new : List ℕ} → new ≡ set old p.len 32
-    → HaltKeeps (level_of r list pool t) r.base p old seen new seen (Next (p.at + w) 1 p.openings)
+    → HaltKeeps (level_of r list pool t) r.base p old seen new seen (Ok (Next (p.at + w) 1 p.openings))
 halt_blank r t list pool p deep old seen inside {w} halt blank {new} q =
     let read = guard_blank t p.at inside r.guard (heads_by r.how) (halt_clean r.guard (eqb r.how 1) (drop p.at t) halt) blank in
     let adds = subst (Adds (32 ∷ []) p.len old) (sym q) (adds_byte 32 p.len old) in

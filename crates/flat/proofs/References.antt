@@ -15,8 +15,8 @@ use Rattle.text.proofs.Utf8.{ascii_well_formed}
 use Rattle.charref.specs.CharRef.{char_number, number_answer}
 use Rattle.charref.specs.Reading.{legal_by, Found, Closed}
 use Rattle.charref.specs.declared.Quick.{Quick}
-use Rattle.charref.specs.declared.CharNumber.{CharNumber}
-use Rattle.charref.specs.declared.CharNumber.TheVariants.{Char, UnexpectedSign, InvalidNumber, InvalidCodepoint, IllegalCharacter, Forbidden}
+use Rattle.charref.specs.CharNumbers.{CharNumber}
+use Rattle.charref.specs.CharNumbers.{Char}
 use Rattle.charref.proofs.Encoding.{encode_1}
 use Rattle.charref.proofs.Rules.{rule_character, rule_well_formed, rule_allows}
 use Rattle.text.proofs.Patterns.{at_head}
@@ -31,38 +31,38 @@ use Rattle.attribute.specs.Walk.{Settings}
 use Rattle.attribute.specs.Steps.{Refers, amp_or, outcome_at}
 use Rattle.attribute.proofs.Single.{at_none, at_number, at_predefined, next_offset}
 use Rattle.memory.specs.Levels.{settings_by}
-use Rattle.flat.specs.Between.{Answers, ForPlain, name_of, Means, handed_to, NumberMeans}
+use Rattle.flat.specs.Between.{Answers, ForPlain, name_of, Means, NumberMeans}
+use Rattle.std.specs.Prelude.{Result, Ok, Err}
+use Rattle.text.specs.Answers.{Answer}
+use Rattle.text.specs.declared.refusals.Refusal.{Refusal}
+use Rattle.text.specs.declared.refusals.Refusal.TheVariants.{UnterminatedEntity}
+use Rattle.charref.specs.Errors.{read_as, refusal_for, answer_as}
+use Rattle.charref.specs.declared.ParseCharRefError.{ParseCharRefError}
+use Rattle.charref.proofs.Errors.{answers}
 use Rattle.flat.specs.declared.Meaning.{Meaning}
-use Rattle.flat.specs.declared.Meaning.TheVariants.{Refused, Name}
+use Rattle.flat.specs.declared.Meaning.TheVariants.{Name}
 use Rattle.flat.specs.declared.Meaning.TheVariants.{Char as Character}
 
 -- ---- a number
 
 module _ (rule : ℕ) (digits : List ℕ) (next : ℕ) where
-  pub number_char : {c : ℕ} → char_number (legal_by rule) digits ≡ Char c → NumberMeans rule digits next (Character c next)
+  pub number_char : {c : ℕ} → char_number (legal_by rule) digits ≡ Char c → NumberMeans rule digits next (Ok (Character c next))
   unfolding number_outcome numbered number_answer
   number_char {c} e =
       (refl, (rule_character rule digits c e).most, rule_well_formed rule digits c e, λ n. ap (λ (x : CharNumber). numbered (number_answer x) n) e)
 
-  -- every case but the first is a refusal
-  handed_on_lem : (x : CharNumber) → ((c : ℕ) → x ≡ Char c → ⊥) → char_number (legal_by rule) digits ≡ x
-      → NumberMeans rule digits next (handed_to (number_answer x))
-  unfolding number_answer number_outcome numbered
-  handed_on_lem (Char c) k q = absurd (k c refl)
-  handed_on_lem UnexpectedSign k q = λ n. ap (λ (x : CharNumber). numbered (number_answer x) n) q
-  handed_on_lem InvalidNumber k q = λ n. ap (λ (x : CharNumber). numbered (number_answer x) n) q
-  handed_on_lem (InvalidCodepoint v) k q = λ n. ap (λ (x : CharNumber). numbered (number_answer x) n) q
-  handed_on_lem IllegalCharacter k q = λ n. ap (λ (x : CharNumber). numbered (number_answer x) n) q
-  handed_on_lem Forbidden k q = λ n. ap (λ (x : CharNumber). numbered (number_answer x) n) q
-
-  pub number_refused : {x : CharNumber} {r : Meaning} → char_number (legal_by rule) digits ≡ x → ((c : ℕ) → x ≡ Char c → ⊥)
-      → r ≡ handed_to (number_answer x) → NumberMeans rule digits next r
-  number_refused {x} e k q = rw q (handed_on_lem x k e)
+  -- what refuses the number is passed upward as it came
+  pub number_refused : {e : ParseCharRefError} → Err e ≡ read_as (char_number (legal_by rule) digits)
+      → NumberMeans rule digits next (Err (refusal_for e))
+  unfolding number_outcome numbered
+  number_refused {e} h =
+      let x = char_number (legal_by rule) digits in
+      λ n. ap (λ (a : Answer). numbered a n) (sym (answers x) ∙ sym (ap answer_as h))
 
 -- ---- the reference whose `&` is at an offset
 
 module _ (rule : ℕ) (t : List ℕ) (at : ℕ) (amp : get_or t at 0 ≡ 38) {end : ℕ} (e : NameEnd false t (at + 1) end) where
-  pub means_none : end ≡ length t → Means rule t at (Refused 10 at end)
+  pub means_none : end ≡ length t → Means rule t at (Err (UnterminatedEntity at end))
   means_none q = λ heads refers s such depth deep n. at_none heads refers s depth deep t at n end amp e q
 
   module _ (h : end < length t) where
@@ -76,8 +76,8 @@ module _ (rule : ℕ) (t : List ℕ) (at : ℕ) (amp : get_or t at 0 ≡ 38) {en
         at_number heads refers s depth deep t at n end amp e h b
         ∙ ap (λ (l : ℕ → CharNumber). number_outcome l (take (end - (at + 1 + 1)) (drop (at + 1 + 1) t)) n) is
 
-    pub means_number : get_or t (at + 1) 0 ≡ 35 → (r : Meaning) → NumberMeans rule (take (end - (at + 1 + 1)) (drop (at + 1 + 1) t)) (end + 1) r → Means rule t at r
-    means_number b (Character c after) m =
+    pub means_number : get_or t (at + 1) 0 ≡ 35 → (r : Result Meaning Refusal) → NumberMeans rule (take (end - (at + 1 + 1)) (drop (at + 1 + 1) t)) (end + 1) r → Means rule t at r
+    means_number b (Ok (Character c after)) m =
         let to = m.0 in
         record {
           small = m.1;
@@ -87,11 +87,11 @@ module _ (rule : ℕ) (t : List ℕ) (at : ℕ) (amp : get_or t at 0 ≡ 38) {en
           next_is = λ heads refers. goes_to heads refers ∙ sym to;
           given = λ heads refers s is depth deep n. number_outcome_lem heads refers s is depth deep n b ∙ m.3 n;
         }
-    means_number b (Name x) m = absurd m
-    means_number b (Refused number first second) m = λ heads refers s is depth deep n. number_outcome_lem heads refers s is depth deep n b ∙ m n
+    means_number b (Ok (Name x)) m = absurd m
+    means_number b (Err why) m = λ heads refers s is depth deep n. number_outcome_lem heads refers s is depth deep n b ∙ m n
 
     module _ (b : get_or t (at + 1) 0 ≢ 35) where
-      pub means_amp : same_bytes (name_of t at end) (97 ∷ 109 ∷ 112 ∷ []) ≡ true → Means rule t at (Character 38 (end + 1))
+      pub means_amp : same_bytes (name_of t at end) (97 ∷ 109 ∷ 112 ∷ []) ≡ true → Means rule t at (Ok (Character 38 (end + 1)))
       unfolding bound_to
       means_amp q =
           record {
@@ -111,16 +111,16 @@ module _ (rule : ℕ) (t : List ℕ) (at : ℕ) (amp : get_or t at 0 ≡ 38) {en
               at_predefined heads refers s depth deep t at n end amp e h b (s.bind (name_of t at end)) refl [] 38 (is_amp_lem (s.bind (name_of t at end)))
               (λ f g. absurd (true≢false (sym q ∙ f)))
 
-      pub means_name : same_bytes (name_of t at end) (97 ∷ 109 ∷ 112 ∷ []) ≡ false → Means rule t at (Name end)
+      pub means_name : same_bytes (name_of t at end) (97 ∷ 109 ∷ 112 ∷ []) ≡ false → Means rule t at (Ok (Name end))
       means_name q = record { amp = amp; ends = e; inside = h; no_number = b; no_amp = q }
 
 -- digits that end at the `;` by themselves
 pub means_quick : (rule : ℕ) (t : List ℕ) (at : ℕ) → get_or t at 0 ≡ 38 → (q : Quick) → get_or t (at + 1) 0 ≡ 35 → Found t (at + 1 + 1) q → legal_by rule q.c ≡ Char q.c
-    → Means rule t at (Character q.c (q.end + 1))
+    → Means rule t at (Ok (Character q.c (q.end + 1)))
 means_quick rule t at amp q b f may =
     let e = closed_reference false t b f.closed in
     let digits = take (q.end - (at + 1 + 1)) (drop (at + 1 + 1) t) in
-    means_number rule t at amp e f.closed.inside b (Character q.c (q.end + 1))
+    means_number rule t at amp e f.closed.inside b (Ok (Character q.c (q.end + 1)))
     (number_char rule digits (q.end + 1) (rule_allows rule digits f.character may))
 
 -- a name that begins with `#` has its end behind it

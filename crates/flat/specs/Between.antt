@@ -1,10 +1,9 @@
 -- Between two openings: what a reference means, and what becomes of a halt. Terms in which code is proved. Assumes nothing.
-use Rattle.std.specs.Prelude.{ℕ, ◌+◌, ◌-◌, ◌*◌, ◌≤◌, ◌<◌, ◌≡◌, ◌≢◌, Bool, true, false, List, [], ◌∷◌, length, get_or, take, drop}
+use Rattle.std.specs.Prelude.{ℕ, ◌+◌, ◌-◌, ◌≤◌, ◌<◌, ◌≡◌, ◌≢◌, Bool, true, false, List, [], ◌∷◌, length, get_or, take, drop, Result, Ok, Err}
 use Rattle.text.specs.Bytes.{same_bytes}
 use Rattle.text.specs.Utf8.{WellFormed}
-use Rattle.text.specs.declared.Answer.{Answer}
-use Rattle.text.specs.declared.Answer.TheVariants.{Done}
-use Rattle.text.specs.declared.Answer.TheVariants.{Refused as Refusal}
+use Rattle.text.specs.Refusals.{number_of, first_of, second_of}
+use Rattle.text.specs.declared.refusals.Refusal.{Refusal}
 use Rattle.charref.specs.CharRef.{encode}
 use Rattle.charref.specs.Reading.{legal_by}
 use Rattle.legal.specs.FirstFault.{Clean}
@@ -21,9 +20,9 @@ use Rattle.memory.specs.Levels.{Level, at_depth, Adds, Came, RefusesAt, Opens}
 use Rattle.memory.specs.declared.Reading.{Reading}
 use Rattle.memory.specs.declared.Place.{Place}
 use Rattle.flat.specs.declared.Meaning.{Meaning}
-use Rattle.flat.specs.declared.Meaning.TheVariants.{Char, Name, Refused}
+use Rattle.flat.specs.declared.Meaning.TheVariants.{Char, Name}
 use Rattle.flat.specs.declared.Halted.{Halted}
-use Rattle.flat.specs.declared.Halted.TheVariants.{Next, Opening, Paused, Stopped}
+use Rattle.flat.specs.declared.Halted.TheVariants.{Next, Opening, Paused}
 
 -- ---- pieces of what is written
 
@@ -73,41 +72,37 @@ pub record ForPlain (text list pool : List ℕ) (at b : ℕ) : Type 0 where
   pub bound : binding list pool (name_of text at (at + 3)) ≡ predefined (b ∷ [])
 
 -- what a reference means besides a text
-abbrev pub Means : ℕ → List ℕ → ℕ → Meaning → Type 0
-Means rule text at (Char c next) = ForChar rule text at c next
-Means rule text at (Name end) = ForName text at end
-Means rule text at (Refused number first second) = Answers rule text at (λ n. refused [] n number first second)
-
--- Character numbers: the refusal passed upward as it came; of a character nothing is passed on
-abbrev pub handed_to : Answer → Meaning
-handed_to (Done first second) = Refused 0 first second
-handed_to (Refusal number first second) = Refused number first second
+abbrev pub Means : ℕ → List ℕ → ℕ → Result Meaning Refusal → Type 0
+Means rule text at (Ok (Char c next)) = ForChar rule text at c next
+Means rule text at (Ok (Name end)) = ForName text at end
+Means rule text at (Err r) = Answers rule text at (λ n. refused [] n (number_of r) (first_of r) (second_of r))
 
 -- a character number, with the text after `#`
-abbrev pub NumberMeans : ℕ → List ℕ → ℕ → Meaning → Type 0
-NumberMeans rule digits next (Char c after) =
+abbrev pub NumberMeans : ℕ → List ℕ → ℕ → Result Meaning Refusal → Type 0
+NumberMeans rule digits next (Ok (Char c after)) =
     (after ≡ next) × (c ≤ 1114111) × WellFormed (encode c) × ((n : ℕ) → number_outcome (legal_by rule) digits n ≡ done (encode c) n)
-NumberMeans rule digits next (Name end) = ⊥
-NumberMeans rule digits next (Refused number first second) = (n : ℕ) → number_outcome (legal_by rule) digits n ≡ refused [] n number first second
+NumberMeans rule digits next (Ok (Name end)) = ⊥
+NumberMeans rule digits next (Err r) =
+    (n : ℕ) → number_outcome (legal_by rule) digits n ≡ refused [] n (number_of r) (first_of r) (second_of r)
 
 -- ---- a halt
 
 -- how far a halt goes; it pauses for want of a memory alone
-abbrev pub Past : ℕ → ℕ → List ℕ → Halted → Type 0
-Past size at seen (Next next len made) = (at < next) × (next ≤ size)
-Past size at seen (Opening next command slot) = (at < next) × (next ≤ size)
-Past size at seen Paused = length seen ≡ 0
-Past size at seen (Stopped number first second) = Unit {0}
+abbrev pub Past : ℕ → ℕ → List ℕ → Result Halted Refusal → Type 0
+Past size at seen (Ok (Next next len made)) = (at < next) × (next ≤ size)
+Past size at seen (Ok (Opening next command slot)) = (at < next) × (next ≤ size)
+Past size at seen (Ok Paused) = length seen ≡ 0
+Past size at seen (Err r) = Unit {0}
 
 -- where a level stands after the halt at a place
-abbrev pub Goes : Level → List ℕ → List ℕ → ℕ → List ℕ → List ℕ → Place → Halted → Type 0
-Goes l v whole begun out words p (Next next len made) = Came l v whole begun out words next (p.len + len) made
-Goes l v whole begun out words p (Opening next command slot) = Opens l v whole begun out words p.at next command slot p.len p.openings
-Goes l v whole begun out words p Paused = Came l v whole begun out words p.at p.len p.openings
-Goes l v whole begun out words p (Stopped number first second) = RefusesAt l begun number first second p.openings
+abbrev pub Goes : Level → List ℕ → List ℕ → ℕ → List ℕ → List ℕ → Place → Result Halted Refusal → Type 0
+Goes l v whole begun out words p (Ok (Next next len made)) = Came l v whole begun out words next (p.len + len) made
+Goes l v whole begun out words p (Ok (Opening next command slot)) = Opens l v whole begun out words p.at next command slot p.len p.openings
+Goes l v whole begun out words p (Ok Paused) = Came l v whole begun out words p.at p.len p.openings
+Goes l v whole begun out words p (Err r) = RefusesAt l begun (number_of r) (first_of r) (second_of r) p.openings
 
 -- of the steps at a halt, at the depth of the level and at every greater one
-pub record HaltKeeps (l : Level) (base : ℕ) (p : Place) (old seen new kept : List ℕ) (r : Halted) : Type 0 where
+pub record HaltKeeps (l : Level) (base : ℕ) (p : Place) (old seen new kept : List ℕ) (r : Result Halted Refusal) : Type 0 where
   pub past : Past (length l.text) p.at seen r
   pub buffer : length new ≡ length old
   pub words : length kept ≡ length seen

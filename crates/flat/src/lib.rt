@@ -4,7 +4,7 @@
 // output is written, else nothing: a walk that counts lends a short one.
 #![tactic(auto)]
 
-ghost use Rattle.std.specs.Prelude.{◌≡◌, ◌≢◌, true, List, [], ◌∷◌, ℕ, ◌+◌, ◌-◌, ◌≤◌, ◌<◌, eqb, length, get_or, take, drop};
+ghost use Rattle.std.specs.Prelude.{IfSome, ◌≡◌, ◌≢◌, true, List, [], ◌∷◌, ℕ, ◌+◌, ◌-◌, ◌≤◌, ◌<◌, eqb, length, get_or, take, drop};
 ghost use Rattle.charref.specs.CharRef.{encode};
 ghost use Rattle.eols.specs.Stops.{rule_for};
 ghost use Rattle.canonical.specs.Canonical.{canonical};
@@ -14,33 +14,21 @@ ghost use Rattle.entity.specs.Table.{ValidTable};
 ghost use Rattle.attribute.specs.Steps.{heads_by, fault_by, Blank};
 ghost use Rattle.memory.specs.Slots.{shaped, Trusts};
 ghost use Rattle.memory.specs.Levels.{Bounds, Lent, FlatKeeps, level_of};
-ghost use Rattle.flat.specs.Between.{Writes, Leaf, Means, ForName, ForPlain, handed_to, NumberMeans, HaltKeeps, Referred};
+ghost use Rattle.flat.specs.Between.{Writes, Leaf, Means, ForName, ForPlain, NumberMeans, HaltKeeps, Referred};
 
-use charref::CharNumber;
 use entity::Referent;
-use memory::{Had, Place, Reached, Reading};
-use text::{Answer, refusals};
+use memory::{Place, Reached, Reading, Stop};
+use text::refusals::Refusal;
 
-// What a reference means besides a text: a character, or a refusal; or its name ends at `end`, and the table is asked.
-#[derive(Drop)]
+// What a reference means besides a text: a character; or its name ends at `end`, and the table is asked.
+#[derive(Clone, Copy)]
 enum Meaning {
-    Char {
-        c: u32,
-        next: usize,
-    },
-    Name {
-        end: usize,
-    },
-    Refused {
-        number: u32,
-        first: u64,
-        second: u64,
-    },
+    Char { c: u32, next: usize },
+    Name { end: usize },
 }
 
-// What became of a halt: the offset after it with the bytes added and the openings so far; a text to open; a pause for want of a
-// memory; or a refusal.
-#[derive(Drop)]
+// What became of a halt: the offset after it with the bytes added and the openings so far; a text to open; or a pause for want of a memory.
+#[derive(Clone, Copy)]
 enum Halted {
     Next {
         at: usize,
@@ -53,11 +41,6 @@ enum Halted {
         slot: usize,
     },
     Paused,
-    Stopped {
-        number: u32,
-        first: u64,
-        second: u64,
-    },
 }
 
 // ---- writing after the `len` bytes that this level has written
@@ -177,73 +160,42 @@ fn write_byte(b: u8, len: usize, form: u8, out: &mut [u8]) -> usize
 
 // ---- references
 
-// A number's refusal, handed on.
-fn handed(a: Answer) -> Meaning
-    ensures { result ≡ handed_to a }
-{
-    match a {
-        Answer::Done { first, second } => Meaning::Refused {
-            number: 0,
-            first,
-            second,
-        },
-        Answer::Refused {
-            number,
-            first,
-            second,
-        } => Meaning::Refused {
-            number,
-            first,
-            second,
-        },
-    }
-}
-
 // A character reference with the text after `#`; what comes after it starts at `next`.
-fn number_meaning(digits: &[u8], next: usize, rule: u8) -> Meaning
+fn number_meaning(digits: &[u8], next: usize, rule: u8) -> Result<Meaning, Refusal>
     ensures { NumberMeans rule digits.now next result }
 {
-    let n = charref::parse_number(digits, rule);
-    let CharNumber::Char(c) = n else {
-        return handed(charref::answer_of(n));
-    };
-    Meaning::Char { c, next }
+    let c = charref::parse_number(digits, rule)?;
+    Ok(Meaning::Char { c, next })
 }
 
 // The reference whose `&` is at `at`. Digits end at the `;` by themselves, so that most numbers that the rule allows need no search for it.
-fn read_reference(text: &[u8], at: usize, rule: u8) -> Meaning
+fn read_reference(text: &[u8], at: usize, rule: u8) -> Result<Meaning, Refusal>
     requires { (at < length text.now) × (length text.now ≤ 16777216) × (get_or text.now at 0 ≡ 38) }
     ensures { Means rule text.now at result }
 {
     let from = at + 1;
-    let quick = tokens::quick_reference(text, from);
-    let c = quick.c;
-    if c != 0 {
-        if charref::is_allowed(c, rule) {
-            return Meaning::Char {
-                c,
+    if let Some(quick) = tokens::quick_reference(text, from) {
+        if charref::is_allowed(quick.c, rule) {
+            return Ok(Meaning::Char {
+                c: quick.c,
                 next: quick.end + 1,
-            };
+            });
         }
     }
     let end = name_ends::outer_end(text, from);
     if end == text.len() {
-        return Meaning::Refused {
-            number: refusals::UNTERMINATED_ENTITY,
-            first: at as u64,
-            second: end as u64,
-        };
+        return Err(Refusal::UnterminatedEntity(at as u64, end as u64));
     }
     if text[from] == b'#' {
         return number_meaning(&text[from + 1..end], end + 1, rule);
     }
     if entity::is_three(&text[from..end], b'a', b'm', b'p') {
-        return Meaning::Char {
+        return Ok(Meaning::Char {
             c: 38,
             next: end + 1,
-        };
+        });
     }
-    Meaning::Name { end }
+    Ok(Meaning::Name { end })
 }
 
 // ---- halts
@@ -295,46 +247,38 @@ fn text_step(
     reading: Reading,
     seen: &mut [u64],
     out: &mut [u8],
-) -> Halted
+) -> Result<Halted, Refusal>
     requires command_bound { (command < 49153) × (slot < 16) × (length value.now ≤ 65535) }
     requires openings_le_limit { (place.openings ≤ reading.limit) × (reading.limit ≤ 1000000) × (reading.base + place.len ≤ 0x1000000000000) }
     requires bounds { Bounds command slot reading.limit (reading.base + place.len) seen.old }
     ensures { (text list pool : List ℕ) → Referred reading text list pool place command next value.now → HaltKeeps (level_of reading list pool text) reading.base place out.old seen.old out.new seen.new result }
 {
     if place.openings == reading.limit {
-        return Halted::Stopped {
-            number: refusals::TOO_MANY_OPENINGS,
-            first: place.at as u64,
-            second: 0,
-        };
+        return Err(Refusal::TooManyOpenings(place.at as u64));
     }
-    if let Had::Again {
-        len: more,
-        openings: made,
-    } = memory::again(command, slot, reading, place, seen, out)
-    {
-        return Halted::Next {
+    if let Some(had) = memory::again(command, slot, reading, place, seen, out) {
+        return Ok(Halted::Next {
             at: next,
-            len: more,
-            openings: made,
-        };
+            len: had.len,
+            openings: had.openings,
+        });
     }
     if reading.depth != 1 {
         if is_leaf(value, reading.inner == 1, reading.inguard) {
             let n = write_run(value, 0, value.len(), place.len, reading.form, out);
             memory::keep(command, slot, 2, reading.base + place.len, n, 1, seen);
-            return Halted::Next {
+            return Ok(Halted::Next {
                 at: next,
                 len: n,
                 openings: place.openings + 1,
-            };
+            });
         }
     }
-    Halted::Opening {
+    Ok(Halted::Opening {
         next,
         command,
         slot,
-    }
+    })
 }
 
 // A reference to a name, which ends at `end`: a text of the table, external, predefined, or unknown.
@@ -347,7 +291,7 @@ fn named_step(
     pool: &[u8],
     seen: &mut [u64],
     out: &mut [u8],
-) -> Halted
+) -> Result<Halted, Refusal>
     requires valid_table { ValidTable list.now pool.now }
     requires depth_nonzero { (reading.depth ≢ 0) × (reading.limit ≤ 1000000) × (length text.now ≤ 16777216) }
     requires for_name { ForName text.now place.at end }
@@ -372,56 +316,48 @@ fn named_step(
             seen,
             out,
         ),
-        Referent::External => Halted::Stopped {
-            number: refusals::EXTERNAL_ENTITY,
-            first: place.at as u64,
-            second: 0,
-        },
+        Referent::External => Err(Refusal::ExternalEntity(place.at as u64)),
         Referent::Predefined(b) => {
             memory::keep_plain(b, seen);
             let more = write_byte(b, place.len, reading.form, out);
-            Halted::Next {
+            Ok(Halted::Next {
                 at: end + 1,
                 len: more,
                 openings: made,
-            }
+            })
         }
-        Referent::Unknown => Halted::Stopped {
-            number: refusals::UNRECOGNIZED_ENTITY,
-            first: from as u64,
-            second: end as u64,
-        },
+        Referent::Unknown => Err(Refusal::UnrecognizedEntity(from as u64, end as u64)),
     }
 }
 
-// The byte that `&lt;` or `&gt;` stands for, told by its bytes where the table is known not to define it; 0 says nothing.
-fn quick_plain(text: &[u8], at: usize, seen: &[u64], list: &[u8]) -> u8
+// The byte that `&lt;` or `&gt;` stands for, told by its bytes where the table is known not to define it.
+fn quick_plain(text: &[u8], at: usize, seen: &[u64], list: &[u8]) -> Option<u8>
     requires at_in_bounds { (at < length text.now) × (length text.now ≤ 16777216) × (get_or text.now at 0 ≡ 38) }
     requires in_bounds { length seen.now ≢ 0 → 84 ≤ length seen.now }
-    ensures { result ≢ 0 → (pool : List ℕ) → ValidTable list.now pool → Trusts list.now pool seen.now → ForPlain text.now list.now pool at result }
+    ensures { IfSome result (λ b. (pool : List ℕ) → ValidTable list.now pool → Trusts list.now pool seen.now → ForPlain text.now list.now pool at b) }
 {
     if text.len() - at < 4 {
-        return 0;
+        return None;
     }
     if text[at + 3] != b';' {
-        return 0;
+        return None;
     }
     if text[at + 2] != b't' {
-        return 0;
+        return None;
     }
     if text[at + 1] == b'l' {
         if memory::is_plain(b'<', seen, list) {
-            return b'<';
+            return Some(b'<');
         }
-        return 0;
+        return None;
     }
     if text[at + 1] != b'g' {
-        return 0;
+        return None;
     }
     if memory::is_plain(b'>', seen, list) {
-        return b'>';
+        return Some(b'>');
     }
-    0
+    None
 }
 
 // How many bytes the one space stands for that is written at a halt other than `&`: a line end, or past line ends a CR alone.
@@ -446,7 +382,7 @@ fn halt_step(
     pool: &[u8],
     seen: &mut [u64],
     out: &mut [u8],
-) -> Halted
+) -> Result<Halted, Refusal>
     requires valid_table { ValidTable list.now pool.now }
     requires depth_nonzero { (reading.depth ≢ 0) × (reading.limit ≤ 1000000) × (length text.now ≤ 16777216) }
     requires at_in_bounds { (place.at < length text.now) × (halts (eqb reading.how 1) (drop place.at text.now) ≡ true) }
@@ -458,47 +394,37 @@ fn halt_step(
     if text[at] != b'&' {
         let width = blank_width(text, at, reading.how);
         output::put_byte(32, len, out);
-        return Halted::Next {
+        return Ok(Halted::Next {
             at: at + width,
             len: 1,
             openings: place.openings,
-        };
+        });
     }
-    let plain = quick_plain(text, at, seen, list);
-    if plain != 0 {
+    if let Some(plain) = quick_plain(text, at, seen, list) {
         let written = write_byte(plain, len, reading.form, out);
-        return Halted::Next {
+        return Ok(Halted::Next {
             at: at + 4,
             len: written,
             openings: place.openings,
-        };
+        });
     }
-    match read_reference(text, at, reading.inguard) {
+    match read_reference(text, at, reading.inguard)? {
         Meaning::Char { c, next } => {
             let more = write_char(c, len, reading.form, out);
-            Halted::Next {
+            Ok(Halted::Next {
                 at: next,
                 len: more,
                 openings: place.openings,
-            }
+            })
         }
         Meaning::Name { end } => {
             if seen.len() == 0 {
                 if (16 <= met) | (128 <= list.len()) {
-                    return Halted::Paused;
+                    return Ok(Halted::Paused);
                 }
             }
             named_step(text, end, place, reading, list, pool, seen, out)
         }
-        Meaning::Refused {
-            number,
-            first,
-            second,
-        } => Halted::Stopped {
-            number,
-            first,
-            second,
-        },
     }
 }
 
@@ -523,7 +449,7 @@ pub fn normalize_flat(
     pool: &[u8],
     seen: &mut [u64],
     out: &mut [u8],
-) -> Reached
+) -> Result<Reached, Stop>
     requires valid_table { ValidTable list.now pool.now }
     requires depth_nonzero { (reading.depth ≢ 0) × (reading.limit ≤ 1000000) × (length text.now ≤ 16777216) }
     requires halt_at { HaltAt (eqb reading.how 1) text.now place.at first }
@@ -538,20 +464,18 @@ pub fn normalize_flat(
     loop {
         let fault = run_fault(text, at, end, reading.guard);
         if fault != end {
-            return Reached::Stopped {
-                number: refusals::FORBIDDEN_CHARACTER,
-                first: fault as u64,
-                second: 0,
+            return Err(Stop {
+                refusal: Refusal::ForbiddenCharacter(fault as u64),
                 openings: made,
-            };
+            });
         }
         let written = write_run(text, at, end, len, reading.form, out);
         len += written;
         if end == text.len() {
-            return Reached::End {
+            return Ok(Reached::End {
                 len,
                 openings: made,
-            };
+            });
         }
         let here = Place {
             at: end,
@@ -559,47 +483,39 @@ pub fn normalize_flat(
             openings: made,
         };
         match halt_step(text, here, met, reading, list, pool, seen, out) {
-            Halted::Next {
-                at: next,
-                len: more,
-                openings: now_made,
-            } => {
+            Ok(
+                Halted::Next {
+                    at: next,
+                    len: more,
+                    openings,
+                },
+            ) => {
                 at = next;
                 len += more;
-                made = now_made;
+                made = openings;
             }
-            Halted::Opening {
-                next,
-                command,
-                slot,
-            } => {
-                return Reached::Opening {
+            Ok(
+                Halted::Opening {
+                    next,
+                    command,
+                    slot,
+                },
+            ) => {
+                return Ok(Reached::Opening {
                     at: end,
                     next,
                     command,
                     slot,
                     len,
                     openings: made,
-                };
+                });
             }
-            Halted::Paused => {
-                return Reached::Paused {
-                    at: end,
-                    len,
+            Ok(Halted::Paused) => return Ok(Reached::Paused(here)),
+            Err(refusal) => {
+                return Err(Stop {
+                    refusal,
                     openings: made,
-                };
-            }
-            Halted::Stopped {
-                number,
-                first: a,
-                second,
-            } => {
-                return Reached::Stopped {
-                    number,
-                    first: a,
-                    second,
-                    openings: made,
-                };
+                });
             }
         }
         met += 1;

@@ -16,8 +16,8 @@ use Rattle.text.proofs.Bytes.{pick_both}
 use Rattle.text.proofs.Utf8.{after_append, settled, next_ascii, never_between}
 use Rattle.eols.specs.Stops.{rule_for}
 use Rattle.charref.specs.CharRef.{any_character}
-use Rattle.charref.specs.declared.CharNumber.{CharNumber}
-use Rattle.charref.specs.declared.CharNumber.TheVariants.{Char}
+use Rattle.charref.specs.CharNumbers.{CharNumber}
+use Rattle.charref.specs.CharNumbers.{Char}
 use Rattle.legal.specs.Legal.{fault_at}
 use Rattle.legal.specs.FirstFault.{may_by}
 use Rattle.halts.specs.Halts.{halts, HaltAt, blanks_spaced}

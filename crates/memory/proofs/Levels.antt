@@ -13,8 +13,8 @@ use lib.ListN.{length, get_or, take, drop, length-append, length-take}
 use borrow.Rule.Slice.PartMut.{mid_of, put_mid}
 use Rattle.text.specs.Bytes.{same_bytes}
 use Rattle.text.specs.Utf8.{WellFormed}
-use Rattle.text.specs.declared.Answer.{Answer}
-use Rattle.text.specs.declared.Answer.TheVariants.{Done, Refused}
+use Rattle.text.specs.Answers.{Answer}
+use Rattle.text.specs.Answers.{Done, Refused}
 use Rattle.entity.specs.Table.{little_endian, part}
 use Rattle.entity.specs.Binding.{text, predefined, predefined_of, binding}
 use Rattle.entity.specs.Commands.{command_name, command_text, Defines}
@@ -24,8 +24,8 @@ use Rattle.text.proofs.Utf8.{append_well_formed, ascii_well_formed}
 use Rattle.tokens.specs.Tokens.{named, Token, stop, token_of}
 use Rattle.tokens.specs.Outcome.{Outcome, done, refused, prepend, followed, produced, answer_of}
 use Rattle.tokens.specs.Walking.{head_at, next_at, outcome_of, step_of}
-use Rattle.tokens.specs.declared.Step.{Step}
-use Rattle.tokens.specs.declared.Step.TheVariants.{Next, Stopped}
+use Rattle.tokens.specs.Walking.{Step}
+use Rattle.tokens.specs.Walking.{Next, Stopped}
 use Rattle.tokens.proofs.Openings.{openings_of}
 use Rattle.tokens.proofs.Progress.{run_at, run_over, prepend_none, prepend_prepend}
 use Rattle.attribute.specs.Walk.{Settings, walk}

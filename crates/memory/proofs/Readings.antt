@@ -15,8 +15,8 @@ use Rattle.text.specs.Bytes.{pick, same_bytes}
 use Rattle.text.specs.Version.{Rule, xml10, xml11}
 use Rattle.text.specs.Utf8.{WellFormed}
 use Rattle.text.proofs.Utf8.{ascii_well_formed}
-use Rattle.charref.specs.declared.CharNumber.{CharNumber}
-use Rattle.charref.specs.declared.CharNumber.TheVariants.{Char, Forbidden}
+use Rattle.charref.specs.CharNumbers.{CharNumber}
+use Rattle.charref.specs.CharNumbers.{Char, Forbidden}
 use Rattle.legal.specs.Legal.{is_char}
 use Rattle.legal.specs.FirstFault.{Clean}
 use Rattle.eols.specs.Stops.{rule_for}

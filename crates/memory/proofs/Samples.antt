@@ -14,11 +14,11 @@ use Rattle.entity.specs.Table.{part, little_endian, table_check, ValidTable}
 use Rattle.entity.specs.Commands.{command_name, command_text, Defines}
 use Rattle.legal.specs.FirstFault.{Clean}
 use Rattle.halts.specs.Halts.{halts, Smooth}
-use Rattle.text.specs.declared.Answer.TheVariants.{Done}
+use Rattle.text.specs.Answers.{Done}
 use Rattle.tokens.specs.Tokens.{named}
 use Rattle.tokens.specs.Outcome.{done, refused}
 use Rattle.attribute.specs.Walk.{Settings, walk}
-use Rattle.tokens.specs.declared.Step.TheVariants.{Next}
+use Rattle.tokens.specs.Walking.{Next}
 use Rattle.attribute.specs.Heads.{attribute_head}
 use Rattle.attribute.specs.Steps.{fault_by, stop_answer}
 use Rattle.memory.specs.Slots.{opening, shaped, slot_of, plain_word, Memory, kept_in}

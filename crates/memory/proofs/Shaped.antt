@@ -20,7 +20,7 @@ use Rattle.canonical.proofs.Append.{canonical_append, starts_well_formed}
 use Rattle.canonical.proofs.Canonical.{canonical_length}
 use Rattle.tokens.specs.Outcome.{Outcome, done, refused}
 use Rattle.tokens.specs.Walking.{step_of}
-use Rattle.tokens.specs.declared.Step.TheVariants.{Next, Stopped}
+use Rattle.tokens.specs.Walking.{Next, Stopped}
 use Rattle.memory.specs.Slots.{shaped, shaped_in}
 
 -- ---- by the code's number

@@ -6,10 +6,10 @@ use Prim.Native.Nat.{ℕ, ◌+◌, ◌-◌, ◌*◌, ◌≤◌, ◌<◌, min}
 use native.Mathlib.Omega.{arith}
 use lib.ListN.{length}
 use borrow.Rule.Slice.PartMut.{mid_of, put_mid}
-use Rattle.text.specs.declared.Answer.{Answer}
-use Rattle.text.specs.declared.Answer.TheVariants.{Done, Refused}
+use Rattle.text.specs.Answers.{Answer}
+use Rattle.text.specs.Answers.{Done, Refused}
 use Rattle.entity.specs.Commands.{Defines}
-use Rattle.tokens.specs.declared.Step.TheVariants.{Next, Stopped}
+use Rattle.tokens.specs.Walking.{Next, Stopped}
 use Rattle.attribute.specs.Walk.{Settings}
 use Rattle.attribute.specs.Steps.{step_from}
 use Rattle.memory.specs.Slots.{shaped, slot_of, Kept}

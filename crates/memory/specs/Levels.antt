@@ -1,24 +1,25 @@
 -- One level of a walk, outer or replacement text, with the memory of all: what a walker's loop keeps, and the contracts of the walker,
 -- of the step that opens a text, and of the part between two openings. Terms in which code is proved. Assumes nothing.
-use Rattle.std.specs.Prelude.{ℕ, ◌+◌, ◌-◌, ◌*◌, ◌≤◌, ◌<◌, ◌≡◌, ◌≢◌, List, ◌++◌, length, get_or, take, drop}
+use Rattle.std.specs.Prelude.{ℕ, ◌+◌, ◌-◌, ◌*◌, ◌≤◌, ◌<◌, ◌≡◌, ◌≢◌, List, ◌++◌, length, get_or, take, drop, Option, Some, None, Result, Ok, Err}
 use Rattle.text.specs.Call.{laid}
 use Rattle.text.specs.Utf8.{WellFormed}
-use Rattle.text.specs.declared.Answer.{Answer}
+use Rattle.text.specs.Answers.{Answer}
+use Rattle.text.specs.Refusals.{number_of, first_of, second_of}
 use Rattle.entity.specs.Binding.{binding}
 use Rattle.entity.specs.Commands.{command_text, Defines}
 use Rattle.tokens.specs.Tokens.{Heads, tokens}
 use Rattle.tokens.specs.Outcome.{Outcome, done, refused, prepend, followed, run, answer_of}
 use Rattle.tokens.specs.Walking.{step_of}
-use Rattle.tokens.specs.declared.Step.{Step}
+use Rattle.tokens.specs.Walking.{Step}
 use Rattle.attribute.specs.Walk.{Settings}
 use Rattle.attribute.specs.Steps.{read_by, legal_by, stop_answer}
 use Rattle.memory.specs.Slots.{opening, shaped, shaped_in, slot_at, Memory}
 use Rattle.memory.specs.declared.Reading.{Reading}
 use Rattle.memory.specs.declared.Place.{Place}
 use Rattle.memory.specs.declared.Had.{Had}
-use Rattle.memory.specs.declared.Had.TheVariants.{Again, Unseen}
+use Rattle.memory.specs.declared.Stop.{Stop}
 use Rattle.memory.specs.declared.Reached.{Reached}
-use Rattle.memory.specs.declared.Reached.TheVariants.{End, Opening, Paused, Stopped}
+use Rattle.memory.specs.declared.Reached.TheVariants.{End, Opening, Paused}
 
 -- ---- what the code's numbers mean
 
@@ -120,11 +121,12 @@ pub record Opens (l : Level) (v whole : List ℕ) (begun : ℕ) (out words : Lis
   pub room : made < l.settings.limit
 
 -- where a walk came to
-abbrev pub Reaches : Level → List ℕ → List ℕ → ℕ → List ℕ → List ℕ → Reached → Type 0
-Reaches l v whole begun out words (End len made) = Whole l v whole begun out words len made
-Reaches l v whole begun out words (Opening at next command slot len made) = Opens l v whole begun out words at next command slot len made
-Reaches l v whole begun out words (Paused at len made) = Came l v whole begun out words at len made
-Reaches l v whole begun out words (Stopped number first second made) = RefusesAt l begun number first second made
+abbrev pub Reaches : Level → List ℕ → List ℕ → ℕ → List ℕ → List ℕ → Result Reached Stop → Type 0
+Reaches l v whole begun out words (Ok (End len made)) = Whole l v whole begun out words len made
+Reaches l v whole begun out words (Ok (Opening at next command slot len made)) = Opens l v whole begun out words at next command slot len made
+Reaches l v whole begun out words (Ok (Paused p)) = Came l v whole begun out words p.at p.len p.openings
+Reaches l v whole begun out words (Err stop) =
+    RefusesAt l begun (number_of stop.refusal) (first_of stop.refusal) (second_of stop.refusal) stop.openings
 
 -- ---- contracts
 
@@ -138,14 +140,14 @@ pub record Lent (l : Level) (base : ℕ) (out words : List ℕ) (p : Place) : Ty
   pub room : base + 24 * length l.text ≤ 402653184 + 1572840 * begun
 
 -- how far the part between two openings goes: so the walker ends. It pauses for want of a memory alone
-abbrev pub Onward : ℕ → ℕ → List ℕ → Reached → Type 0
-Onward size from seen (End len made) = Unit {0}
-Onward size from seen (Opening at next command slot len made) = (from < next) × (next ≤ size)
-Onward size from seen (Paused at len made) = (from ≤ at) × (at < size) × (length seen ≡ 0)
-Onward size from seen (Stopped number first second made) = Unit {0}
+abbrev pub Onward : ℕ → ℕ → List ℕ → Result Reached Stop → Type 0
+Onward size from seen (Ok (End len made)) = Unit {0}
+Onward size from seen (Ok (Opening at next command slot len made)) = (from < next) × (next ≤ size)
+Onward size from seen (Ok (Paused p)) = (from ≤ p.at) × (p.at < size) × (length seen ≡ 0)
+Onward size from seen (Err stop) = Unit {0}
 
 -- of `normalize_flat`: what it came to holds at its depth and at every greater one, since it never uses its depth up
-pub record FlatKeeps (l : Level) (base : ℕ) (p : Place) (old seen new kept : List ℕ) (r : Reached) : Type 0 where
+pub record FlatKeeps (l : Level) (base : ℕ) (p : Place) (old seen new kept : List ℕ) (r : Result Reached Stop) : Type 0 where
   pub onward : Onward (length l.text) p.at seen r
   pub buffer : length new ≡ length old
   pub words : length kept ≡ length seen
@@ -190,9 +192,9 @@ pub record Taken (command slot : ℕ) (r : Reading) (p : Place) (seen old new : 
   pub writes : (v value whole : List ℕ) → length v ≡ r.base → length value ≡ p.len → (slot_at seen slot).place + count ≤ r.base + p.len → Fitted value whole old
       → Fitted (value ++ take count (drop (slot_at seen slot).place (v ++ value))) whole new
 
-abbrev pub HadKeeps : ℕ → ℕ → Reading → Place → List ℕ → List ℕ → List ℕ → Had → Type 0
-HadKeeps command slot r p seen old new (Again count made) = Taken command slot r p seen old new count made
-HadKeeps command slot r p seen old new Unseen = new ≡ old
+abbrev pub HadKeeps : ℕ → ℕ → Reading → Place → List ℕ → List ℕ → List ℕ → Option Had → Type 0
+HadKeeps command slot r p seen old new (Some had) = Taken command slot r p seen old new had.len had.openings
+HadKeeps command slot r p seen old new None = new ≡ old
 
 -- what it asks of the slot: bounds that a memory has
 pub record Bounds (command slot limit reached : ℕ) (seen : List ℕ) : Type 0 where

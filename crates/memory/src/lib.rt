@@ -15,6 +15,7 @@ ghost use Rattle.memory.specs.Slots.{slot_of, plain_word, Noted, Trusts, Kept, I
 ghost use Rattle.memory.specs.Levels.{Bounds, HadKeeps};
 
 use entity::{Binding, Referent};
+use text::refusals::Refusal;
 
 // What a level of a walk is set to: how its text is read and how the texts inside it are (0 as XML 1.0, 1 as XML 1.1, 2 past line ends),
 // which characters may stand in it and in these (0 all, else the rule of that number less one of crate legal), what is written of its value
@@ -40,8 +41,8 @@ pub struct Place {
     pub openings: u64,
 }
 
-// Where a walk came to: its end, a text to open at the reference `at`, a pause for want of a memory, or a refusal.
-#[derive(Drop)]
+// Where a walk came to: its end, a text to open at the reference `at`, or a pause for want of a memory.
+#[derive(Clone, Copy)]
 pub enum Reached {
     End {
         len: usize,
@@ -55,30 +56,29 @@ pub enum Reached {
         len: usize,
         openings: u64,
     },
-    Paused {
-        at: usize,
-        len: usize,
-        openings: u64,
-    },
-    Stopped {
-        number: u32,
-        first: u64,
-        second: u64,
-        openings: u64,
-    },
+    Paused(Place),
 }
 
-// The value of a text that is kept, as it was had before, or nothing is kept of it.
-#[derive(Drop)]
-pub enum Had {
-    Again { len: usize, openings: u64 },
-    Unseen,
+// What refuses a walk, and the openings that it had made.
+#[derive(Clone, Copy)]
+pub struct Stop {
+    pub refusal: Refusal,
+    pub openings: u64,
 }
 
-fn wide(b: u8) -> usize
-    ensures { (result ≡ b) × (result < 0x100) }
-{
-    b as usize
+impl From<Stop> for Refusal {
+    ghost from_gives = { λ stop r. r ≡ stop.refusal };
+
+    fn from(stop: Stop) -> Refusal {
+        stop.refusal
+    }
+}
+
+// The value of a text that is kept, as it was had before.
+#[derive(Clone, Copy)]
+pub struct Had {
+    pub len: usize,
+    pub openings: u64,
 }
 
 // The slot of a name: by its length and three of its bytes, so that names of one office that begin alike differ.
@@ -90,7 +90,7 @@ pub fn slot_of(name: &[u8]) -> usize
     if n == 0 {
         return 0;
     }
-    (wide(name[0]) + 3 * wide(name[n / 2]) + 5 * wide(name[n - 1]) + n) % 16
+    (usize::from(name[0]) + 3 * usize::from(name[n / 2]) + 5 * usize::from(name[n - 1]) + n) % 16
 }
 
 // The word that says that the table does not define this predefined name.
@@ -227,34 +227,34 @@ pub fn again(
     place: Place,
     seen: &[u64],
     out: &mut [u8],
-) -> Had
+) -> Option<Had>
     requires command_bound { (command < 49153) × (slot < 16) }
     requires openings_le_limit { (place.openings ≤ reading.limit) × (reading.limit ≤ 1000000) × (reading.base + place.len ≤ 0x1000000000000) }
     requires bounds { Bounds command slot reading.limit (reading.base + place.len) seen.now }
     ensures { HadKeeps command slot reading place seen.now out.old out.new result }
 {
     if seen.len() == 0 {
-        return Had::Unseen;
+        return None;
     }
     if (seen[slot] != command as u64 + 1) | (reading.depth < seen[slot + 16]) {
-        return Had::Unseen;
+        return None;
     }
     let count = seen[slot + 48] as usize;
     let made = place.openings + seen[slot + 64];
     if reading.limit < made {
-        return Had::Unseen;
+        return None;
     }
     let len = place.len;
     if len < out.len() {
         let base = reading.base;
         let from = seen[slot + 32] as usize;
         if (from < base) | (out.len() - len < count) {
-            return Had::Unseen;
+            return None;
         }
         tokens::put_again(from - base, count, len, out);
     }
-    Had::Again {
+    Some(Had {
         len: count,
         openings: made,
-    }
+    })
 }

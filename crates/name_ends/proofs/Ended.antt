@@ -9,17 +9,11 @@ use lib.Dec.{eqb, ltb}
 use lib.ListN.{length, get_or, take, drop, length-drop}
 use lib.Seq.{get_or-drop, get_or-take, length-take-le}
 use borrow.Author.Tests.{eqb-true, eqb-false, ltb-true, ltb-false}
-use Rattle.text.proofs.Bytes.{or_left}
-use Rattle.output.specs.Runs.{Plain, either_byte}
-use Rattle.output.proofs.Runs.{plain_both}
+use Rattle.output.specs.Runs.{Plain}
 use Rattle.runs.specs.RunEnds.{RunEnd}
 use Rattle.tokens.specs.Walking.{NameEnd}
 use Rattle.tokens.proofs.Names.{Passed, passed_start, passed_over, passed_end, passed_byte}
 use Rattle.name_ends.specs.OneByte.{is_byte}
-
--- a run of two tests for the same byte
-pub one_byte : (b : ℕ) {text : List ℕ} {i e : ℕ} → Plain (either_byte b b) text i e → Plain (is_byte b) text i e
-one_byte b p = plain_both (is_byte b) (λ c h _. or_left (eqb c b) (eqb c b) h) p p
 
 module _ (inner : Bool) (text : List ℕ) (from : ℕ) where
   -- what a name's byte must not be

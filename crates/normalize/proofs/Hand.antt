@@ -14,8 +14,8 @@ use Rattle.text.specs.Bytes.{pick}
 use Rattle.text.specs.Version.{Rule, rule_of}
 use Rattle.text.specs.Utf8.{WellFormed}
 use Rattle.text.specs.Call.{call_of, laid}
-use Rattle.text.specs.declared.Answer.{Answer}
-use Rattle.text.specs.declared.Answer.TheVariants.{Done, Refused}
+use Rattle.text.specs.Answers.{Answer}
+use Rattle.text.specs.Answers.{Done, Refused}
 use Rattle.output.proofs.Laid.{laid_length}
 use Rattle.eols.specs.Stops.{rule_for}
 use Rattle.eols.proofs.LineEnds.{version_rule}

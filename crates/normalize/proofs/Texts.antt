@@ -14,8 +14,8 @@ use lib.ListN.{length, take, drop, replicate}
 use Rattle.text.specs.Bytes.{pick}
 use Rattle.text.specs.Call.{laid}
 use Rattle.text.specs.Version.{Rule}
-use Rattle.text.specs.declared.Answer.{Answer}
-use Rattle.text.specs.declared.Answer.TheVariants.{Done, Refused}
+use Rattle.text.specs.Answers.{Answer}
+use Rattle.text.specs.Answers.{Done, Refused}
 use Rattle.output.specs.Over.{over}
 use Rattle.output.proofs.Clip.{over_fits}
 use Rattle.eols.specs.Stops.{rule_for}
@@ -46,7 +46,10 @@ use Rattle.memory.specs.Levels.{settings_by, settings_of, Level, level_of, left,
 use Rattle.memory.specs.declared.Reading.{Reading}
 use Rattle.memory.specs.declared.Place.{Place}
 use Rattle.memory.specs.declared.Reached.{Reached}
-use Rattle.memory.specs.declared.Reached.TheVariants.{End, Opening, Paused, Stopped}
+use Rattle.memory.specs.declared.Reached.TheVariants.{End, Opening, Paused}
+use Rattle.memory.specs.declared.Stop.{Stop}
+use Rattle.std.specs.Prelude.{Result, Ok, Err}
+use Rattle.text.specs.Call.{answered as told}
 use Rattle.memory.proofs.Shaped.{shaped_plain, shaped_form, shaped_most}
 use Rattle.memory.proofs.Fitted.{fitted_start}
 use Rattle.flat.specs.Between.{Writes}
@@ -147,24 +150,24 @@ module _ (r : Reading) (list pool text : List ℕ) (outer : r.base ≡ 0) where
   start_lent utf8 short out =
       record { v = []; whole = out; begun = 0; size = sym outer; came = start_came utf8 out; room = omega (arith, outer, short) }
 
-  module _ (utf8 : WellFormed text) {out new kept : List ℕ} {x : Reached} (f : FlatKeeps level r.base (place_of 0 0 0) out [] new kept x) where
-    reached : {y : Reached} → x ≡ y → Reaches level [] out 0 new kept y
+  module _ (utf8 : WellFormed text) {out new kept : List ℕ} {x : Result Reached Stop} (f : FlatKeeps level r.base (place_of 0 0 0) out [] new kept x) where
+    reached : {y : Result Reached Stop} → x ≡ y → Reaches level [] out 0 new kept y
     reached is = subst (Reaches level [] out 0 new kept) is (f.reaches r.depth (le_refl _) [] out 0 (sym outer) (start_came utf8 out))
 
-    pub text_end : {len made : ℕ} → x ≡ End len made → Walks (form_of r list pool text) out new (Done len made)
+    pub text_end : {len made : ℕ} → x ≡ Ok (End len made) → Walks (form_of r list pool text) out new (Done len made)
     text_end is = walks_whole (finished (turn_end level (reached is)) f.buffer)
 
-    pub text_stopped : {number first second made_then : ℕ} → x ≡ Stopped number first second made_then → Walks (form_of r list pool text) out new (Refused number first second)
+    pub text_stopped : {stop : Stop} → x ≡ Err stop → Walks (form_of r list pool text) out new (told (Err stop.refusal))
     text_stopped is = walks_whole (finished (turn_stopped level {out = new} {words = kept} (refuses_some (reached is))) f.buffer)
 
     bare : {i len made : ℕ} → Came level [] out 0 new kept i len made → Came level [] out 0 new [] i len made
     bare c = came_memory level [] out 0 c (memory_none (settings_of r list pool) r.form list pool _ [] refl)
 
     -- on from a text to open, or from a pause
-    pub text_opens : {i next command slot len made : ℕ} → x ≡ Opening i next command slot len made → Came level [] out 0 new [] i len made
+    pub text_opens : {i next command slot len made : ℕ} → x ≡ Ok (Opening i next command slot len made) → Came level [] out 0 new [] i len made
     text_opens is = bare (reached is).came
 
-    pub text_pauses : {i len made : ℕ} → x ≡ Paused i len made → Came level [] out 0 new [] i len made
+    pub text_pauses : {here : Place} → x ≡ Ok (Paused here) → Came level [] out 0 new [] here.at here.len here.openings
     text_pauses is = bare (reached is)
 
     module _ {i len made : ℕ} (c : Came level [] out 0 new [] i len made) where

@@ -2,8 +2,8 @@
 use Rattle.std.specs.Prelude.{ℕ, ◌≡◌, Bool, List, [], ltb, length}
 use Rattle.text.specs.Bytes.{pick}
 use Rattle.text.specs.Version.{rule_of}
-use Rattle.text.specs.declared.Answer.{Answer}
-use Rattle.text.specs.declared.Answer.TheVariants.{Done}
+use Rattle.text.specs.Answers.{Answer}
+use Rattle.text.specs.Answers.{Done}
 use Rattle.tokens.specs.Outcome.{Outcome, done, refused, answer_of}
 use Rattle.attribute.specs.Steps.{read_by}
 use Rattle.attribute.specs.Walk.{walk, normalize}

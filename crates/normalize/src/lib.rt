@@ -4,7 +4,7 @@
 
 ghost use Rattle.std.specs.Prelude.{◌≡◌, ◌≢◌, true, false, List, [], ◌∷◌, ℕ, ◌≤◌, eqb, ltb, length};
 ghost use Rattle.text.specs.Bytes.{pick};
-ghost use Rattle.text.specs.Call.{call_of, laid};
+ghost use Rattle.text.specs.Call.{answered, call_of, laid};
 ghost use Rattle.text.specs.Version.{Rule, rule_of};
 ghost use Rattle.text.specs.Simple.{Simple};
 ghost use Rattle.text.specs.Utf8.{WellFormed};
@@ -14,27 +14,31 @@ ghost use Rattle.canonical.specs.FormEnds.{FormOf};
 ghost use Rattle.halts.specs.Halts.{HaltAt, blanks_spaced};
 ghost use Rattle.entity.specs.Table.{marked, ValidTable};
 ghost use Rattle.tokens.specs.Outcome.{done, finished};
-ghost use Rattle.tokens.specs.Walking.{Ended};
+ghost use Rattle.tokens.specs.Walking.{short_of, Ended};
 ghost use Rattle.attribute.specs.Walk.{Settings, walk};
 ghost use Rattle.attribute.specs.Steps.{read_by};
 ghost use Rattle.attribute.specs.Form.{formed, handed};
-ghost use Rattle.text.specs.declared.Answer.TheVariants.{Refused as Refusal};
 ghost use Rattle.memory.specs.Slots.{Trusts, Forgot};
 ghost use Rattle.memory.specs.Levels.{level_of, Lent};
 ghost use Rattle.cycle.specs.Cycle.{Walkable};
 ghost use Rattle.normalize.specs.Calls.{reading_for, outcome_for, walk_of, form_of, plainly, written_in, Walks, WalksOn, Lasts};
 
 use memory::{Place, Reached, Reading};
-use text::{Answer, refusals};
+use text::refusals::Refusal;
+use text::{Answer, Success};
+use tokens::Buffer;
 
 // What a call is asked: its version byte, whether its characters have to be the version's, depth and opening limit.
-#[derive(Drop)]
+#[derive(Clone, Copy)]
 pub struct Wanted {
     pub version: u8,
     pub strict: bool,
     pub depth: u64,
     pub limit: u64,
 }
+
+// A scratch that is wanted is shorter than the 4 bytes for a character.
+const NO_SCRATCH: Refusal = Refusal::NoScratch(4);
 
 // ---- the walk over the text of a call
 
@@ -50,7 +54,7 @@ fn normalize_opened(
     requires valid_table { ValidTable list.now pool.now }
     requires base_value { (reading.base ≡ 0) × Walkable reading text.now }
     requires lent { Lent (level_of reading list.now pool.now text.now) 0 out.old [] begun }
-    ensures { WalksOn (level_of reading list.now pool.now text.now) begun [] out.old out.new result }
+    ensures { WalksOn (level_of reading list.now pool.now text.now) begun [] out.old out.new (answered result) }
 {
     let mut seen = [0u64; 84];
     cycle::normalize_attr_steps(text, begun, reading, list, pool, &mut seen, out)
@@ -69,7 +73,7 @@ fn normalize_text(
     requires base_value { (reading.base ≡ 0) × Walkable reading text.now }
     requires halt_at { HaltAt (eqb reading.how 1) text.now 0 first }
     requires well_formed { WellFormed text.now }
-    ensures { Walks (form_of reading list.now pool.now text.now) out.old out.new result }
+    ensures { Walks (form_of reading list.now pool.now text.now) out.old out.new (answered result) }
 {
     let mut none = [0u64; 1];
     let start = Place {
@@ -77,21 +81,11 @@ fn normalize_text(
         len: 0,
         openings: 0,
     };
-    match flat::normalize_flat(text, start, first, reading, list, pool, &mut none[..0], out) {
-        Reached::End { len, openings } => Answer::Done {
+    match flat::normalize_flat(text, start, first, reading, list, pool, &mut none[..0], out)? {
+        Reached::End { len, openings } => Ok(Success {
             first: len as u64,
             second: openings,
-        },
-        Reached::Stopped {
-            number,
-            first: a,
-            second,
-            openings: _,
-        } => Answer::Refused {
-            number,
-            first: a,
-            second,
-        },
+        }),
         Reached::Opening {
             at,
             next: _,
@@ -100,14 +94,7 @@ fn normalize_text(
             len,
             openings,
         } => normalize_opened(text, Place { at, len, openings }, reading, list, pool, out),
-        Reached::Paused { at, len, openings } => normalize_opened(
-            text,
-            Place { at, len, openings },
-            reading,
-            list,
-            pool,
-            out,
-        ),
+        Reached::Paused(here) => normalize_opened(text, here, reading, list, pool, out),
     }
 }
 
@@ -128,17 +115,6 @@ fn put_held(src: &[u8], out: &mut [u8])
         i += 16;
     }
     output::put_block(&src[last..], &mut out[last..]);
-}
-
-// A scratch that is wanted is shorter than the 4 bytes for a character.
-fn no_scratch() -> Answer
-    ensures { result ≡ Refusal 18 4 0 }
-{
-    Answer::Refused {
-        number: refusals::NO_SCRATCH,
-        first: 4,
-        second: 0,
-    }
 }
 
 // ---- long texts with a table: the memory has an index of the table's names behind it
@@ -168,8 +144,8 @@ fn walk_lent(
     requires base_value { (reading.base ≡ 0) × Walkable reading text.now }
     requires well_formed { WellFormed text.now }
     requires in_bounds { (84 ≤ length room.old) × Trusts list.now pool.now room.old }
-    ensures walks { Walks (form_of reading list.now pool.now text.now) out.old out.new result }
-    ensures lasts { Lasts list.now pool.now room.old room.new result }
+    ensures walks { Walks (form_of reading list.now pool.now text.now) out.old out.new (answered result) }
+    ensures lasts { Lasts list.now pool.now room.old room.new (answered result) }
 {
     forget(room);
     let start = Place {
@@ -187,7 +163,7 @@ fn walk_into(
     list: &[u8],
     pool: &[u8],
     lacks: bool,
-    short: u32,
+    buffer: Buffer,
     room: &mut [u64],
     out: &mut [u8],
 ) -> Answer
@@ -195,26 +171,16 @@ fn walk_into(
     requires base_value { (reading.base ≡ 0) × Walkable reading text.now }
     requires well_formed { WellFormed text.now }
     requires in_bounds { (84 ≤ length room.old) × Trusts list.now pool.now room.old }
-    ensures { Ended short (written_in reading.form lacks (walk_of reading list.now pool.now text.now)) out.old out.new result }
+    ensures { Ended (short_of buffer) (written_in reading.form lacks (walk_of reading list.now pool.now text.now)) out.old out.new (answered result) }
 {
     let mut none = [0u8; 1];
-    let counted = walk_lent(text, reading, list, pool, room, &mut none[..0]);
-    let Answer::Done {
-        first: len,
-        second: _,
-    } = counted
-    else {
-        return counted;
-    };
+    let counted = walk_lent(text, reading, list, pool, room, &mut none[..0])?;
+    let len = counted.first;
     if lacks {
-        return no_scratch();
+        return Err(NO_SCRATCH);
     }
     if (out.len() as u64) < len {
-        return Answer::Refused {
-            number: short,
-            first: len,
-            second: 0,
-        };
+        return Err(buffer.too_short(len));
     }
     walk_lent(text, reading, list, pool, room, out)
 }
@@ -226,16 +192,16 @@ fn walk_long(
     list: &[u8],
     pool: &[u8],
     lacks: bool,
-    short: u32,
+    buffer: Buffer,
     out: &mut [u8],
 ) -> Answer
     requires valid_table { ValidTable list.now pool.now }
     requires base_value { (reading.base ≡ 0) × Walkable reading text.now }
     requires well_formed { WellFormed text.now }
-    ensures { Ended short (written_in reading.form lacks (walk_of reading list.now pool.now text.now)) out.old out.new result }
+    ensures { Ended (short_of buffer) (written_in reading.form lacks (walk_of reading list.now pool.now text.now)) out.old out.new (answered result) }
 {
     let mut room = [0u64; 2133];
-    walk_into(text, reading, list, pool, lacks, short, &mut room, out)
+    walk_into(text, reading, list, pool, lacks, buffer, &mut room, out)
 }
 
 // What is written of the value goes to the start of `out`; a buffer that is too short is refused by the number given. Counts first, and
@@ -247,40 +213,30 @@ fn normalize_into(
     list: &[u8],
     pool: &[u8],
     lacks: bool,
-    short: u32,
+    buffer: Buffer,
     out: &mut [u8],
 ) -> Answer
     requires valid_table { ValidTable list.now pool.now }
     requires base_value { (reading.base ≡ 0) × Walkable reading text.now }
     requires halt_at { HaltAt (eqb reading.how 1) text.now 0 first }
     requires well_formed { WellFormed text.now }
-    ensures { Ended short (written_in reading.form lacks (walk_of reading list.now pool.now text.now)) out.old out.new result }
+    ensures { Ended (short_of buffer) (written_in reading.form lacks (walk_of reading list.now pool.now text.now)) out.old out.new (answered result) }
 {
     if (1024 <= text.len()) & (192 <= list.len()) {
-        return walk_long(text, reading, list, pool, lacks, short, out);
+        return walk_long(text, reading, list, pool, lacks, buffer, out);
     }
     let mut held = [0u8; 128];
-    let counted = normalize_text(text, first, reading, list, pool, &mut held);
-    let Answer::Done {
-        first: len,
-        second: _,
-    } = counted
-    else {
-        return counted;
-    };
+    let counted = normalize_text(text, first, reading, list, pool, &mut held)?;
+    let len = counted.first;
     if lacks {
-        return no_scratch();
+        return Err(NO_SCRATCH);
     }
     if (out.len() as u64) < len {
-        return Answer::Refused {
-            number: short,
-            first: len,
-            second: 0,
-        };
+        return Err(buffer.too_short(len));
     }
     if len <= 128 {
         put_held(&held[..len as usize], out);
-        return counted;
+        return Ok(counted);
     }
     normalize_text(text, first, reading, list, pool, out)
 }
@@ -309,33 +265,23 @@ fn form_counted(
     list: &[u8],
     pool: &[u8],
     lacks: bool,
-    short: u32,
+    buffer: Buffer,
     out: &mut [u8],
 ) -> Answer
     requires valid_table { ValidTable list.now pool.now }
     requires base_value { (reading.base ≡ 0) × Walkable reading text.now }
     requires halt_at { HaltAt (eqb reading.how 1) text.now 0 first }
     requires well_formed { WellFormed text.now }
-    ensures { Ended short (written_in reading.form lacks (walk_of reading list.now pool.now text.now)) out.old out.new result }
+    ensures { Ended (short_of buffer) (written_in reading.form lacks (walk_of reading list.now pool.now text.now)) out.old out.new (answered result) }
 {
     let mut none = [0u8; 1];
-    let counted = normalize_text(text, first, reading, list, pool, &mut none[..0]);
-    let Answer::Done {
-        first: len,
-        second: _,
-    } = counted
-    else {
-        return counted;
-    };
+    let counted = normalize_text(text, first, reading, list, pool, &mut none[..0])?;
+    let len = counted.first;
     if lacks {
-        return no_scratch();
+        return Err(NO_SCRATCH);
     }
     if (out.len() as u64) < len {
-        return Answer::Refused {
-            number: short,
-            first: len,
-            second: 0,
-        };
+        return Err(buffer.too_short(len));
     }
     normalize_text(text, first, reading, list, pool, out)
 }
@@ -350,36 +296,30 @@ fn form_into(
     list: &[u8],
     pool: &[u8],
     lacks: bool,
-    short: u32,
+    buffer: Buffer,
     out: &mut [u8],
 ) -> Answer
     requires valid_table { ValidTable list.now pool.now }
     requires base_value { (reading.base ≡ 0) × Walkable reading text.now }
     requires halt_at { HaltAt (eqb reading.how 1) text.now 0 first }
     requires well_formed { WellFormed text.now }
-    ensures { Ended short (written_in reading.form lacks (walk_of reading list.now pool.now text.now)) out.old out.new result }
+    ensures { Ended (short_of buffer) (written_in reading.form lacks (walk_of reading list.now pool.now text.now)) out.old out.new (answered result) }
 {
     if (1024 <= text.len()) & (192 <= list.len()) {
-        return walk_long(text, reading, list, pool, lacks, short, out);
+        return walk_long(text, reading, list, pool, lacks, buffer, out);
     }
     if out.len() / 6 < text.len() {
-        return form_counted(text, first, reading, list, pool, lacks, short, out);
+        return form_counted(text, first, reading, list, pool, lacks, buffer, out);
     }
     let mut none = [0u8; 1];
     let plain = as_value(reading);
-    let counted = normalize_text(text, first, plain, list, pool, &mut none[..0]);
-    let Answer::Done {
-        first: len,
-        second: _,
-    } = counted
-    else {
-        return counted;
-    };
+    let counted = normalize_text(text, first, plain, list, pool, &mut none[..0])?;
+    let len = counted.first;
     if lacks {
-        return no_scratch();
+        return Err(NO_SCRATCH);
     }
     if out.len() as u64 / 6 < len {
-        return form_counted(text, first, reading, list, pool, lacks, short, out);
+        return form_counted(text, first, reading, list, pool, lacks, buffer, out);
     }
     normalize_text(text, first, reading, list, pool, out)
 }
@@ -387,64 +327,52 @@ fn form_into(
 // ---- the calls
 
 // The canonical form of a text as it is. Where the output has six times its length there is room: no count is needed.
-fn form_copied(text: &[u8], newer: bool, short: u32, out: &mut [u8]) -> Answer
+fn form_copied(text: &[u8], newer: bool, buffer: Buffer, out: &mut [u8]) -> Answer
     requires { length text.now ≤ 16777216 }
-    ensures { Ended short (done (canonical (rule_for newer) text.now) 0) out.old out.new result }
+    ensures { Ended (short_of buffer) (done (canonical (rule_for newer) text.now) 0) out.old out.new (answered result) }
 {
     if out.len() < 6 * text.len() {
         let length = canonical::canonical_length(text, newer);
         if out.len() < length {
-            return Answer::Refused {
-                number: short,
-                first: length as u64,
-                second: 0,
-            };
+            return Err(buffer.too_short(length as u64));
         }
     }
     let written = canonical::write_canonical(text, newer, out);
-    Answer::Done {
+    Ok(Success {
         first: written as u64,
         second: 0,
-    }
+    })
 }
 
 // The bytes of a text, TAB and LF as spaces.
-fn spaced_plain(text: &[u8], short: u32, out: &mut [u8]) -> Answer
+fn spaced_plain(text: &[u8], buffer: Buffer, out: &mut [u8]) -> Answer
     requires { length text.now ≤ 16777216 }
-    ensures { Ended short (done (blanks_spaced text.now) 0) out.old out.new result }
+    ensures { Ended (short_of buffer) (done (blanks_spaced text.now) 0) out.old out.new (answered result) }
 {
     let n = text.len();
     if out.len() < n {
-        return Answer::Refused {
-            number: short,
-            first: n as u64,
-            second: 0,
-        };
+        return Err(buffer.too_short(n as u64));
     }
     halts::put_spaced(text, out);
-    Answer::Done {
+    Ok(Success {
         first: n as u64,
         second: 0,
-    }
+    })
 }
 
 // Their canonical form.
-fn form_spaced(text: &[u8], newer: bool, short: u32, out: &mut [u8]) -> Answer
+fn form_spaced(text: &[u8], newer: bool, buffer: Buffer, out: &mut [u8]) -> Answer
     requires { length text.now ≤ 16777216 }
-    ensures { Ended short (done (canonical (rule_for newer) (blanks_spaced text.now)) 0) out.old out.new result }
+    ensures { Ended (short_of buffer) (done (canonical (rule_for newer) (blanks_spaced text.now)) 0) out.old out.new (answered result) }
 {
     let length = flat::write_form(text, 0, newer, out);
     if out.len() < length {
-        return Answer::Refused {
-            number: short,
-            first: length as u64,
-            second: 0,
-        };
+        return Err(buffer.too_short(length as u64));
     }
-    Answer::Done {
+    Ok(Success {
         first: length as u64,
         second: 0,
-    }
+    })
 }
 
 // The text of a call at depth 0: refused where there is a fault or a stop, else its own value.
@@ -454,48 +382,40 @@ fn normalize_bottom(
     guard: u8,
     form: u8,
     lacks: bool,
-    short: u32,
+    buffer: Buffer,
     out: &mut [u8],
 ) -> Answer
     requires { length text.now ≤ 16777216 }
-    ensures { (s : Settings) → Ended short (written_in form lacks (walk s (read_by how guard) 0 text.now 0)) out.old out.new result }
+    ensures { (s : Settings) → Ended (short_of buffer) (written_in form lacks (walk s (read_by how guard) 0 text.now 0)) out.old out.new (answered result) }
 {
     let fault = cycle::bottom_fault(text, how, guard);
     if fault != text.len() {
-        return Answer::Refused {
-            number: refusals::FORBIDDEN_CHARACTER,
-            first: fault as u64,
-            second: 0,
-        };
+        return Err(Refusal::ForbiddenCharacter(fault as u64));
     }
     if halts::has_stop(text, how == 1) {
-        return Answer::Refused {
-            number: refusals::TOO_DEEP,
-            first: 0,
-            second: 0,
-        };
+        return Err(Refusal::TooDeep);
     }
     if lacks {
-        return no_scratch();
+        return Err(NO_SCRATCH);
     }
     if form != 0 {
-        return form_copied(text, form == 2, short, out);
+        return form_copied(text, form == 2, buffer, out);
     }
-    tokens::copied_whole(text, short, out)
+    tokens::copied_whole(text, buffer, out)
 }
 
 // What is written of the text of a call without halts.
-fn spaced_whole(text: &[u8], form: u8, lacks: bool, short: u32, out: &mut [u8]) -> Answer
+fn spaced_whole(text: &[u8], form: u8, lacks: bool, buffer: Buffer, out: &mut [u8]) -> Answer
     requires { length text.now ≤ 16777216 }
-    ensures { Ended short (written_in form lacks (done (blanks_spaced text.now) 0)) out.old out.new result }
+    ensures { Ended (short_of buffer) (written_in form lacks (done (blanks_spaced text.now) 0)) out.old out.new (answered result) }
 {
     if lacks {
-        return no_scratch();
+        return Err(NO_SCRATCH);
     }
     if form != 0 {
-        return form_spaced(text, form == 2, short, out);
+        return form_spaced(text, form == 2, buffer, out);
     }
-    spaced_plain(text, short, out)
+    spaced_plain(text, buffer, out)
 }
 
 // What may stand in the value itself, and in a text of the table: all, or what the version lets stand there.
@@ -545,37 +465,33 @@ pub fn normalized(
     lacks: bool,
     list: &[u8],
     pool: &[u8],
-    short: u32,
+    buffer: Buffer,
     out: &mut [u8],
 ) -> Answer
     requires valid_table { ValidTable list.now pool.now }
     requires text_len_bound { length text.now ≤ 16777216 }
     requires limit_bound { wanted.limit ≤ 1000000 }
     requires well_formed { WellFormed text.now }
-    ensures { Ended short (written_in form lacks (outcome_for wanted list.now pool.now text.now)) out.old out.new result }
+    ensures { Ended (short_of buffer) (written_in form lacks (outcome_for wanted list.now pool.now text.now)) out.old out.new (answered result) }
 {
     if wanted.depth == 0 {
         let used_up = reading_for(list, wanted, form);
-        return normalize_bottom(text, used_up.how, used_up.guard, form, lacks, short, out);
+        return normalize_bottom(text, used_up.how, used_up.guard, form, lacks, buffer, out);
     }
     let newer = 1 < wanted.version;
     let first = halts::first_halt(text, newer);
     if first != text.len() {
         let reading = reading_for(list, wanted, form);
         if (form != 0) & (128 < text.len()) {
-            return form_into(text, first, reading, list, pool, lacks, short, out);
+            return form_into(text, first, reading, list, pool, lacks, buffer, out);
         }
-        return normalize_into(text, first, reading, list, pool, lacks, short, out);
+        return normalize_into(text, first, reading, list, pool, lacks, buffer, out);
     }
     let fault = flat::run_fault(text, 0, first, outer_guard(wanted.strict, newer));
     if fault != first {
-        return Answer::Refused {
-            number: refusals::FORBIDDEN_CHARACTER,
-            first: fault as u64,
-            second: 0,
-        };
+        return Err(Refusal::ForbiddenCharacter(fault as u64));
     }
-    spaced_whole(text, form, lacks, short, out)
+    spaced_whole(text, form, lacks, buffer, out)
 }
 
 // The attribute value normalized. Success: the length written, the openings. A text of which it is known that it is simple is its own
@@ -593,12 +509,12 @@ pub fn normalize_attribute_value(
     requires text_len_bound { length text.now ≤ 16777216 }
     requires limit_bound { wanted.limit ≤ 1000000 }
     requires well_formed { WellFormed text.now }
-    ensures { call_of result (out.new ∷ []) ≡ finished (outcome_for wanted list.now pool.now text.now) out.old }
+    ensures { call_of (answered result) (out.new ∷ []) ≡ finished (outcome_for wanted list.now pool.now text.now) out.old }
 {
     if simple {
-        return tokens::copied_whole(text, refusals::NO_ROOM, out);
+        return tokens::copied_whole(text, Buffer::Output, out);
     }
-    normalized(text, wanted, 0, false, list, pool, refusals::NO_ROOM, out)
+    normalized(text, wanted, 0, false, list, pool, Buffer::Output, out)
 }
 
 // The last character of the value, read off the end of its form, in the scratch's first 4 bytes; an empty one leaves them.
@@ -633,27 +549,11 @@ pub fn canonical_form(
     requires text_len_bound { length text.now ≤ 16777216 }
     requires limit_bound { wanted.limit ≤ 1000000 }
     requires well_formed { WellFormed text.now }
-    ensures { call_of result (scratch.new ∷ out.new ∷ []) ≡ formed (rule_of wanted.version) (outcome_for wanted list.now pool.now text.now) scratch.old out.old }
+    ensures { call_of (answered result) (scratch.new ∷ out.new ∷ []) ≡ formed (rule_of wanted.version) (outcome_for wanted list.now pool.now text.now) scratch.old out.old }
 {
     let lacks = scratch.len() < 4;
     let form = form_for(wanted.version);
-    let written = normalized(
-        text,
-        wanted,
-        form,
-        lacks,
-        list,
-        pool,
-        refusals::NO_ROOM,
-        out,
-    );
-    let Answer::Done {
-        first: len,
-        second: _,
-    } = written
-    else {
-        return written;
-    };
-    put_last(&out[..len as usize], scratch);
-    written
+    let written = normalized(text, wanted, form, lacks, list, pool, Buffer::Output, out)?;
+    put_last(&out[..written.first as usize], scratch);
+    Ok(written)
 }

@@ -7,8 +7,8 @@ use lib.ListN.{length, take, drop}
 use lib.Seq.{take-append_seam}
 use borrow.Author.Tests.{lt-ltb, le-ltb}
 use Rattle.text.specs.Call.{call_of, laid}
-use Rattle.text.specs.declared.Answer.{Answer}
-use Rattle.text.specs.declared.Answer.TheVariants.{Done, Refused}
+use Rattle.text.specs.Answers.{Answer}
+use Rattle.text.specs.Answers.{Done, Refused}
 use Rattle.output.specs.Over.{over}
 use Rattle.output.proofs.Clip.{over_fits}
 use Rattle.tokens.specs.Outcome.{Outcome, done, refused, produced, answer_of, answer_in, left_in, finished}

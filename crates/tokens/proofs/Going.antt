@@ -5,14 +5,14 @@ use mathlib.Core.List.{List, [], ◌++◌}
 use Prim.Native.Nat.{ℕ, ◌+◌, ◌-◌, ◌≤◌, ◌<◌, min}
 use lib.ListN.{length, get_or, take, drop, replicate, length-append}
 use borrow.Rule.Slice.PartMut.{mid_of, put_mid}
-use Rattle.text.specs.declared.Answer.TheVariants.{Refused}
+use Rattle.text.specs.Answers.{Refused}
 use Rattle.output.specs.Over.{over}
 use Rattle.output.specs.Runs.{Plain}
 use Rattle.tokens.specs.Tokens.{tokens}
 use Rattle.tokens.specs.Outcome.{Outcome, prepend, followed, produced, run}
 use Rattle.tokens.specs.Walking.{Copies, next_at, Walked}
 use Rattle.tokens.specs.Memory.{Walk, given, Memory, Advanced}
-use Rattle.tokens.specs.declared.Step.TheVariants.{Next, Stopped}
+use Rattle.tokens.specs.Walking.{Next, Stopped}
 use Rattle.tokens.proofs.Progress.{Progress, progress_start, progress_through, run_plain, from_on, run_at, prepend_prepend, went, halted}
 use Rattle.tokens.proofs.Memory.{memory_start, memory_more}
 

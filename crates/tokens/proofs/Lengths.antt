@@ -9,8 +9,8 @@ use lib.ListN.{length, drop, length-append, length-drop}
 use lib.Dec.{eqb}
 use Rattle.text.proofs.Bytes.{pick_both}
 use Rattle.charref.specs.CharRef.{char_number, encode}
-use Rattle.charref.specs.declared.CharNumber.{CharNumber}
-use Rattle.charref.specs.declared.CharNumber.TheVariants.{Char, InvalidNumber}
+use Rattle.charref.specs.CharNumbers.{CharNumber}
+use Rattle.charref.specs.CharNumbers.{Char, InvalidNumber}
 use Rattle.charref.proofs.Encoding.{encode_at_most}
 use Rattle.charref.proofs.Numbers.{char_none}
 use Rattle.tokens.specs.Tokens.{Stop, kept, space, number, named, unterminated, Token, copy, stop, barred, Head, head, Name, ended, endless, longer, name_at, reference_at}

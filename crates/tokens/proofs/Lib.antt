@@ -2,6 +2,8 @@ pub mod Runs
 pub mod Names
 pub mod References
 pub mod Numbers
+pub mod Quick
+pub mod Buffers
 pub mod Steps
 pub mod Progress
 pub mod Finished

@@ -14,8 +14,8 @@ use Rattle.tokens.specs.Outcome.{Outcome, done, produced}
 use Rattle.tokens.specs.Walking.{next_at, step_of, Stepped}
 use Rattle.tokens.specs.Seen.{Shifts, Met, met_at, met_of, Matches, Kept, Repeated, Entered, stays, enters, Remembered}
 use Rattle.tokens.specs.Memory.{Walk, given, Stands, Memory, Advanced}
-use Rattle.tokens.specs.declared.Step.{Step}
-use Rattle.tokens.specs.declared.Step.TheVariants.{Next}
+use Rattle.tokens.specs.Walking.{Step}
+use Rattle.tokens.specs.Walking.{Next}
 use Rattle.tokens.proofs.Progress.{went}
 use Rattle.tokens.proofs.Keys.{key_same, key_some, shift_width}
 use Rattle.tokens.proofs.Alike.{alike}

@@ -2,7 +2,7 @@
 use mathlib.Core.Path.{◌≡◌, refl, ◌∙◌}
 use Prim.Native.Nat.{ℕ, ◌≤◌}
 use mathlib.Core.List.{List}
-use Rattle.charref.specs.declared.CharNumber.{CharNumber}
+use Rattle.charref.specs.CharNumbers.{CharNumber}
 use Rattle.tokens.specs.Tokens.{Head, head, Heads}
 use Rattle.tokens.specs.Outcome.{Outcome, done, refused, prepend, followed}
 use Rattle.tokens.proofs.Carried.{Carried, Moves, Moving}

@@ -9,14 +9,14 @@ use lib.ListN.{length, get_or, take, drop, length-append, length-drop, drop_of_l
 use lib.Seq.{drop-cons, length-take-le, take_all}
 use native.Mathlib.Numerals.{add-one}
 use borrow.Rule.Slice.PartMut.{mid_of, put_mid}
-use Rattle.text.specs.declared.Answer.TheVariants.{Done}
+use Rattle.text.specs.Answers.{Done}
 use Rattle.output.specs.Over.{over}
 use Rattle.output.proofs.Clip.{over_more, length_over}
 use Rattle.tokens.specs.Tokens.{Stop, Token, copy, stop, barred, Head, Heads, tokens, token_of, skip_of}
 use Rattle.tokens.specs.Outcome.{Outcome, done, refused, prepend, followed, run}
 use Rattle.output.specs.Runs.{Plain}
 use Rattle.tokens.specs.Walking.{Copies, head_at, next_at, outcome_of, Stepped, Walked}
-use Rattle.tokens.specs.declared.Step.TheVariants.{Next, Stopped}
+use Rattle.tokens.specs.Walking.{Next, Stopped}
 use Rattle.tokens.proofs.Runs.{tokens_at}
 
 -- ---- outcomes

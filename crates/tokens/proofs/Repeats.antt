@@ -10,8 +10,8 @@ use lib.Seq.{length-take-le, take-suc, get_or-drop}
 use Rattle.output.specs.Over.{over}
 use Rattle.output.proofs.Clip.{over_nothing, over_byte, length_over}
 use Rattle.tokens.specs.Seen.{Repeated, Recalled}
-use Rattle.tokens.specs.declared.Known.{Known}
-use Rattle.tokens.specs.declared.Known.TheVariants.{Again, Unseen}
+use Rattle.std.specs.Prelude.{Option, Some, None}
+use Rattle.tokens.specs.declared.Next.{Next}
 
 -- the value's own byte, where there is room for it
 pub over_get : (value more whole : List ℕ) (k : ℕ) → k < length value → k < length whole → get_or (over (value ++ more) whole) k 0 ≡ get_or value k 0
@@ -62,10 +62,10 @@ again_one value whole from at count {out} c n h g e =
     ∙ ap (λ (k : ℕ). over (value ++ take k (drop from value)) whole) z
 
 -- a reference that is kept is repeated, and one that is not leaves the output
-module _ (text : List ℕ) (at len openings limit : ℕ) (seen : List ℕ) {old new : List ℕ} {r : Known} where
-  pub repeated : {a l m : ℕ} → r ≡ Again a l m → Recalled text at len openings limit seen old new r
-      → Repeated text at len openings limit seen old new a l m
+module _ (text : List ℕ) (at len openings limit : ℕ) (seen : List ℕ) {old new : List ℕ} {r : Option Next} where
+  pub repeated : {n : Next} → r ≡ Some n → Recalled text at len openings limit seen old new r
+      → Repeated text at len openings limit seen old new n.at n.len n.openings
   repeated e h = subst (Recalled text at len openings limit seen old new) e h
 
-  pub unwritten : r ≡ Unseen → Recalled text at len openings limit seen old new r → new ≡ old
+  pub unwritten : r ≡ None → Recalled text at len openings limit seen old new r → new ≡ old
   unwritten e h = subst (Recalled text at len openings limit seen old new) e h

@@ -3,13 +3,13 @@ use mathlib.Core.Path.{◌≡◌, refl, ap, ◌∙◌}
 use mathlib.Core.List.{List, [], ◌∷◌}
 use Prim.Native.Nat.{ℕ, ◌+◌}
 use lib.ListN.{length, set}
-use Rattle.text.specs.declared.Answer.{Answer}
+use Rattle.text.specs.Answers.{Answer}
 use Rattle.output.proofs.Clip.{over_byte, length_over}
 use Rattle.tokens.specs.Tokens.{Stop, Token, head, Heads, token_of}
 use Rattle.tokens.specs.Outcome.{Outcome, done, refused, produced}
 use Rattle.tokens.specs.Walking.{head_at, next_at, outcome_of, Stepped, Walked}
-use Rattle.tokens.specs.declared.Step.{Step}
-use Rattle.tokens.specs.declared.Step.TheVariants.{Next, Stopped}
+use Rattle.tokens.specs.Walking.{Step}
+use Rattle.tokens.specs.Walking.{Next, Stopped}
 
 -- the head at the offset is known
 pub stepped_at : (at : Heads) (answer : Stop → ℕ → Outcome) (text : List ℕ) (i openings : ℕ) {t : Token} {k next : ℕ} {old new : List ℕ} {r : Step}

@@ -11,8 +11,8 @@ use Rattle.text.specs.Utf8.{State, between, next, after, WellFormed}
 use Rattle.text.proofs.Bytes.{pick_by, pick_both}
 use Rattle.text.proofs.Utf8.{after_append, settle, settled, next_ascii}
 use Rattle.charref.specs.CharRef.{char_number, any_character, encode}
-use Rattle.charref.specs.declared.CharNumber.{CharNumber}
-use Rattle.charref.specs.declared.CharNumber.TheVariants.{Char}
+use Rattle.charref.specs.CharNumbers.{CharNumber}
+use Rattle.charref.specs.CharNumbers.{Char}
 use Rattle.charref.proofs.Numbers.{Character, legal_character}
 use Rattle.charref.proofs.Encoding.{encode_well_formed}
 use Rattle.tokens.specs.Tokens.{kept, space, number, named, unterminated, Token, copy, stop, barred, Head, head, Name, ended, endless, longer, name_at, reference_at}

@@ -5,7 +5,7 @@ use Rattle.tokens.specs.Tokens.{Stop, Heads, token_of}
 use Rattle.tokens.specs.Outcome.{Outcome, done, produced}
 use Rattle.tokens.specs.Walking.{head_at, next_at, outcome_of, step_of}
 use Rattle.tokens.specs.Seen.{Met, met_at, next_place, seen_size, width_of, Matches}
-use Rattle.tokens.specs.declared.Step.{Step}
+use Rattle.tokens.specs.Walking.{Step}
 
 -- how a text is walked: its heads, the answers to stops, the opening limit, and how many bytes a reference of a width may give that
 -- makes so many openings

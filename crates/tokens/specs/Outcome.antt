@@ -2,10 +2,10 @@
 use Rattle.std.specs.Prelude.{ℕ, List, [], ◌∷◌, ◌++◌, ltb, length}
 use Rattle.text.specs.Bytes.{pick}
 use Rattle.text.specs.Call.{Called, call_of, laid}
-use Rattle.text.specs.declared.Answer.{Answer}
-use Rattle.text.specs.declared.Answer.TheVariants.{Done, Refused}
+use Rattle.text.specs.Answers.{Answer}
+use Rattle.text.specs.Answers.{Done, Refused}
 use Rattle.charref.specs.CharRef.{char_number, number_answer, encode}
-use Rattle.charref.specs.declared.CharNumber.{CharNumber}
+use Rattle.charref.specs.CharNumbers.{CharNumber}
 use Rattle.tokens.specs.Tokens.{Stop, Token, copy, stop, barred}
 
 -- Attribute walk: the value and the openings made; or the bytes before the refusal, the openings made until then, and the

@@ -1,11 +1,10 @@
 -- References met before in a text: the terms in which walks are proved that do not read such a reference again. Assumes nothing.
-use Rattle.std.specs.Prelude.{ℕ, ◌+◌, ◌-◌, ◌*◌, ◌/◌, ◌%◌, ◌^◌, ◌≤◌, ◌<◌, ◌≡◌, List, ◌++◌, length, get_or, take, drop}
+use Rattle.std.specs.Prelude.{ℕ, ◌+◌, ◌-◌, ◌*◌, ◌/◌, ◌%◌, ◌^◌, ◌≤◌, ◌<◌, ◌≡◌, List, ◌++◌, length, get_or, take, drop, Option, Some, None}
 use Rattle.text.specs.Blocks.{word_at}
 use Rattle.output.specs.Over.{over}
 use Rattle.tokens.specs.Tokens.{Stop, number, named, unterminated}
 use Rattle.tokens.specs.Outcome.{Outcome, done}
-use Rattle.tokens.specs.declared.Known.{Known}
-use Rattle.tokens.specs.declared.Known.TheVariants.{Again, Unseen}
+use Rattle.tokens.specs.declared.Next.{Next}
 
 -- a value stays the same at another offset and after other openings, as long as the openings stay within the limit; a `&` that
 -- nothing ends has none
@@ -80,9 +79,9 @@ pub record Repeated (text : List ℕ) (at len openings limit : ℕ) (seen old ne
       → new ≡ over (value ++ take l (drop (met_at seen slot).start value)) whole
 
 -- or it is not, and nothing is written
-abbrev pub Recalled : List ℕ → ℕ → ℕ → ℕ → ℕ → List ℕ → List ℕ → List ℕ → Known → Type 0
-Recalled text at len openings limit seen old new (Again a l m) = Repeated text at len openings limit seen old new a l m
-Recalled text at len openings limit seen old new Unseen = new ≡ old
+abbrev pub Recalled : List ℕ → ℕ → ℕ → ℕ → ℕ → List ℕ → List ℕ → List ℕ → Option Next → Type 0
+Recalled text at len openings limit seen old new (Some n) = Repeated text at len openings limit seen old new n.at n.len n.openings
+Recalled text at len openings limit seen old new None = new ≡ old
 
 -- one of the four after a reference was to be kept: as before, or the new one
 pub data Entered (text : List ℕ) (place width : ℕ) (fresh before after : Met) : Type 0 where

@@ -1,12 +1,15 @@
 -- Heads, names and steps: the terms in which the walks over tokens are proved. Assumes nothing.
-use Rattle.std.specs.Prelude.{ℕ, ◌+◌, ◌-◌, ◌≤◌, ◌<◌, ◌≡◌, Bool, false, List, [], ◌∷◌, length, get_or, take, drop}
-use Rattle.text.specs.declared.Answer.{Answer}
-use Rattle.text.specs.declared.Answer.TheVariants.{Done, Refused}
+use Rattle.std.specs.Prelude.{ℕ, ◌+◌, ◌-◌, ◌≤◌, ◌<◌, ◌≡◌, Bool, false, List, [], ◌∷◌, length, get_or, take, drop, Result, Ok, Err}
+use Rattle.text.specs.Answers.{Answer}
 use Rattle.output.specs.Over.{over}
 use Rattle.tokens.specs.Tokens.{Stop, Token, copy, stop, barred, Head, head, Heads, skip_of, ended, endless, name_at}
 use Rattle.tokens.specs.Outcome.{Outcome, done, refused, produced, answer_of, answer_in, left_in}
-use Rattle.tokens.specs.declared.Step.{Step}
-use Rattle.tokens.specs.declared.Step.TheVariants.{Next, Stopped}
+use Rattle.text.specs.Refusals.{number_of, first_of, second_of}
+use Rattle.text.specs.declared.refusals.Refusal.{Refusal}
+use Rattle.text.specs.declared.refusals.Refusal.TheVariants.{NoScratch, NoRoom}
+use Rattle.tokens.specs.declared.Next.{Next as Onward}
+use Rattle.tokens.specs.declared.Buffer.{Buffer}
+use Rattle.tokens.specs.declared.Buffer.TheVariants.{Scratch, Output}
 
 -- the stop test fits the reading of heads: any other byte is copied
 abbrev pub Copies : (ℕ → Bool) → Heads → Type 0
@@ -35,14 +38,18 @@ outcome_of answer (stop s) openings = answer s openings
 outcome_of answer (barred offset) openings = refused [] openings 26 offset 0
 
 -- a single step: the next offset, the length written and the openings; or the refusal
+pub data Step : Type 0 where
+  Next : ℕ → ℕ → ℕ → Step
+  Stopped : ℕ → ℕ → ℕ → Step
+
+-- the code's step
+abbrev pub stepped : Result Onward Refusal → Step
+stepped (Ok next) = Next next.at next.len next.openings
+stepped (Err refusal) = Stopped (number_of refusal) (first_of refusal) (second_of refusal)
+
 abbrev pub step_of : ℕ → Outcome → Step
 step_of next (done value openings) = Next next (length value) openings
 step_of next (refused before openings number first second) = Stopped number first second
-
--- Character numbers: the refusal passed upward as it came; of a character nothing is passed on
-abbrev pub handed_on : Answer → Step
-handed_on (Done first second) = Stopped 0 first second
-handed_on (Refused number first second) = Stopped number first second
 
 -- a single step answers and writes what the outcome says
 pub record Stepped (next : ℕ) (o : Outcome) (old new : List ℕ) (r : Step) : Type 0 where
@@ -57,3 +64,12 @@ pub record Walked (o : Outcome) (old new : List ℕ) (r : Answer) : Type 0 where
 -- and a walk whose value goes to a buffer: the answer, and what the buffer holds at the end
 abbrev pub Ended : ℕ → Outcome → List ℕ → List ℕ → Answer → Type 0
 Ended short o out last r = (r ≡ answer_in short o out) × (last ≡ left_in o out)
+
+-- Refusals by place, 18 and 19: the refusal of a buffer that is too short, and its number
+abbrev pub too_short : Buffer → ℕ → Refusal
+too_short Scratch needed = NoScratch needed
+too_short Output needed = NoRoom needed
+
+abbrev pub short_of : Buffer → ℕ
+short_of Scratch = 18
+short_of Output = 19

@@ -1,41 +1,47 @@
 // What the walks over a text's tokens share: a single step's answer, the end of a reference's name, and a character reference.
 #![tactic(auto)]
 
-ghost use Rattle.std.specs.Prelude.{◌≡◌, ◌≢◌, List, ◌++◌, ℕ, ◌+◌, ◌≤◌, ◌<◌, length, get_or, take, drop};
+ghost use Rattle.std.specs.Prelude.{IfSome, ◌≡◌, ◌≢◌, List, ◌++◌, ℕ, ◌+◌, ◌≤◌, ◌<◌, length, get_or, take, drop};
+ghost use Rattle.text.specs.Call.{answered};
 ghost use Rattle.output.specs.Over.{over};
 ghost use Rattle.charref.specs.CharRef.{any_character, encode};
 ghost use Rattle.charref.specs.Reading.{Found};
 ghost use Rattle.tokens.specs.Outcome.{done, number_outcome};
 ghost use Rattle.tokens.specs.Seen.{moved_up, met_at, Matches, Kept, Recalled, Remembered, seen_size, next_place};
-ghost use Rattle.tokens.specs.Walking.{NameEnd, Stepped, Ended, handed_on};
+ghost use Rattle.tokens.specs.Walking.{NameEnd, Stepped, Ended, stepped, short_of, too_short};
 
-use charref::{CharNumber, Quick};
-use text::{Answer, load};
+use charref::Quick;
+use text::refusals::Refusal;
+use text::{Answer, Success, load};
 
-// The offset of the next token, the length written and the openings so far; or the refusal.
-#[derive(Drop)]
-pub enum Step {
-    Next {
-        at: usize,
-        len: usize,
-        openings: u64,
-    },
-    Stopped {
-        number: u32,
-        first: u64,
-        second: u64,
-    },
+// Where the next token starts, the length written and the openings so far.
+#[derive(Clone, Copy)]
+pub struct Next {
+    pub at: usize,
+    pub len: usize,
+    pub openings: u64,
 }
 
-// A reference as it was met before: its step again, or nothing is known of it.
-#[derive(Drop)]
-pub enum Known {
-    Again {
-        at: usize,
-        len: usize,
-        openings: u64,
-    },
-    Unseen,
+// A single step.
+pub type Step = Result<Next, Refusal>;
+
+// Which buffer may be too short for a value.
+#[derive(Clone, Copy)]
+pub enum Buffer {
+    Scratch,
+    Output,
+}
+
+impl Buffer {
+    // The refusal of one that is shorter than is needed.
+    pub fn too_short(self, needed: u64) -> Refusal
+        ensures { result ≡ too_short self needed }
+    {
+        match self {
+            Buffer::Scratch => Refusal::NoScratch(needed),
+            Buffer::Output => Refusal::NoRoom(needed),
+        }
+    }
 }
 
 // The `;` that ends the name; the text's length where there is none, and where `inner` says that a `&` before it is none.
@@ -56,17 +62,17 @@ pub fn name_end(text: &[u8], from: usize, inner: bool) -> usize
     i
 }
 
-// The character reference whose `#` would be at `from`, where its digits end at the `;` by themselves; where c is 0 nothing is said.
-pub fn quick_reference(text: &[u8], from: usize) -> Quick
+// The character reference whose `#` would be at `from`, where its digits end at the `;` by themselves.
+pub fn quick_reference(text: &[u8], from: usize) -> Option<Quick>
     requires { from ≤ length text.now }
-    ensures { result.c ≢ 0 → (from < length text.now) × (get_or text.now from 0 ≡ 35) × Found text.now (from + 1) result }
+    ensures { IfSome result (λ q. (q.c ≢ 0) × (from < length text.now) × (get_or text.now from 0 ≡ 35) × Found text.now (from + 1) q) }
 {
     if from < text.len() {
         if text[from] == b'#' {
             return charref::quick_number(text, from + 1);
         }
     }
-    Quick { c: 0, end: from }
+    None
 }
 
 // The character's bytes, as many as there is room for. Their count.
@@ -95,85 +101,56 @@ fn put_char(c: u32, out: &mut [u8]) -> usize
     put_clipped(c, out)
 }
 
-// A number's refusal, handed on.
-fn handed(a: Answer) -> Step
-    ensures { result ≡ handed_on a }
-{
-    match a {
-        Answer::Done { first, second } => Step::Stopped {
-            number: 0,
-            first,
-            second,
-        },
-        Answer::Refused {
-            number,
-            first,
-            second,
-        } => Step::Stopped {
-            number,
-            first,
-            second,
-        },
-    }
-}
-
 // A run of bytes as it stands; its token ends before `next`.
 pub fn run_step(run: &[u8], next: usize, openings: u64, out: &mut [u8]) -> Step
-    ensures { Stepped next (done run.now openings) out.old out.new result }
+    ensures { Stepped next (done run.now openings) out.old out.new (stepped result) }
 {
     output::put_over(run, out);
-    Step::Next {
+    Ok(Next {
         at: next,
         len: run.len(),
         openings,
-    }
+    })
 }
 
 // A character whose reference ends before `next`.
 pub fn char_step(c: u32, next: usize, openings: u64, out: &mut [u8]) -> Step
     requires { c ≤ 1114111 }
-    ensures { Stepped next (done (encode c) openings) out.old out.new result }
+    ensures { Stepped next (done (encode c) openings) out.old out.new (stepped result) }
 {
     let written = put_char(c, out);
-    Step::Next {
+    Ok(Next {
         at: next,
         len: written,
         openings,
-    }
+    })
 }
 
 // A character reference with the text after `#`, at whose end is `next`.
 pub fn number_step(digits: &[u8], next: usize, openings: u64, out: &mut [u8]) -> Step
-    ensures { Stepped next (number_outcome any_character digits.now openings) out.old out.new result }
+    ensures { Stepped next (number_outcome any_character digits.now openings) out.old out.new (stepped result) }
 {
     let len = digits.len();
     if len == 0 {
-        return handed(charref::answer_of(CharNumber::InvalidNumber));
+        return Err(Refusal::InvalidNumber);
     }
     // As a part: a slice that is handed on whole is copied by one load, which waits for the caller's two stores.
-    let n = charref::parse_number(&digits[..len], 0);
-    let CharNumber::Char(c) = n else {
-        return handed(charref::answer_of(n));
-    };
+    let c = charref::parse_number(&digits[..len], 0)?;
     char_step(c, next, openings, out)
 }
 
-// A text that is its own value goes to the start of `out`; a buffer that is too short is refused by the number given.
-pub fn copied_whole(text: &[u8], short: u32, out: &mut [u8]) -> Answer
-    ensures { Ended short (done text.now 0) out.old out.new result }
+// A text that is its own value goes to the start of `out`, unless that is too short.
+pub fn copied_whole(text: &[u8], buffer: Buffer, out: &mut [u8]) -> Answer
+    ensures { Ended (short_of buffer) (done text.now 0) out.old out.new (answered result) }
 {
     if out.len() < text.len() {
-        return Answer::Refused {
-            number: short,
-            first: text.len() as u64,
-            second: 0,
-        };
+        return Err(buffer.too_short(text.len() as u64));
     }
     output::put_run(text, out);
-    Answer::Done {
+    Ok(Success {
         first: text.len() as u64,
         second: 0,
-    }
+    })
 }
 
 // The number without its highest bits, as many as `shift` says.
@@ -255,7 +232,7 @@ pub fn seen_step(
     limit: u64,
     seen: &[u64],
     out: &mut [u8],
-) -> Known
+) -> Option<Next>
     requires at_in_bounds { (at ≤ length text.now) × (len ≤ 0x1000000000000) }
     requires kept { Kept seen.now len limit }
     requires openings_le_limit { (openings ≤ limit) × (limit ≤ 1000000) }
@@ -268,18 +245,18 @@ pub fn seen_step(
         if made <= limit {
             if len < out.len() {
                 if out.len() - len < count {
-                    return Known::Unseen;
+                    return None;
                 }
                 put_again(seen[k + STARTS] as usize, count, len, out);
             }
-            return Known::Again {
+            return Some(Next {
                 at: at + (8 - (seen[k + SHIFTS] / 8) as usize),
                 len: count,
                 openings: made,
-            };
+            });
         }
     }
-    Known::Unseen
+    None
 }
 
 // Keeps the reference of `width` bytes at `place` in the place of the one kept longest, where eight bytes hold it.

@@ -11,8 +11,8 @@ use Rattle.output.specs.Over.{over}
 use Rattle.tokens.specs.Tokens.{name_at, reference_at}
 use Rattle.tokens.specs.Seen.{Repeated, Remembered}
 use Rattle.tokens.specs.Memory.{Memory, Advanced}
-use Rattle.tokens.specs.declared.Step.{Step}
-use Rattle.tokens.specs.declared.Step.TheVariants.{Next}
+use Rattle.tokens.specs.Walking.{Step}
+use Rattle.tokens.specs.Walking.{Next}
 use Rattle.tokens.proofs.Memory.{advanced_again, advanced_once, advanced_kept}
 use Rattle.unescape.specs.Unescape.{text_head}
 use Rattle.unescape.specs.Steps.{Near, Referred, unescaping}

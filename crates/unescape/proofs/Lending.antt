@@ -10,7 +10,7 @@ use Rattle.entity.specs.Binding.{Bound, binding}
 use Rattle.table_index.specs.Index.{Ready}
 use Rattle.table_index.proofs.IndexStates.{ready_zeros}
 use Rattle.tokens.specs.Seen.{seen_size}
-use Rattle.tokens.specs.declared.Step.{Step}
+use Rattle.tokens.specs.Walking.{Step}
 use Rattle.unescape.specs.Steps.{Referred, Lent}
 use Rattle.unescape.proofs.Known.{Known, known_once}
 use Rattle.unescape.proofs.Turns.{Ran}

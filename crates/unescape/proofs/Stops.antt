@@ -19,8 +19,8 @@ use Rattle.runs.specs.RunEnds.{is_amp}
 use Rattle.tokens.specs.Tokens.{stop, unterminated}
 use Rattle.tokens.specs.Outcome.{Outcome, done, refused, number_outcome}
 use Rattle.tokens.specs.Walking.{Copies, NameEnd, head_at, Stepped}
-use Rattle.tokens.specs.declared.Step.{Step}
-use Rattle.tokens.specs.declared.Step.TheVariants.{Next, Stopped}
+use Rattle.tokens.specs.Walking.{Step}
+use Rattle.tokens.specs.Walking.{Next, Stopped}
 use Rattle.tokens.proofs.Steps.{stepped_at, stepped_refused, stepped_byte}
 use Rattle.tokens.proofs.Numbers.{Small, number_small, number_written}
 use Rattle.tokens.proofs.Names.{closed_reference}

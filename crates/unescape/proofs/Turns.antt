@@ -7,8 +7,8 @@ use lib.ListN.{length, get_or, replicate}
 use borrow.Author.Tests.{eqb-true}
 use borrow.Rule.Slice.PartMut.{mid_of, put_mid}
 use Rattle.text.specs.Call.{longest_text}
-use Rattle.text.specs.declared.Answer.{Answer}
-use Rattle.text.specs.declared.Answer.TheVariants.{Done, Refused}
+use Rattle.text.specs.Answers.{Answer}
+use Rattle.text.specs.Answers.{Done, Refused}
 use Rattle.entity.specs.Binding.{Bound}
 use Rattle.output.specs.Runs.{Plain}
 use Rattle.output.proofs.Clip.{over_nothing}
@@ -17,8 +17,8 @@ use Rattle.tokens.specs.Outcome.{Outcome, done, produced}
 use Rattle.tokens.specs.Walking.{Walked}
 use Rattle.tokens.specs.Seen.{Kept, next_place, seen_size}
 use Rattle.tokens.specs.Memory.{Advanced}
-use Rattle.tokens.specs.declared.Step.{Step}
-use Rattle.tokens.specs.declared.Step.TheVariants.{Next, Stopped}
+use Rattle.tokens.specs.Walking.{Step}
+use Rattle.tokens.specs.Walking.{Next, Stopped}
 use Rattle.tokens.proofs.Progress.{run_whole, progress_length, progress_end}
 use Rattle.tokens.proofs.Memory.{memory_kept}
 use Rattle.tokens.proofs.Going.{Going, going_start, going_run, going_step, going_refused}

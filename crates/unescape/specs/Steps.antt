@@ -6,8 +6,8 @@ use Rattle.tokens.specs.Tokens.{token_of}
 use Rattle.tokens.specs.Outcome.{Outcome, done, refused}
 use Rattle.tokens.specs.Walking.{head_at, next_at, outcome_of, Stepped}
 use Rattle.tokens.specs.Memory.{Walk}
-use Rattle.tokens.specs.declared.Step.{Step}
-use Rattle.tokens.specs.declared.Step.TheVariants.{Next, Stopped}
+use Rattle.tokens.specs.Walking.{Step}
+use Rattle.tokens.specs.Walking.{Next, Stopped}
 use Rattle.unescape.specs.Unescape.{text_head, copied, replaced}
 
 -- Entity table: a text is at most 65,535 bytes; Unescaping: it is not opened

@@ -1,15 +1,17 @@
 // Unescaping of a long text with a table: names are looked up by an index of the table (table_index), which is made here, for the count and for
 // the writing alike, and as wide as the list asks. No reference is kept: the index finds one as fast, whichever it is.
 ghost use Rattle.std.specs.Prelude.{◌≡◌, List, [], ◌∷◌, ℕ, ◌+◌, ◌-◌, ◌≤◌, ◌<◌, length, get_or};
-ghost use Rattle.text.specs.Call.{call_of, longest_text};
+ghost use Rattle.text.specs.Call.{answered, call_of, longest_text};
 ghost use Rattle.entity.specs.Table.{ValidTable};
 ghost use Rattle.entity.specs.Binding.{binding};
 ghost use Rattle.tokens.specs.Outcome.{finished};
-ghost use Rattle.tokens.specs.Walking.{Walked};
+ghost use Rattle.tokens.specs.Walking.{stepped, Walked};
 ghost use Rattle.unescape.specs.Unescape.{unescape};
 ghost use Rattle.unescape.specs.Steps.{Named, Referred, Lent};
 
-use text::{Answer, refusals};
+use entity::Binding;
+use text::refusals::Refusal;
+use text::{Answer, Success};
 use tokens::Step;
 
 // The name whose `&` is at i is looked up by the index.
@@ -24,10 +26,10 @@ fn found_step(
 ) -> Step
     requires name_bound { i + 1 + length name.now ≤ longest_text }
     requires valid_table { ValidTable list.now pool.now × Lent list.now pool.now index.old }
-    ensures named { Named (binding list.now pool.now name.now) name.now i next out.old out.new result }
+    ensures named { Named (binding list.now pool.now name.now) name.now i next out.old out.new (stepped result) }
     ensures lent { Lent list.now pool.now index.new }
 {
-    let bound = entity::binding_of(table_index::find(list, pool, name, index));
+    let bound = Binding::from(table_index::find(list, pool, name, index));
     crate::bound_step(bound, name.len(), i, next, pool, out)
 }
 
@@ -43,23 +45,17 @@ fn indexed_step(
     requires text_len_bound { length text.now ≤ longest_text }
     requires i_in_bounds { (i < length text.now) × (get_or text.now i 0 ≡ 38) }
     requires valid_table { ValidTable list.now pool.now × Lent list.now pool.now index.old }
-    ensures referred { Referred (binding list.now pool.now) text.now i out.old out.new result }
+    ensures referred { Referred (binding list.now pool.now) text.now i out.old out.new (stepped result) }
     ensures lent { Lent list.now pool.now index.new }
 {
     let start = i + 1;
     // Digits end at the `;` by themselves, so that most numbers need no search for it.
-    let quick = tokens::quick_reference(text, start);
-    let c = quick.c;
-    if c != 0 {
-        return tokens::char_step(c, quick.end + 1, 0, out);
+    if let Some(quick) = tokens::quick_reference(text, start) {
+        return tokens::char_step(quick.c, quick.end + 1, 0, out);
     }
     let end = name_ends::inner_end(text, start);
     if end == text.len() {
-        return Step::Stopped {
-            number: refusals::UNTERMINATED_ENTITY,
-            first: i as u64,
-            second: end as u64,
-        };
+        return Err(Refusal::UnterminatedEntity(i as u64, end as u64));
     }
     if text[start] == b'#' {
         return tokens::number_step(&text[start + 1..end], end + 1, 0, out);
@@ -71,44 +67,27 @@ fn indexed_step(
 fn indexed_runs(text: &[u8], list: &[u8], pool: &[u8], index: &mut [u64], out: &mut [u8]) -> Answer
     requires text_len_bound { length text.now ≤ longest_text }
     requires valid_table { ValidTable list.now pool.now × Lent list.now pool.now index.old }
-    ensures walked { Walked (unescape (binding list.now pool.now) text.now) out.old out.new result }
+    ensures walked { Walked (unescape (binding list.now pool.now) text.now) out.old out.new (answered result) }
     ensures lent { Lent list.now pool.now index.new }
 {
     let mut i: usize = 0;
     let mut len: usize = 0;
+    // By hand: a turn begins where the reference before it ended.
     loop {
         let e = name_ends::next_byte(text, i, b'&');
-        let at = output::least(len, out.len());
+        let at = len.min(out.len());
         output::put_over(&text[i..e], &mut out[at..]);
         len += e - i;
         if e == text.len() {
-            return Answer::Done {
+            return Ok(Success {
                 first: len as u64,
                 second: 0,
-            };
+            });
         }
-        let rest = output::least(len, out.len());
-        match indexed_step(text, e, list, pool, index, &mut out[rest..]) {
-            Step::Next {
-                at: next,
-                len: more,
-                openings: _,
-            } => {
-                i = next;
-                len += more;
-            }
-            Step::Stopped {
-                number,
-                first,
-                second,
-            } => {
-                return Answer::Refused {
-                    number,
-                    first,
-                    second,
-                };
-            }
-        }
+        let rest = len.min(out.len());
+        let next = indexed_step(text, e, list, pool, index, &mut out[rest..])?;
+        i = next.at;
+        len += next.len;
     }
 }
 
@@ -116,63 +95,29 @@ fn indexed_runs(text: &[u8], list: &[u8], pool: &[u8], index: &mut [u64], out: &
 fn indexed_twice(text: &[u8], list: &[u8], pool: &[u8], index: &mut [u64], out: &mut [u8]) -> Answer
     requires text_len_bound { length text.now ≤ longest_text }
     requires valid_table { ValidTable list.now pool.now × Lent list.now pool.now index.old }
-    ensures { call_of result (out.new ∷ []) ≡ finished (unescape (binding list.now pool.now) text.now) out.old }
+    ensures { call_of (answered result) (out.new ∷ []) ≡ finished (unescape (binding list.now pool.now) text.now) out.old }
 {
-    let counted = indexed_runs(text, list, pool, index, &mut out[..0]);
-    let Answer::Done {
-        first: needed,
-        second: _,
-    } = counted
-    else {
-        return counted;
-    };
+    let counted = indexed_runs(text, list, pool, index, &mut out[..0])?;
+    let needed = counted.first;
     if (out.len() as u64) < needed {
-        return Answer::Refused {
-            number: refusals::NO_ROOM,
-            first: needed,
-            second: 0,
-        };
+        return Err(Refusal::NoRoom(needed));
     }
     indexed_runs(text, list, pool, index, out)
 }
 
-// With 256 slots.
-fn unescape_few(text: &[u8], list: &[u8], pool: &[u8], out: &mut [u8]) -> Answer
+// By an index of so many words: its state, and four slots in each of the others.
+fn unescape_sized<const WORDS: usize>(
+    text: &[u8],
+    list: &[u8],
+    pool: &[u8],
+    out: &mut [u8],
+) -> Answer
+    requires words { (5 ≤ WORDS) × (WORDS ≤ 0x10000) }
     requires text_len_bound { length text.now ≤ longest_text }
     requires valid_table { ValidTable list.now pool.now }
-    ensures { call_of result (out.new ∷ []) ≡ finished (unescape (binding list.now pool.now) text.now) out.old }
+    ensures { call_of (answered result) (out.new ∷ []) ≡ finished (unescape (binding list.now pool.now) text.now) out.old }
 {
-    let mut index = [0u64; 65];
-    indexed_twice(text, list, pool, &mut index, out)
-}
-
-// With 1,024 slots.
-fn unescape_some(text: &[u8], list: &[u8], pool: &[u8], out: &mut [u8]) -> Answer
-    requires text_len_bound { length text.now ≤ longest_text }
-    requires valid_table { ValidTable list.now pool.now }
-    ensures { call_of result (out.new ∷ []) ≡ finished (unescape (binding list.now pool.now) text.now) out.old }
-{
-    let mut index = [0u64; 257];
-    indexed_twice(text, list, pool, &mut index, out)
-}
-
-// With 4,096 slots.
-fn unescape_many(text: &[u8], list: &[u8], pool: &[u8], out: &mut [u8]) -> Answer
-    requires text_len_bound { length text.now ≤ longest_text }
-    requires valid_table { ValidTable list.now pool.now }
-    ensures { call_of result (out.new ∷ []) ≡ finished (unescape (binding list.now pool.now) text.now) out.old }
-{
-    let mut index = [0u64; 1025];
-    indexed_twice(text, list, pool, &mut index, out)
-}
-
-// With 16,384 slots.
-fn unescape_most(text: &[u8], list: &[u8], pool: &[u8], out: &mut [u8]) -> Answer
-    requires text_len_bound { length text.now ≤ longest_text }
-    requires valid_table { ValidTable list.now pool.now }
-    ensures { call_of result (out.new ∷ []) ≡ finished (unescape (binding list.now pool.now) text.now) out.old }
-{
-    let mut index = [0u64; 4097];
+    let mut index = [0u64; WORDS];
     indexed_twice(text, list, pool, &mut index, out)
 }
 
@@ -181,16 +126,16 @@ fn unescape_most(text: &[u8], list: &[u8], pool: &[u8], out: &mut [u8]) -> Answe
 pub fn unescape_listed(text: &[u8], list: &[u8], pool: &[u8], out: &mut [u8]) -> Answer
     requires text_len_bound { length text.now ≤ longest_text }
     requires valid_table { ValidTable list.now pool.now }
-    ensures { call_of result (out.new ∷ []) ≡ finished (unescape (binding list.now pool.now) text.now) out.old }
+    ensures { call_of (answered result) (out.new ∷ []) ≡ finished (unescape (binding list.now pool.now) text.now) out.old }
 {
     if list.len() <= 770 {
-        return unescape_few(text, list, pool, out);
+        return unescape_sized::<65>(text, list, pool, out);
     }
     if list.len() <= 3074 {
-        return unescape_some(text, list, pool, out);
+        return unescape_sized::<257>(text, list, pool, out);
     }
     if list.len() <= 12290 {
-        return unescape_many(text, list, pool, out);
+        return unescape_sized::<1025>(text, list, pool, out);
     }
-    unescape_most(text, list, pool, out)
+    unescape_sized::<4097>(text, list, pool, out)
 }

@@ -1,14 +1,16 @@
 -- The loop goes from halt to halt: it writes the run up to the next one, and `halt_step` says what becomes of that. It keeps `Going`, and its
 -- ends are the laws of Going.antt, over what `write_run` added to the output and what `halt_step` kept (`halt_kept`).
-use mathlib.Core.Path.{◌≡◌, subst, ◌∙◌}
+use mathlib.Core.Path.{◌≡◌, ap, subst, ◌∙◌}
 use native.Mathlib.Omega.{arith}
 use mathlib.Core.List.{List}
 use Rattle.legal.specs.FirstFault.{Clean}
 use Rattle.attribute.specs.Steps.{fault_by}
+use Rattle.std.specs.Prelude.{Result, Ok}
+use Rattle.text.specs.declared.refusals.Refusal.{Refusal}
 use Rattle.flat.specs.declared.Halted.{Halted}
 use Rattle.memory.specs.Levels.{level_of}
 use Rattle.flat.specs.Between.{HaltKeeps}
-use Prim.Native.Nat.{ℕ, ◌+◌, ◌-◌, ◌≤◌, ◌<◌}
+use Prim.Native.Nat.{ℕ, ◌+◌, ◌≤◌, ◌<◌}
 use Rattle.memory.proofs.Levels.{place_of}
 use lib.ListN.{length}
 use Rattle.flat.proofs.Going.{going_start, going_barred, going_room, going_within, run_lent, run_room}
@@ -46,7 +48,7 @@ len_small c =
     omega (arith, room, within, c.requires.depth_nonzero.1)
 
 -- what `halt_step` keeps, of the result as it was matched
-halt_kept : (c : After-halt_step) {r : Halted} → c.halt_step.result ≡ r → HaltKeeps (level_of c.args.reading c.args.list.now c.args.pool.now c.args.text.now) c.args.reading.base (place_of c.loop-end.end (c.loop-end.len + c.write_run-written.result) c.loop-end.made) (c.write_run-written.new.out) c.loop-end.seen (out_halted c) (seen_halted c) r
+halt_kept : (c : After-halt_step) {r : Result Halted Refusal} → c.halt_step.result ≡ r → HaltKeeps (level_of c.args.reading c.args.list.now c.args.pool.now c.args.text.now) c.args.reading.base (place_of c.loop-end.end (c.loop-end.len + c.write_run-written.result) c.loop-end.made) (c.write_run-written.new.out) c.loop-end.seen (out_halted c) (seen_halted c) r
 halt_kept c q =
     let a = c.args in
     subst
@@ -124,53 +126,35 @@ halt_step-requires c =
     c.requires.lent (run_clean (goal.at.halt_step-requires c).After-write_run-written) c.write_run-written.ensures in
     record { valid_table = c.requires.valid_table; depth_nonzero = c.requires.depth_nonzero; at_in_bounds = (inside, h.ends inside); lent = lent }
 
-pub overflow_add-len-in-Next : goal.overflow_add-len-in-Next
-overflow_add-len-in-Next c =
+pub overflow_add-len-in-Ok-Next : goal.overflow_add-len-in-Ok-Next
+overflow_add-len-in-Ok-Next c =
     let a = c.args in
-    let k = halt_kept (goal.at.overflow_add-len-in-Next c).After-halt_step c.in-Next.is in
+    let k = halt_kept (goal.at.overflow_add-len-in-Ok-Next c).After-halt_step (c.in-Ok-Next.is ∙ ap (λ h. Ok h) c.in-Ok-Next.field-0-is) in
     let sum =
     going_sum a.reading a.text.now a.list.now a.pool.now a.place a.out.now a.seen.now c.loop-end.invariant c.requires.depth_nonzero.0
-    c.requires.lent (run_clean (goal.at.overflow_add-len-in-Next c).After-write_run-written) c.write_run-written.ensures k in
+    c.requires.lent (run_clean (goal.at.overflow_add-len-in-Ok-Next c).After-write_run-written) c.write_run-written.ensures k in
     let made =
     going_made a.reading a.text.now a.list.now a.pool.now a.place a.out.now a.seen.now c.loop-end.invariant c.requires.depth_nonzero.0
-    c.requires.lent (run_clean (goal.at.overflow_add-len-in-Next c).After-write_run-written) c.write_run-written.ensures k in
+    c.requires.lent (run_clean (goal.at.overflow_add-len-in-Ok-Next c).After-write_run-written) c.write_run-written.ensures k in
     omega (arith, sum, made, c.requires.depth_nonzero)
 
-pub shape_of-seen-in-Opening : goal.shape_of-seen-in-Opening
-shape_of-seen-in-Opening c = words_kept (goal.at.shape_of-seen-in-Opening c).After-halt_step
-
-pub shape_of-out-in-Opening : goal.shape_of-out-in-Opening
-shape_of-out-in-Opening c = buffer_kept (goal.at.shape_of-out-in-Opening c).After-halt_step
-
-pub returns-in-Opening : goal.returns-in-Opening
-returns-in-Opening c =
+pub returns-in-Ok-Opening : goal.returns-in-Ok-Opening
+returns-in-Ok-Opening c =
     let a = c.args in
     going_opens a.reading a.text.now a.list.now a.pool.now a.place a.out.now a.seen.now c.loop-end.invariant c.requires.depth_nonzero.0
-    c.requires.lent (run_clean (goal.at.returns-in-Opening c).After-write_run-written) c.write_run-written.ensures (halt_kept (goal.at.returns-in-Opening c).After-halt_step c.in-Opening.is)
+    c.requires.lent (run_clean (goal.at.returns-in-Ok-Opening c).After-write_run-written) c.write_run-written.ensures (halt_kept (goal.at.returns-in-Ok-Opening c).After-halt_step (c.in-Ok-Opening.is ∙ ap (λ h. Ok h) c.in-Ok-Opening.field-0-is))
 
-pub shape_of-seen-in-Paused : goal.shape_of-seen-in-Paused
-shape_of-seen-in-Paused c = words_kept (goal.at.shape_of-seen-in-Paused c).After-halt_step
-
-pub shape_of-out-in-Paused : goal.shape_of-out-in-Paused
-shape_of-out-in-Paused c = buffer_kept (goal.at.shape_of-out-in-Paused c).After-halt_step
-
-pub returns-in-Paused : goal.returns-in-Paused
-returns-in-Paused c =
+pub returns-in-Ok-Paused : goal.returns-in-Ok-Paused
+returns-in-Ok-Paused c =
     let a = c.args in
     going_paused a.reading a.text.now a.list.now a.pool.now a.place a.out.now a.seen.now c.loop-end.invariant c.requires.depth_nonzero.0
-    c.requires.lent (run_clean (goal.at.returns-in-Paused c).After-write_run-written) c.write_run-written.ensures c.if-end-text.false (halt_kept (goal.at.returns-in-Paused c).After-halt_step c.in-Paused.is)
+    c.requires.lent (run_clean (goal.at.returns-in-Ok-Paused c).After-write_run-written) c.write_run-written.ensures c.if-end-text.false (halt_kept (goal.at.returns-in-Ok-Paused c).After-halt_step (c.in-Ok-Paused.is ∙ ap (λ h. Ok h) c.in-Ok-Paused.field-0-is))
 
-pub shape_of-seen-in-Stopped : goal.shape_of-seen-in-Stopped
-shape_of-seen-in-Stopped c = words_kept (goal.at.shape_of-seen-in-Stopped c).After-halt_step
-
-pub shape_of-out-in-Stopped : goal.shape_of-out-in-Stopped
-shape_of-out-in-Stopped c = buffer_kept (goal.at.shape_of-out-in-Stopped c).After-halt_step
-
-pub returns-in-Stopped : goal.returns-in-Stopped
-returns-in-Stopped c =
+pub returns-in-Err : goal.returns-in-Err
+returns-in-Err c =
     let a = c.args in
     going_stopped a.reading a.text.now a.list.now a.pool.now a.place a.out.now a.seen.now c.loop-end.invariant c.requires.depth_nonzero.0
-    c.requires.lent (run_clean (goal.at.returns-in-Stopped c).After-write_run-written) c.write_run-written.ensures (halt_kept (goal.at.returns-in-Stopped c).After-halt_step c.in-Stopped.is)
+    c.requires.lent (run_clean (goal.at.returns-in-Err c).After-write_run-written) c.write_run-written.ensures (halt_kept (goal.at.returns-in-Err c).After-halt_step c.in-Err.is)
 
 -- ---- the halt is passed: to the next one
 pub overflow_add-met : goal.overflow_add-met
@@ -181,18 +165,18 @@ overflow_add-met c =
 pub halt_after-end-requires : goal.halt_after-end-requires
 halt_after-end-requires c =
     let inv = c.loop-end.invariant in (
-      (halt_kept (goal.at.halt_after-end-requires c).After-halt_step c.in-Next.is).past.1,
+      (halt_kept (goal.at.halt_after-end-requires c).After-halt_step (c.in-Ok-Next.is ∙ ap (λ h. Ok h) c.in-Ok-Next.field-0-is)).past.1,
       c.requires.depth_nonzero.2,
       omega (arith, inv.few, inv.halt.smooth.from, inv.halt.smooth.to, c.requires.depth_nonzero.2),
     )
 
 pub loop-end-smaller : goal.loop-end-smaller
 loop-end-smaller c =
-    let k = halt_kept (goal.at.loop-end-smaller c).After-halt_step c.in-Next.is in
+    let k = halt_kept (goal.at.loop-end-smaller c).After-halt_step (c.in-Ok-Next.is ∙ ap (λ h. Ok h) c.in-Ok-Next.field-0-is) in
     omega (arith, c.loop-end.invariant.halt.smooth.from, k.past)
 
 pub loop-end-preserved : goal.loop-end-preserved
 loop-end-preserved c =
     let a = c.args in
     going_next a.reading a.text.now a.list.now a.pool.now a.place a.out.now a.seen.now c.loop-end.invariant c.requires.depth_nonzero.0
-    c.requires.lent (run_clean (goal.at.loop-end-preserved c).After-write_run-written) c.write_run-written.ensures (halt_kept (goal.at.loop-end-preserved c).After-halt_step c.in-Next.is) c.halt_after-end.ensures
+    c.requires.lent (run_clean (goal.at.loop-end-preserved c).After-write_run-written) c.write_run-written.ensures (halt_kept (goal.at.loop-end-preserved c).After-halt_step (c.in-Ok-Next.is ∙ ap (λ h. Ok h) c.in-Ok-Next.field-0-is)) c.halt_after-end.ensures

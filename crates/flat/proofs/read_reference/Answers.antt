@@ -20,12 +20,12 @@ digits_inside c hash =
 
 pub overflow_add-result : goal.overflow_add-result
 overflow_add-result c =
-    omega (arith, (c.quick_reference-quick.ensures c.if-c-ne0.true).2.closed.inside, c.requires)
+    omega (arith, c.in-Some.ensures.3.closed.inside, c.requires)
 
 pub returns-then-is_allowed : goal.returns-then-is_allowed
 returns-then-is_allowed c =
-    let found = c.quick_reference-quick.ensures c.if-c-ne0.true in
-    means_quick c.args.rule c.args.text.now c.args.at c.requires.2 c.quick_reference-quick.result found.1 found.2
+    let found = c.in-Some.ensures in
+    means_quick c.args.rule c.args.text.now c.args.at c.requires.2 c.in-Some.quick found.2 found.3
     (rw c.if-is_allowed.true at c.is_allowed.ensures)
 
 pub returns-then-end-text : goal.returns-then-end-text

@@ -8,6 +8,7 @@ use native.Mathlib.Omega.{arith}
 use lib.ListN.{length, take, drop}
 use Rattle.memory.specs.Slots.{shaped}
 use Rattle.memory.specs.Levels.{HadKeeps, level_of}
+use Rattle.std.specs.Prelude.{Option, Ok}
 use Rattle.memory.specs.declared.Had.{Had}
 use Rattle.flat.specs.Between.{Writes, HaltKeeps, Referred}
 use Rattle.flat.specs.declared.Halted.TheVariants.{Opening}
@@ -21,7 +22,7 @@ out_looked c = c.again.new.out
 
 -- ---- facts of these places
 -- what the look keeps, of its result as it was matched
-had_kept : (c : After-again) {r : Had} → c.again.result ≡ r → HadKeeps c.args.command c.args.slot c.args.reading c.args.place c.args.seen.now c.args.out.now (out_looked c) r
+had_kept : (c : After-again) {r : Option Had} → c.again.result ≡ r → HadKeeps c.args.command c.args.slot c.args.reading c.args.place c.args.seen.now c.args.out.now (out_looked c) r
 had_kept c q =
     let a = c.args in
     subst (HadKeeps a.command a.slot a.reading a.place a.seen.now a.out.now (out_looked c)) q c.again.ensures
@@ -33,12 +34,12 @@ untouched c =
     subst (HadKeeps a.command a.slot a.reading a.place a.seen.now a.out.now c.again.new.out) c.in_default.is c.again.ensures
 
 -- the text is left to be opened
-left_to_open : (c : In_default) (t list pool : List ℕ) → Referred c.args.reading t list pool c.args.place c.args.command c.args.next c.args.value.now → HaltKeeps (level_of c.args.reading list pool t) c.args.reading.base c.args.place c.args.out.now c.args.seen.now (c.again.new.out) c.args.seen.now (Opening c.args.next c.args.command c.args.slot)
+left_to_open : (c : In_default) (t list pool : List ℕ) → Referred c.args.reading t list pool c.args.place c.args.command c.args.next c.args.value.now → HaltKeeps (level_of c.args.reading list pool t) c.args.reading.base c.args.place c.args.out.now c.args.seen.now (c.again.new.out) c.args.seen.now (Ok (Opening c.args.next c.args.command c.args.slot))
 left_to_open c t list pool k =
     let a = c.args in
     subst
     (λ (x : List ℕ). HaltKeeps (level_of a.reading list pool t) a.reading.base a.place a.out.now a.seen.now x a.seen.now
-    (Opening a.next a.command a.slot)) (sym (untouched c))
+    (Ok (Opening a.next a.command a.slot))) (sym (untouched c))
     (halt_opens a.reading t list pool a.place k c.requires.command_bound.1 a.out.now a.seen.now c.if-place-reading.false)
 
 -- ---- the limit, and the look
@@ -47,10 +48,10 @@ returns-then-place-reading c = λ t list pool k.
     let a = c.args in
     halt_limit a.reading t list pool a.place k c.requires.command_bound.1 a.out.now a.seen.now c.if-place-reading.true
 
-pub returns-in-Again : goal.returns-in-Again
-returns-in-Again c = λ t list pool k.
+pub returns-in-Some : goal.returns-in-Some
+returns-in-Some c = λ t list pool k.
     let a = c.args in
-    halt_again a.reading t list pool a.place k c.requires.command_bound.1 a.out.now a.seen.now (had_kept (goal.at.returns-in-Again c).After-again c.in-Again.is)
+    halt_again a.reading t list pool a.place k c.requires.command_bound.1 a.out.now a.seen.now (had_kept (goal.at.returns-in-Some c).After-again c.in-Some.is)
 
 pub write_run-n-requires : goal.write_run-n-requires
 write_run-n-requires c =

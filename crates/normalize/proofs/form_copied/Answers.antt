@@ -1,4 +1,7 @@
 -- `form_copied` counts only where the output may be too short: a form has at most six times the bytes of its value (`at-most-six`).
+use Rattle.tokens.specs.Walking.{short_of}
+use Rattle.tokens.proofs.Buffers.{short_answer}
+use mathlib.Core.Path.{◌∙◌}
 use Prim.Native.Nat.{◌≤◌}
 use lib.ListN.{length}
 use native.Mathlib.Omega.{arith}
@@ -21,7 +24,8 @@ form_fits c =
 pub returns-then-out-length : goal.returns-then-out-length
 returns-then-out-length c =
     let a = c.args in
-    form_short a.short (canonical (rule_for a.newer) a.text.now) a.out.now c.canonical_length-length.ensures c.if-out-length.true
+    let short = form_short (short_of a.buffer) (canonical (rule_for a.newer) a.text.now) a.out.now c.canonical_length-length.ensures c.if-out-length.true in
+    (short_answer a.buffer _ c.too_short.ensures ∙ short.0, short.1)
 
 pub write_canonical-written-requires : goal.write_canonical-written-requires
 write_canonical-written-requires c = form_fits (goal.at.write_canonical-written-requires c).Joined-out-text
@@ -29,5 +33,5 @@ write_canonical-written-requires c = form_fits (goal.at.write_canonical-written-
 pub returns : goal.returns
 returns c =
     let a = c.args in
-    form_written a.short (canonical (rule_for a.newer) a.text.now) a.out.now c.write_canonical-written.ensures.0
+    form_written (short_of a.buffer) (canonical (rule_for a.newer) a.text.now) a.out.now c.write_canonical-written.ensures.0
     (form_fits (goal.at.returns c).Joined-out-text) c.write_canonical-written.ensures.1

@@ -1,5 +1,6 @@
 -- `normalize_attribute_value` copies a simple text, which is its own value (`simple_value`), and else ends as the walk into its output does.
 use mathlib.Core.Path.{sym, subst}
+use Rattle.text.specs.Call.{answered}
 use Rattle.tokens.specs.Outcome.{Outcome}
 use Rattle.tokens.specs.Walking.{Ended}
 use Rattle.tokens.proofs.Finished.{ended_call}
@@ -12,7 +13,7 @@ returns-then-simple c =
     let a = c.args in
     let o = outcome_for a.wanted a.list.now a.pool.now a.text.now in
     let is = simple_value a.wanted a.list.now a.pool.now a.text.now (c.requires.simple c.if-simple.true) in
-    ended_call o a.out.now (subst (λ (x : Outcome). Ended 19 x a.out.now c.copied_whole.new.out c.copied_whole.result) (sym is) c.copied_whole.ensures)
+    ended_call o a.out.now (subst (λ (x : Outcome). Ended 19 x a.out.now c.copied_whole.new.out (answered c.copied_whole.result)) (sym is) c.copied_whole.ensures)
 
 pub returns : goal.returns
 returns c =

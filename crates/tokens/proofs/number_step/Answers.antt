@@ -1,4 +1,4 @@
--- `number_step`: no digits and a number that is refused are handed on as they are (`number_handed`); a character is written (`number_written`).
+-- `number_step`: no digits and a number that is refused are passed upward (`number_refused`); a character is written (`number_written`).
 -- The digits are lent as a part of themselves, so that what is read is the number of the whole (`number`).
 use mathlib.Core.Path.{◌≡◌, sym, ap, ◌∙◌}
 use native.Mathlib.Nat.{le_refl}
@@ -6,39 +6,51 @@ use lib.ListN.{length, take}
 use lib.Seq.{take_all}
 use Rattle.charref.specs.CharRef.{char_number, any_character}
 use Rattle.charref.proofs.Numbers.{char_none, char_number_character_lem}
-use Rattle.tokens.specs.Walking.{handed_on}
-use Rattle.tokens.proofs.Numbers.{number_written, number_handed}
+use Rattle.std.specs.Prelude.{Result, Err}
+use borrow.Author.Rules.{rules}
+use Prim.Native.Nat.{ℕ}
+use Rattle.charref.specs.Reading.{legal_by}
+use Rattle.charref.specs.Errors.{read_as, refusal_for}
+use Rattle.charref.specs.declared.ParseCharRefError.{ParseCharRefError}
+use Rattle.charref.proofs.Errors.{read_char}
+use Rattle.tokens.proofs.Numbers.{number_written, number_refused}
 use Rattle.tokens.proofs.number_step.Goals as goal
-use Rattle.tokens.proofs.number_step.Goals.{After-parse_number-n, Start}
+use Rattle.tokens.proofs.number_step.Goals.{Start}
 
 -- the digits are handed on as a part that is all of them
 all_digits : (s : Start) → take (length s.args.digits.now) s.args.digits.now ≡ s.args.digits.now
 all_digits s = take_all (length s.args.digits.now) s.args.digits.now (le_refl _)
 
-number : (c : After-parse_number-n) → char_number any_character c.args.digits.now ≡ c.parse_number-n.result
-number c = sym (c.parse_number-n.ensures ∙ ap (char_number any_character) (take_all (length c.args.digits.now) c.args.digits.now (le_refl _)))
-
 pub returns-then-len-eq0 : goal.returns-then-len-eq0
 returns-then-len-eq0 c =
     let given = c.args in
-    number_handed given.digits.now given.next given.openings given.out.now
-    (sym (char_none any_character given.digits.now c.if-len-eq0.true)) (λ v e. cc)
-    (c.handed.ensures ∙ ap handed_on c.answer_of.ensures)
+    number_refused given.digits.now given.next given.openings given.out.now
+    (ap read_as (char_none any_character given.digits.now c.if-len-eq0.true))
 
 pub slice_bounds-parse_number-end : goal.slice_bounds-parse_number-end
 slice_bounds-parse_number-end c = ap length (sym (all_digits (goal.at.slice_bounds-parse_number-end c).Start))
 
-pub returns-in_default : goal.returns-in_default
-returns-in_default c =
+-- the number of the whole
+number : (s : Start) {r : Result ℕ ParseCharRefError}
+    → r ≡ read_as (char_number (legal_by 0) (take (length s.args.digits.now) s.args.digits.now))
+    → r ≡ read_as (char_number any_character s.args.digits.now)
+number s e = e ∙ ap (λ d. read_as (char_number any_character d)) (all_digits s)
+
+pub returns-in_err-c : goal.returns-in_err-c
+returns-in_err-c c =
     let given = c.args in
-    number_handed given.digits.now given.next given.openings given.out.now (number (goal.at.returns-in_default c).After-parse_number-n) c.in_default.not-Char
-    (c.handed-in_default.ensures ∙ ap handed_on c.answer_of-in_default.ensures)
+    let handed : c.from_residual.result ≡ Err (refusal_for c.in_err-c.field-0.0) = search rules in
+    rw handed
+    (number_refused given.digits.now given.next given.openings given.out.now
+    (number (goal.at.returns-in_err-c c).Start (sym c.in_err-c.was ∙ c.parse_number.ensures)))
 
 pub char_step-requires : goal.char_step-requires
 char_step-requires c =
-    (char_number_character_lem c.args.digits.now c.in-Char.c (number (goal.at.char_step-requires c).After-parse_number-n ∙ c.in-Char.is)).most
+    (char_number_character_lem c.args.digits.now c.in_ok-c.c
+    (read_char _ (sym c.in_ok-c.was ∙ number (goal.at.char_step-requires c).Start c.parse_number.ensures))).most
 
 pub returns : goal.returns
 returns c =
     let given = c.args in
-    number_written given.digits.now given.next given.openings (number (goal.at.returns c).After-parse_number-n ∙ c.in-Char.is) c.char_step.ensures
+    number_written given.digits.now given.next given.openings
+    (read_char _ (sym c.in_ok-c.was ∙ number (goal.at.returns c).Start c.parse_number.ensures)) c.char_step.ensures

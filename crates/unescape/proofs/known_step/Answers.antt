@@ -4,6 +4,10 @@ use native.Mathlib.Omega.{arith}
 use mathlib.Core.List.{List}
 use Prim.Native.Nat.{ℕ}
 use Rattle.entity.specs.Binding.{Bound, binding}
+use borrow.Author.Rules.{rules}
+use mathlib.Core.Path.{◌≡◌, sym, ap, ◌∙◌}
+use Rattle.std.specs.Prelude.{Err}
+use Rattle.tokens.specs.Walking.{stepped}
 use Rattle.tokens.proofs.Repeats.{repeated, unwritten}
 use Rattle.unescape.proofs.Known.{known_again, known_once, known_kept}
 use Rattle.unescape.proofs.Turns.{referred_as}
@@ -14,34 +18,36 @@ use Rattle.unescape.proofs.known_step.Goals.{Start}
 abbrev bound : Start → List ℕ → Bound
 bound s = binding s.args.list.now s.args.pool.now
 
-pub returns-in-Again : goal.returns-in-Again
-returns-in-Again c =
+pub returns-in-Some : goal.returns-in-Some
+returns-in-Some c =
     let a = c.args in
-    known_again (bound (goal.at.returns-in-Again c).Start) a.text.now a.i a.len a.seen.now a.out.now c.requires.i_in_bounds.1
-    (repeated a.text.now a.i a.len 0 0 a.seen.now c.in-Again.is c.seen_step-known.ensures)
+    known_again (bound (goal.at.returns-in-Some c).Start) a.text.now a.i a.len a.seen.now a.out.now c.requires.i_in_bounds.1
+    (repeated a.text.now a.i a.len 0 0 a.seen.now c.in-Some.is c.seen_step.ensures)
 
-pub returns-in_default-step : goal.returns-in_default-step
-returns-in_default-step c =
+pub returns-in_err-step : goal.returns-in_err-step
+returns-in_err-step c =
     let a = c.args in
-    known_once (bound (goal.at.returns-in_default-step c).Start) a.text.now a.i a.len a.seen.now a.out.now
-    (unwritten a.text.now a.i a.len 0 0 a.seen.now c.in_default.is c.seen_step-known.ensures)
-    c.least-rest.ensures c.unescape_step-step.ensures
+    let handed : c.from_residual.result ≡ Err c.in_err-step.field-0.0 = search rules in
+    rw (ap stepped (handed ∙ sym c.in_err-step.was))
+    (known_once (bound (goal.at.returns-in_err-step c).Start) a.text.now a.i a.len a.seen.now a.out.now
+    (unwritten a.text.now a.i a.len 0 0 a.seen.now c.in_default.is c.seen_step.ensures)
+    c.min-rest.ensures c.unescape_step.ensures)
 
-pub overflow_sub-next : goal.overflow_sub-next
-overflow_sub-next c =
-    let n = (referred_as (bound (goal.at.overflow_sub-next c).Start) c.args.text.now c.in-Next.is c.unescape_step-step.ensures).near in
+pub overflow_sub-step : goal.overflow_sub-step
+overflow_sub-step c =
+    let n = (referred_as (bound (goal.at.overflow_sub-step c).Start) c.args.text.now (ap stepped c.in_ok-step.was) c.unescape_step.ensures).near in
     omega (arith, n.0)
 
 pub remember-requires : goal.remember-requires
 remember-requires c =
-    let n = (referred_as (bound (goal.at.remember-requires c).Start) c.args.text.now c.in-Next.is c.unescape_step-step.ensures).near in
+    let n = (referred_as (bound (goal.at.remember-requires c).Start) c.args.text.now (ap stepped c.in_ok-step.was) c.unescape_step.ensures).near in
     record { le_width = (omega (arith, n.0), omega (arith, n.0, n.1)); seen_len = (c.requires.len_bound.1.size, c.requires.len_bound.2) }
 
 pub returns : goal.returns
 returns c =
     let a = c.args in
     known_kept (bound (goal.at.returns c).Start) a.text.now a.i a.len a.seen.now a.out.now
-    (unwritten a.text.now a.i a.len 0 0 a.seen.now c.in_default.is c.seen_step-known.ensures)
-    c.least-rest.ensures (λ k. omega (arith, c.type_inv.text k)) c.requires.i_in_bounds.1
-    (referred_as (bound (goal.at.returns c).Start) a.text.now c.in-Next.is c.unescape_step-step.ensures)
+    (unwritten a.text.now a.i a.len 0 0 a.seen.now c.in_default.is c.seen_step.ensures)
+    c.min-rest.ensures (λ k. omega (arith, c.type_inv.text k)) c.requires.i_in_bounds.1
+    (referred_as (bound (goal.at.returns c).Start) a.text.now (ap stepped c.in_ok-step.was) c.unescape_step.ensures)
     c.remember.ensures

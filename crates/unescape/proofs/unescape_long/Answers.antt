@@ -1,11 +1,13 @@
 -- `unescape_long`: a walk that is lent no output counts, and leaves the output (`counted_none`); a second one writes.
 use native.Mathlib.Omega.{arith}
-use mathlib.Core.Path.{subst, ap, ◌∙◌}
+use mathlib.Core.Path.{◌≡◌, subst, ap, sym, ◌∙◌}
 use mathlib.Core.List.{List, [], ◌∷◌}
 use Prim.Native.Nat.{ℕ}
 use lib.ListN.{length}
-use Rattle.text.specs.Call.{call_of}
-use Rattle.text.specs.declared.Answer.TheVariants.{Refused}
+use borrow.Author.Rules.{rules}
+use Rattle.std.specs.Prelude.{Err}
+use Rattle.text.specs.Call.{answered, call_of}
+use Rattle.text.specs.Answers.{Refused}
 use Rattle.entity.specs.Binding.{Bound, binding}
 use Rattle.tokens.specs.Walking.{Walked}
 use Rattle.tokens.proofs.Finished.{ended_call, ended_refused, ended_short, ended_written}
@@ -18,27 +20,29 @@ use Rattle.unescape.proofs.unescape_long.Goals.{Start}
 abbrev bound : Start → List ℕ → Bound
 bound s = binding s.args.list.now s.args.pool.now
 
-pub returns-in_default : goal.returns-in_default
-returns-in_default c =
+pub returns-in_err-counted : goal.returns-in_err-counted
+returns-in_err-counted c =
     let given = c.args in
-    let o = unescape (bound (goal.at.returns-in_default c).Start) given.text.now in
-    ap (λ (l : List ℕ). call_of c.unescape_runs-counted.result (l ∷ [])) (counted_none given.out.now c.unescape_runs-counted.ensures)
-    ∙ ended_call o given.out.now (ended_refused 19 o given.out.now c.in_default.is c.unescape_runs-counted.ensures)
+    let o = unescape (bound (goal.at.returns-in_err-counted c).Start) given.text.now in
+    let handed : c.from_residual.result ≡ Err c.in_err-counted.field-0.0 = search rules in
+    rw (ap answered (handed ∙ sym c.in_err-counted.was))
+    (ap (λ (l : List ℕ). call_of (answered c.unescape_runs.result) (l ∷ [])) (counted_none given.out.now c.unescape_runs.ensures)
+    ∙ ended_call o given.out.now (ended_refused 19 o given.out.now (ap answered c.in_err-counted.was) c.unescape_runs.ensures))
 
 pub returns-then-out-needed : goal.returns-then-out-needed
 returns-then-out-needed c =
     let given = c.args in
     let o = unescape (bound (goal.at.returns-then-out-needed c).Start) given.text.now in
-    let q = counted_none given.out.now c.unescape_runs-counted.ensures in
-    ap (λ (l : List ℕ). call_of (Refused 19 c.in-Done.needed 0) (l ∷ [])) q
-    ∙ ended_call o given.out.now (ended_short 19 o given.out.now c.in-Done.is c.unescape_runs-counted.ensures (omega (arith, c.if-out-needed.true, ap length q)))
+    let q = counted_none given.out.now c.unescape_runs.ensures in
+    ap (λ (l : List ℕ). call_of (Refused 19 c.in_ok-counted.counted.first 0) (l ∷ [])) q
+    ∙ ended_call o given.out.now (ended_short 19 o given.out.now (ap answered c.in_ok-counted.was) c.unescape_runs.ensures (omega (arith, c.if-out-needed.true, ap length q)))
 
 pub returns : goal.returns
 returns c =
     let given = c.args in
     let o = unescape (bound (goal.at.returns c).Start) given.text.now in
-    let q = counted_none given.out.now c.unescape_runs-counted.ensures in
+    let q = counted_none given.out.now c.unescape_runs.ensures in
     ended_call o given.out.now
-    (ended_written 19 o given.out.now c.in-Done.is c.unescape_runs-counted.ensures
+    (ended_written 19 o given.out.now (ap answered c.in_ok-counted.was) c.unescape_runs.ensures
     (omega (arith, c.if-out-needed.false, ap length q))
-    (subst (λ (l : List ℕ). Walked o l c.unescape_runs.new.out c.unescape_runs.result) q c.unescape_runs.ensures))
+    (subst (λ (l : List ℕ). Walked o l c.unescape_runs-2.new.out (answered c.unescape_runs-2.result)) q c.unescape_runs-2.ensures))

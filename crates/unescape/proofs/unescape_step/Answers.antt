@@ -16,17 +16,17 @@ bound s = binding s.args.list.now s.args.pool.now
 
 pub overflow_add-quick : goal.overflow_add-quick
 overflow_add-quick c =
-    omega (arith, (c.quick_reference-quick.ensures c.if-c-ne0.true).2.closed.inside)
+    omega (arith, c.in-Some.ensures.3.closed.inside)
 
 pub char_step-requires : goal.char_step-requires
 char_step-requires c =
-    omega (arith, (c.quick_reference-quick.ensures c.if-c-ne0.true).2.low)
+    omega (arith, c.in-Some.ensures.3.low)
 
-pub returns-then-c-ne0 : goal.returns-then-c-ne0
-returns-then-c-ne0 c =
+pub returns-in-Some : goal.returns-in-Some
+returns-in-Some c =
     let given = c.args in
-    let found = c.quick_reference-quick.ensures c.if-c-ne0.true in
-    referred_char (bound (goal.at.returns-then-c-ne0 c).Start) given.text.now given.i c.quick_reference-quick.result c.requires.i_in_bounds.1 found.1 found.2 c.char_step.ensures
+    let found = c.in-Some.ensures in
+    referred_char (bound (goal.at.returns-in-Some c).Start) given.text.now given.i c.in-Some.quick c.requires.i_in_bounds.1 found.2 found.3 c.char_step.ensures
 
 pub returns-then-end-text : goal.returns-then-end-text
 returns-then-end-text c =

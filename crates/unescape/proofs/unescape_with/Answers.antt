@@ -1,10 +1,12 @@
 -- `unescape_with`: a text without `&` is its own value (`own_value`), a long one goes to `unescape_by_length`. A short one is counted with its
 -- value held, as far as that has room: it is refused, has no room in the output, is copied from there, or is walked again.
 use lib.Seq.{length-take-le}
-use mathlib.Core.Path.{sym, ap, ◌∙◌}
+use mathlib.Core.Path.{◌≡◌, sym, ap, ◌∙◌}
 use mathlib.Core.List.{List, [], ◌∷◌}
-use Rattle.text.specs.Call.{call_of}
-use Rattle.text.specs.declared.Answer.{Answer}
+use borrow.Author.Rules.{rules}
+use Rattle.std.specs.Prelude.{Err}
+use Rattle.text.specs.Call.{answered, call_of}
+use Rattle.text.specs.Answers.{Answer}
 use Rattle.tokens.specs.Outcome.{Outcome, done, finished}
 use Rattle.tokens.proofs.Finished.{ended_call, ended_refused, ended_short, ended_written, ended_held}
 use Rattle.unescape.specs.Unescape.{unescape}
@@ -26,36 +28,38 @@ returns-then-is_whole c =
     ∙ ap (λ (o : Outcome). finished o given.out.now)
     (sym (own_value (bound (goal.at.returns-then-is_whole c).Start) given.text.now (c.is_whole.ensures c.if-is_whole.true)))
 
-pub returns-in_default : goal.returns-in_default
-returns-in_default c =
+pub returns-in_err-counted : goal.returns-in_err-counted
+returns-in_err-counted c =
     let given = c.args in
-    let o = unescape (bound (goal.at.returns-in_default c).Start) given.text.now in
-    ended_call o given.out.now (ended_refused 19 o given.out.now c.in_default.is c.unescape_runs-counted.ensures)
+    let o = unescape (bound (goal.at.returns-in_err-counted c).Start) given.text.now in
+    let handed : c.from_residual.result ≡ Err c.in_err-counted.field-0.0 = search rules in
+    ap (λ (a : Answer). call_of a (given.out.now ∷ [])) (ap answered (handed ∙ sym c.in_err-counted.was))
+    ∙ ended_call o given.out.now (ended_refused 19 o given.out.now (ap answered c.in_err-counted.was) c.unescape_runs.ensures)
 
 pub returns-then-out-len : goal.returns-then-out-len
 returns-then-out-len c =
     let given = c.args in
     let o = unescape (bound (goal.at.returns-then-out-len c).Start) given.text.now in
     ended_call o given.out.now
-    (ended_short 19 o given.out.now c.in-Done.is c.unescape_runs-counted.ensures
+    (ended_short 19 o given.out.now (ap answered c.in_ok-counted.was) c.unescape_runs.ensures
     (omega (arith, c.if-out-len.true)))
 
 pub slice_bounds-put_run-end : goal.slice_bounds-put_run-end
 slice_bounds-put_run-end c =
-    sym (length-take-le c.in-Done.len c.unescape_runs-counted.new.out (omega (arith, c.if-len-le128.true, c.unescape_runs-counted.auto.out)))
+    sym (length-take-le c.in_ok-counted.counted.first c.unescape_runs.new.out (omega (arith, c.if-len-le128.true, c.unescape_runs.auto.out)))
 
 pub put_run-requires : goal.put_run-requires
 put_run-requires c =
-    rw (length-take-le c.in-Done.len c.unescape_runs-counted.new.out
-    (omega (arith, c.if-len-le128.true, c.unescape_runs-counted.auto.out))) (omega (arith, c.if-out-len.false))
+    rw (length-take-le c.in_ok-counted.counted.first c.unescape_runs.new.out
+    (omega (arith, c.if-len-le128.true, c.unescape_runs.auto.out))) (omega (arith, c.if-out-len.false))
 
 pub returns-then-len-le128 : goal.returns-then-len-le128
 returns-then-len-le128 c =
     let given = c.args in
     let o = unescape (bound (goal.at.returns-then-len-le128 c).Start) given.text.now in
-    ap (λ (a : Answer). call_of a (c.put_run.new.out ∷ [])) (sym c.in-Done.is)
+    ap (λ (a : Answer). call_of a (c.put_run.new.out ∷ [])) (sym (ap answered c.in_ok-counted.was))
     ∙ ended_call o given.out.now
-    (ended_held 19 o given.out.now c.in-Done.is c.unescape_runs-counted.ensures (omega (arith, c.if-len-le128.true))
+    (ended_held 19 o given.out.now (ap answered c.in_ok-counted.was) c.unescape_runs.ensures (omega (arith, c.if-len-le128.true))
     (omega (arith, c.if-out-len.false)) c.put_run.ensures)
 
 pub returns : goal.returns
@@ -63,5 +67,5 @@ returns c =
     let given = c.args in
     let o = unescape (bound (goal.at.returns c).Start) given.text.now in
     ended_call o given.out.now
-    (ended_written 19 o given.out.now c.in-Done.is c.unescape_runs-counted.ensures
-    (omega (arith, c.if-out-len.false)) c.unescape_runs.ensures)
+    (ended_written 19 o given.out.now (ap answered c.in_ok-counted.was) c.unescape_runs.ensures
+    (omega (arith, c.if-out-len.false)) c.unescape_runs-2.ensures)
