@@ -1,2 +1,1 @@
 mod Checks
-mod Pieces

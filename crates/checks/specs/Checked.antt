@@ -2,14 +2,16 @@
 -- them. Assumes nothing.
 use Rattle.std.specs.Prelude.{ℕ, List}
 use Rattle.text.specs.Call.{text_check}
-use Rattle.text.specs.declared.Answer.{Answer}
-use Rattle.text.specs.declared.Answer.TheVariants.{Done, Refused}
+use Rattle.text.specs.Answers.{Answer, Done, Refused}
 use Rattle.utils.specs.CData.{cdata_step, piece_answer}
 use Rattle.utils.specs.declared.Cursor.{Cursor}
 use Rattle.utils.specs.declared.Stepped.{Stepped}
-use Rattle.checks.specs.declared.Answered.{Answered}
 
 -- an answer beside the cursor that it leaves
+pub record Answered : Type 0 where
+  pub answer : Answer
+  pub next : Cursor
+
 abbrev pub beside : Answer → Cursor → Answered
 beside answer next = record { answer = answer; next = next }
 

@@ -11,8 +11,7 @@ use lib.Seq.{take-append_seam}
 use borrow.Author.Tests.{ltb-false, le-ltb}
 use Rattle.text.specs.Bytes.{pick}
 use Rattle.text.specs.Call.{Called, called, call_of, laid, finish}
-use Rattle.text.specs.declared.Answer.{Answer}
-use Rattle.text.specs.declared.Answer.TheVariants.{Done, Refused}
+use Rattle.text.specs.Answers.{Answer, Done, Refused}
 use Rattle.collapse.specs.Collapse.{collapse}
 use Rattle.tokens.specs.Outcome.{Outcome, done, refused, answer_in, left_in}
 use Rattle.tokens.specs.Walking.{Ended}

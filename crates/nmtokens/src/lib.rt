@@ -3,14 +3,15 @@
 #![tactic(auto)]
 
 ghost use Rattle.std.specs.Prelude.{◌≡◌, [], ◌∷◌, ◌≤◌, length};
-ghost use Rattle.text.specs.Call.{call_of};
+ghost use Rattle.text.specs.Call.{answered, call_of};
 ghost use Rattle.text.specs.Utf8.{WellFormed};
 ghost use Rattle.entity.specs.Table.{ValidTable};
 ghost use Rattle.normalize.specs.Calls.{outcome_for};
 ghost use Rattle.nmtokens.specs.Nmtokens.{collapsed};
 
 use normalize::Wanted;
-use text::{Answer, refusals};
+use text::Answer;
+use tokens::Buffer;
 
 // Success: the length written, the openings.
 pub fn normalize_nmtokens(
@@ -25,7 +26,7 @@ pub fn normalize_nmtokens(
     requires text_len_bound { length text.now ≤ 16777216 }
     requires limit_bound { wanted.limit ≤ 1000000 }
     requires well_formed { WellFormed text.now }
-    ensures { call_of result (scratch.new ∷ out.new ∷ []) ≡ collapsed (outcome_for wanted list.now pool.now text.now) scratch.old out.old }
+    ensures { call_of (answered result) (scratch.new ∷ out.new ∷ []) ≡ collapsed (outcome_for wanted list.now pool.now text.now) scratch.old out.old }
 {
     let filled = normalize::normalized(
         text,
@@ -34,15 +35,8 @@ pub fn normalize_nmtokens(
         false,
         list,
         pool,
-        refusals::NO_SCRATCH,
+        Buffer::Scratch,
         scratch,
-    );
-    let Answer::Done {
-        first: len,
-        second: openings,
-    } = filled
-    else {
-        return filled;
-    };
-    collapse::collapse_into(&scratch[..len as usize], openings, out)
+    )?;
+    collapse::collapse_into(&scratch[..filled.first as usize], filled.second, out)
 }

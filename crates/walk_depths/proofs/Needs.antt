@@ -18,7 +18,10 @@ use Rattle.tokens.specs.Outcome.{Outcome, done, refused, prepend, followed}
 use Rattle.attribute.specs.Walk.{Settings, walk}
 use Rattle.memory.specs.Slots.{opening, shaped, Slot, slot_of, Stands, Memory, Kept}
 use Rattle.memory.specs.Levels.{Level, at_depth, left, Fitted, Came, Whole, Opens, Refuses, Reaches, FlatKeeps}
-use Rattle.memory.specs.declared.Reached.TheVariants.{End, Opening, Stopped}
+use Rattle.memory.specs.declared.Reached.TheVariants.{End, Opening}
+use Rattle.memory.specs.declared.Stop.{Stop}
+use Rattle.text.specs.Refusals.{number_of, first_of, second_of}
+use Rattle.std.specs.Prelude.{Ok, Err}
 use Rattle.memory.proofs.Slots.{opening_one, opening_within, opening_moved, stands_opened}
 use Rattle.memory.proofs.Levels.{place_of, Brief, Sound, opening_brief, opening_utf8, walk_left, came_on, came_past, came_refused, opens_place, text_short}
 use Rattle.memory.proofs.Keeping.{memory_kept}
@@ -98,7 +101,7 @@ module _ (l : Level) (plain : l.form ≡ 0) (v whole : List ℕ) (none : length 
 
   module _ {most : ℕ} {out words : List ℕ} {i len made : ℕ} (n : Needs most out words i len made) where
     -- the text's end
-    pub needs_end : (a all now : ℕ) {new kept : List ℕ} → most ≤ a → FlatKeeps (at_depth most l) base (place_of i len made) out words new kept (End all now)
+    pub needs_end : (a all now : ℕ) {new kept : List ℕ} → most ≤ a → FlatKeeps (at_depth most l) base (place_of i len made) out words new kept (Ok (End all now))
         → Enough a most now all by_depth
     needs_end a all now {new} {kept} le f =
         record {
@@ -114,15 +117,16 @@ module _ (l : Level) (plain : l.form ≡ 0) (v whole : List ℕ) (none : length 
         here = f.reaches most (le_refl _) v whole begun at_base (n.came most (le_refl _))
 
     -- a refusal, which is the allowance's
-    pub needs_refused : (a number first second then : ℕ) {new kept : List ℕ} → most ≤ a
-        → FlatKeeps (at_depth most l) base (place_of i len made) out words new kept (Stopped number first second then) → Refusal number first second (by_depth a)
-    needs_refused a number first second then {new} {kept} le f =
+    pub needs_refused : (a : ℕ) (stop : Stop) {new kept : List ℕ} → most ≤ a
+        → FlatKeeps (at_depth most l) base (place_of i len made) out words new kept (Err stop)
+        → Refusal (number_of stop.refusal) (first_of stop.refusal) (second_of stop.refusal) (by_depth a)
+    needs_refused a stop {new} {kept} le f =
         let r = f.reaches a le v whole begun at_base (n.came a le) in
-        record { before = r.before; made = then; is = r.outcome }
+        record { before = r.before; made = stop.openings; is = r.outcome }
 
     -- a text to open, at every depth from `most` on
     module _ (sound : Sound S l.list l.pool) {new kept : List ℕ} {at next command slot before now : ℕ} (empty : length new ≡ 0)
-        (f : FlatKeeps (at_depth most l) base (place_of i len made) out words new kept (Opening at next command slot before now)) where
+        (f : FlatKeeps (at_depth most l) base (place_of i len made) out words new kept (Ok (Opening at next command slot before now))) where
       abbrev t : List ℕ
       t = command_text l.list l.pool command
 

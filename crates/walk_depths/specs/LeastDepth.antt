@@ -1,8 +1,8 @@
 -- The least depth (document 02, K14). Assumes nothing.
 use Rattle.std.specs.Prelude.{ℕ, zero, suc, Bool, true, false, List, eqb}
 use Rattle.text.specs.Bytes.{pick}
-use Rattle.text.specs.declared.Answer.{Answer}
-use Rattle.text.specs.declared.Answer.TheVariants.{Done, Refused}
+use Rattle.text.specs.Answers.{Answer}
+use Rattle.text.specs.Answers.{Done, Refused}
 use Rattle.tokens.specs.Outcome.{Outcome, done, refused}
 use Rattle.attribute.specs.Walk.{Settings, normalize}
 

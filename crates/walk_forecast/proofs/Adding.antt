@@ -1,13 +1,13 @@
 -- A pair with the opening of its own text, by the code's cases: the limit does not allow it (`placed_late`), its text has a length
 -- (`placed_sized`), it is refused (`placed_fails`). Assumes nothing.
-use mathlib.Core.Path.{◌≡◌, refl, sym}
+use mathlib.Core.Path.{◌≡◌, refl}
 use mathlib.Core.Bool.{Bool, true, false, true≢false}
 use Prim.Native.Nat.{ℕ, ◌+◌, ◌-◌, ◌≤◌, ◌<◌}
 use native.Mathlib.Omega.{arith}
 use lib.Dec.{eqb, leb}
 use borrow.Author.Tests.{ne_eqb, le-leb, lt-leb}
 use Rattle.text.specs.Bytes.{pick}
-use Rattle.walk_pairs.specs.Forecast.{Sum, sized, fails}
+use Rattle.walk_pairs.specs.Forecast.{sized, fails}
 use Rattle.walk_pairs.specs.PairSums.{placed, from_words}
 use Rattle.walk_forecast.specs.Surveys.{Addable}
 

@@ -1,9 +1,9 @@
 -- The search for the first definition with a name: from the list's start (`seeking_start`) past those with another name (`seeking_next`), and never past
 -- all where the name is bound to a text (`seeking_declares`), to the one that has it (`seeking_found`). Assumes nothing.
 use mathlib.Core.Path.{◌≡◌, refl, ap, sym, ◌∙◌, subst}
-use mathlib.Core.Bool.{Bool, true, false, true≢false}
+use mathlib.Core.Bool.{Bool, true, false}
 use mathlib.Core.List.{List, [], ◌∷◌}
-use Prim.Native.Nat.{ℕ, ◌+◌, ◌-◌, ◌≤◌, ◌<◌}
+use Prim.Native.Nat.{ℕ, ◌+◌, ◌-◌, ◌<◌}
 use native.Mathlib.Omega.{arith}
 use lib.ListN.{length, get_or, take, drop}
 use Rattle.text.specs.Bytes.{pick, same_bytes}
@@ -13,7 +13,7 @@ use Rattle.entity.specs.Commands.{command_name, command_text, Defines}
 use Rattle.entity.specs.Steps.{command_size, Here}
 use Rattle.entity.proofs.Lookup.{begin, over, Declared, declared, passed_by, found}
 use Rattle.walk_pairs.specs.PairSums.{nth_body}
-use Rattle.walk_forecast.specs.Numbering.{Numbered, Standing}
+use Rattle.walk_forecast.specs.Numbering.{Standing}
 use Rattle.walk_forecast.proofs.Standing.{standing_start, standing_there, standing_body, standing_next}
 
 -- a predefined name is not bound to a text of the table

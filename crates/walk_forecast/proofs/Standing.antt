@@ -4,19 +4,16 @@ use mathlib.Core.Path.{◌≡◌, refl, ap, sym, subst, ◌∙◌}
 use mathlib.Core.Logic.{◌≢◌}
 use mathlib.Core.Bool.{Bool, true, false, true≢false}
 use mathlib.Core.List.{List, [], ◌∷◌}
-use Prim.Native.Nat.{ℕ, zero, suc, ◌+◌, ◌-◌, ◌*◌, ◌/◌, ◌%◌, ◌≤◌, ◌<◌}
+use Prim.Native.Nat.{ℕ, suc, ◌+◌, ◌-◌, ◌*◌, ◌/◌, ◌%◌, ◌≤◌, ◌<◌}
 use native.Mathlib.Omega.{arith}
 use native.Mathlib.Nat.{add-zero, zero-add}
 use lib.Dec.{eqb, ltb}
-use lib.ListN.{length, get_or, take, drop, set, drop_of_length-le, length-take}
+use lib.ListN.{length, get_or, drop, set, drop_of_length-le}
 use lib.Seq.{drop-cons, get_or-set_same, get_or-set_other}
 use borrow.Author.Tests.{ltb-true, ltb-false, eqb-true, eqb-false, ne_eqb}
 use Rattle.text.specs.Bytes.{pick}
-use Rattle.text.specs.Call.{and_then}
-use Rattle.text.specs.declared.Answer.{Answer}
-use Rattle.entity.specs.Table.{Body, inside, Declaration, little_endian, part, text_of, mark_size, declares, declaration, operands, declarations, declarations_from, end_check, commands_check, ValidTable}
-use Rattle.entity.specs.Binding.{text, body_bound}
-use Rattle.entity.specs.Commands.{command_text}
+use Rattle.entity.specs.Table.{Declaration, text_of, mark_size, declares, declaration, operands, declarations, declarations_from, commands_check, ValidTable}
+use Rattle.entity.specs.Binding.{body_bound}
 use Rattle.entity.specs.Steps.{IsDone, command_size, command_check, declaration_at}
 use Rattle.entity.proofs.Commands.{both_done, skip_declarations, past_mark, next_check, next_declaration, command_done, declares_one, size_one, size_some}
 use Rattle.entity.proofs.Lookup.{table_done, end_declares}

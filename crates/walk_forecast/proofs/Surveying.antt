@@ -3,7 +3,6 @@
 -- pair of a reference are asked (`surveying_lent`, `pair_in`). Assumes nothing.
 use mathlib.Core.Path.{◌≡◌, refl, ap, ap₂, sym, ◌∙◌, subst}
 use mathlib.Core.Logic.{◌≢◌}
-use mathlib.Core.Bool.{true, false}
 use mathlib.Core.List.{List, []}
 use Prim.Native.Nat.{ℕ, suc, ◌+◌, ◌-◌, ◌*◌, ◌≤◌, ◌<◌}
 use native.Mathlib.Omega.{arith}
@@ -12,29 +11,32 @@ use lib.Dec.{eqb}
 use lib.ListN.{length, get_or, replicate, length-replicate}
 use borrow.Author.Tests.{ne_eqb}
 use Rattle.halts.specs.Halts.{HaltAt}
-use Rattle.entity.specs.Table.{Body, inside, outside, declarations, text_of, ValidTable}
-use Rattle.entity.specs.Binding.{Bound, text, external, body_bound}
+use Rattle.entity.specs.Table.{Body, inside, outside, declarations, text_of}
+use Rattle.entity.specs.Binding.{text, body_bound}
 use Rattle.entity.specs.Commands.{command_text, Defines}
 use Rattle.attribute.specs.Walk.{Settings}
 use Rattle.memory.specs.Slots.{opening, slot_of, Kept}
-use Rattle.memory.specs.Levels.{Level, settings_by, at_depth, left, Lent, FlatKeeps}
+use Rattle.memory.specs.Levels.{Level, settings_by, Lent, FlatKeeps}
 use Rattle.memory.specs.declared.Place.{Place}
 use Rattle.memory.specs.declared.Reached.{Reached}
-use Rattle.memory.specs.declared.Reached.TheVariants.{End, Opening, Paused, Stopped}
+use Rattle.memory.specs.declared.Reached.TheVariants.{End, Opening, Paused}
+use Rattle.memory.specs.declared.Stop.{Stop}
+use Rattle.text.specs.Refusals.{number_of}
+use Rattle.std.specs.Prelude.{Result, Ok, Err}
 use Rattle.memory.proofs.Levels.{Brief, Sound, place_of, text_short}
 use Rattle.memory.proofs.Keeping.{kept_length}
 use Rattle.memory.proofs.Readings.{by_brief, by_limit}
-use Rattle.walk_pairs.specs.Forecast.{Sum, sized, fails, summary, relimit, pair_at, first_word, second_word, body_words}
+use Rattle.walk_pairs.specs.Forecast.{Sum, fails, summary, relimit, pair_at, first_word, second_word, body_words}
 use Rattle.walk_pairs.specs.PairSums.{placed, from_words, nth_body}
 use Rattle.walk_pairs.specs.Stretches.{Stretch, AtReference}
 use Rattle.walk_pairs.proofs.PairWords.{words_give_back, pair_first, pair_second, pair_other}
 use Rattle.walk_pairs.proofs.Stretches.{stretch_fresh, stretch_end, stretch_refused, stretch_stands, opening_placed, stretch_passes, stretch_fails, stretch_ends, stretch_waits}
 use Rattle.walk_forecast.specs.Numbering.{Numbered}
-use Rattle.walk_forecast.specs.Surveys.{level_for, pair_settings, pair_below, added_sum, Addable, PairIn, Right, Below, Surveys, FailsBy, WaitsFor, Surveyed}
+use Rattle.walk_forecast.specs.Surveys.{level_for, pair_settings, pair_below, added_sum, PairIn, Below, Surveys, Surveyed}
 use Rattle.walk_forecast.specs.declared.Survey.{Survey}
-use Rattle.walk_forecast.specs.declared.Added.{Added}
-use Rattle.walk_forecast.specs.declared.Added.TheVariants.{Bytes, Refusal}
-use Rattle.walk_forecast.specs.declared.Outlook.TheVariants.{Sized, Fails, Waits}
+use Rattle.walk_forecast.specs.declared.Bytes.{Bytes}
+use Rattle.walk_forecast.specs.declared.Failed.{Failed}
+use Rattle.walk_forecast.specs.declared.Outlook.TheVariants.{Sized, Waits}
 
 -- ---- the words of a definition with a text
 
@@ -136,25 +138,25 @@ module _ (by : Survey) (list pool txt : List ℕ) where
     surveying_lent short =
         record { v = []; whole = []; begun = 0; size = refl; came = s.came by.depth (le_refl _); room = omega (arith, short) }
 
-    module _ {new kept : List ℕ} {x : Reached} (f : FlatKeeps level 0 (place_of at len made) [] seen new kept x) where
-      abbrev told : {y : Reached} → x ≡ y → FlatKeeps level 0 (place_of at len made) [] seen new kept y
-      told q = subst (λ (y : Reached). FlatKeeps level 0 (place_of at len made) [] seen new kept y) q f
+    module _ {new kept : List ℕ} {x : Result Reached Stop} (f : FlatKeeps level 0 (place_of at len made) [] seen new kept x) where
+      abbrev told : {y : Result Reached Stop} → x ≡ y → FlatKeeps level 0 (place_of at len made) [] seen new kept y
+      told q = subst (λ (y : Result Reached Stop). FlatKeeps level 0 (place_of at len made) [] seen new kept y) q f
 
-      pub survey_end : {all now : ℕ} → x ≡ End all now → Surveyed by list pool txt (Sized all now)
+      pub survey_end : {all now : ℕ} → x ≡ Ok (End all now) → Surveyed by list pool txt (Ok (Sized all now))
       survey_end q = stretch_end level refl by.depth s.came (told q)
 
-      pub survey_stopped : {number a b now : ℕ} → x ≡ Stopped number a b now → Surveyed by list pool txt (Fails number now)
+      pub survey_stopped : {stop : Stop} → x ≡ Err stop → Surveyed by list pool txt (Err (record { number = number_of stop.refusal; openings = stop.openings }))
       survey_stopped q =
           let g = stretch_refused level refl by.depth s.came (told q) in
           record { here = g by.depth (le_refl _); stays = λ other. g }
 
       -- with a memory nothing is paused at
-      pub survey_unpaused : {i before now : ℕ} → x ≡ Paused i before now → ⊥
+      pub survey_unpaused : {i before now : ℕ} → x ≡ Ok (Paused (place_of i before now)) → ⊥
       survey_unpaused q =
           let o = (told q).onward in
           omega (arith, s.size, o.2)
 
-      module _ {i next command slot before now : ℕ} (q : x ≡ Opening i next command slot before now) where
+      module _ {i next command slot before now : ℕ} (q : x ≡ Ok (Opening i next command slot before now)) where
         pub survey_stands : AtReference level by.depth kept i next command slot before now
         survey_stands = stretch_stands level refl by.depth s.came (told q)
 
@@ -166,17 +168,17 @@ module _ (by : Survey) (list pool txt : List ℕ) where
 
         -- what the pair of the reference adds is what its text gives
         module _ (bytes : (k : ℕ) → get_or list k 0 < 0x100) {words : List ℕ} (b : Below by list pool words) {number : ℕ} (is : Numbered list pool command number)
-            {r : Added}
+            {r : Result Bytes Failed}
             (adds : added_sum r ≡ placed by.limit (now + 1) (from_words (get_or words (pair_below number by) 0) (get_or words (pair_below number by + 1) 0))) where
-          gives : {y : Added} → r ≡ y → summary (opening level.settings by.depth (command_text list pool command) now) ≡ added_sum y
+          gives : {y : Result Bytes Failed} → r ≡ y → summary (opening level.settings by.depth (command_text list pool command) now) ≡ added_sum y
           gives {y} e =
               sym (opening_placed level refl by.depth survey_stands (subst (λ (n : ℕ). n ≤ 1000000) (sym limit_is) b.most))
               ∙ ap (λ (n : ℕ). placed n (now + 1) (pair_at level.settings (by.depth - 1) (command_text list pool command))) limit_is
               ∙ ap (placed by.limit (now + 1)) (sym (pair_told by list pool bytes b survey_defines is)) ∙ sym adds ∙ ap added_sum e
 
-          pub survey_passes : Sound level.settings list pool → {more then : ℕ} → r ≡ Bytes more then → {last : List ℕ} {halt : ℕ}
-              → Kept kept slot command (slot_of by.depth before more (then - now)) last → HaltAt (eqb by.how 1) txt next halt
-              → Surveying last halt next (before + more) then
+          pub survey_passes : Sound level.settings list pool → {added : Bytes} → r ≡ Ok added → {last : List ℕ} {halt : ℕ}
+              → Kept kept slot command (slot_of by.depth before added.len (added.openings - now)) last → HaltAt (eqb by.how 1) txt next halt
+              → Surveying last halt next (before + added.len) added.openings
           survey_passes sound e kept_in h =
               record {
                 halt = h;
@@ -184,17 +186,18 @@ module _ (by : Survey) (list pool txt : List ℕ) where
                 came = stretch_passes level refl by.depth survey_stands sound (gives e) kept_in;
               }
 
-          pub survey_refused : {why until : ℕ} → r ≡ Refusal why until → why ≢ 16 → Surveyed by list pool txt (Fails why until)
-          survey_refused {why} {until} e other =
+          pub survey_refused : {failed : Failed} → r ≡ Err failed → failed.number ≢ 16 → Surveyed by list pool txt (Err failed)
+          survey_refused {failed} e other =
               record {
                 here = stretch_fails level refl by.depth survey_stands (gives e);
-                stays = λ x. stretch_ends level refl by.depth survey_stands (gives e) (ne_eqb why 16 other);
+                stays = λ x. stretch_ends level refl by.depth survey_stands (gives e) (ne_eqb failed.number 16 other);
               }
 
-          pub survey_waits : {why until : ℕ} → r ≡ Refusal why until → why ≡ 16 → Surveyed by list pool txt (Waits next number before now until)
-          survey_waits {why} {until} e deep =
+          pub survey_waits : {failed : Failed} → r ≡ Err failed → failed.number ≡ 16
+              → Surveyed by list pool txt (Ok (Waits next number before now failed.openings))
+          survey_waits {failed} e deep =
               record {
-                here = stretch_fails level refl by.depth survey_stands (gives e) ∙ ap (λ (n : ℕ). fails n until) deep;
+                here = stretch_fails level refl by.depth survey_stands (gives e) ∙ ap (λ (n : ℕ). fails n failed.openings) deep;
                 command = command;
                 waits = stretch_waits level refl by.depth survey_stands;
                 numbered = is;

@@ -1,6 +1,6 @@
 -- The number of a definition, by the command that binds a name: terms in which code is proved. No promise of a call rests on them.
 -- Assumes nothing.
-use Rattle.std.specs.Prelude.{ℕ, ◌+◌, ◌*◌, ◌≤◌, ◌<◌, ◌≡◌, List, length, get_or, drop}
+use Rattle.std.specs.Prelude.{ℕ, ◌+◌, ◌*◌, ◌<◌, ◌≡◌, List, length, get_or, drop}
 use Rattle.entity.specs.Table.{declarations, declarations_from, commands_check}
 use Rattle.entity.specs.Binding.{text, body_bound}
 use Rattle.entity.specs.Commands.{command_text}

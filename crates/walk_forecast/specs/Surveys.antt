@@ -1,20 +1,20 @@
 -- A text surveyed by the pairs of the texts inside it: what the code's numbers mean, what is asked and told. No promise of a call rests on them.
 -- Assumes nothing.
-use Rattle.std.specs.Prelude.{ℕ, ◌+◌, ◌-◌, ◌*◌, ◌≤◌, ◌<◌, ◌≡◌, ◌≢◌, List, [], length, get_or}
+use Rattle.std.specs.Prelude.{ℕ, ◌+◌, ◌-◌, ◌*◌, ◌≤◌, ◌<◌, ◌≡◌, ◌≢◌, List, [], length, get_or, Result, Ok, Err}
 use Rattle.entity.specs.Table.{Body, declarations}
 use Rattle.attribute.specs.Walk.{Settings}
 use Rattle.memory.specs.Levels.{Level, settings_by, level_of, at_depth, left}
 use Rattle.memory.specs.declared.Reading.{Reading}
 use Rattle.memory.specs.declared.Place.{Place}
 use Rattle.walk_pairs.specs.Forecast.{Sum, sized, fails, summary, body_words}
-use Rattle.walk_pairs.specs.PairSums.{placed, from_words, nth_body}
+use Rattle.walk_pairs.specs.PairSums.{nth_body}
 use Rattle.walk_pairs.specs.Stretches.{Stretch, Waiting, Gives}
-use Rattle.walk_forecast.specs.Numbering.{Numbered, Numbers}
+use Rattle.walk_forecast.specs.Numbering.{Numbered}
 use Rattle.walk_forecast.specs.declared.Survey.{Survey}
-use Rattle.walk_forecast.specs.declared.Added.{Added}
-use Rattle.walk_forecast.specs.declared.Added.TheVariants.{Bytes, Refusal}
+use Rattle.walk_forecast.specs.declared.Bytes.{Bytes}
+use Rattle.walk_forecast.specs.declared.Failed.{Failed}
 use Rattle.walk_forecast.specs.declared.Outlook.{Outlook}
-use Rattle.walk_forecast.specs.declared.Outlook.TheVariants.{Sized, Fails, Waits}
+use Rattle.walk_forecast.specs.declared.Outlook.TheVariants.{Sized, Waits}
 
 -- ---- what the code's numbers mean
 
@@ -36,9 +36,9 @@ pair_below number by = number * by.width + 2 * (by.depth - 1)
 
 -- ---- a pair where its definition is referred to
 
-abbrev pub added_sum : Added → Sum
-added_sum (Bytes len openings) = sized len openings
-added_sum (Refusal number openings) = fails number openings
+abbrev pub added_sum : Result Bytes Failed → Sum
+added_sum (Ok bytes) = sized bytes.len bytes.openings
+added_sum (Err failed) = fails failed.number failed.openings
 
 -- numbers that a pair's words have, 2^63 + 17 not among them, and room for one opening more
 pub record Addable (first second openings limit : ℕ) : Type 0 where
@@ -86,10 +86,10 @@ pub record WaitsFor (l : Level) (e : ℕ) (list pool : List ℕ) (next number le
   pub waits : Waiting l e next command len openings
   pub numbered : Numbered list pool command number
 
-abbrev pub Foretells : Level → ℕ → List ℕ → List ℕ → Outlook → Type 0
-Foretells l e list pool (Sized len openings) = Gives l e (sized len openings)
-Foretells l e list pool (Fails number openings) = FailsBy l e number openings
-Foretells l e list pool (Waits next number len openings until) = WaitsFor l e list pool next number len openings until
+abbrev pub Foretells : Level → ℕ → List ℕ → List ℕ → Result Outlook Failed → Type 0
+Foretells l e list pool (Ok (Sized len openings)) = Gives l e (sized len openings)
+Foretells l e list pool (Err failed) = FailsBy l e failed.number failed.openings
+Foretells l e list pool (Ok (Waits next number len openings until)) = WaitsFor l e list pool next number len openings until
 
-abbrev pub Surveyed : Survey → List ℕ → List ℕ → List ℕ → Outlook → Type 0
+abbrev pub Surveyed : Survey → List ℕ → List ℕ → List ℕ → Result Outlook Failed → Type 0
 Surveyed by list pool text o = Foretells (level_for by list pool text) by.depth list pool o

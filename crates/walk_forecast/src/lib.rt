@@ -9,7 +9,7 @@ ghost use Rattle.walk_pairs.specs.PairSums.{placed, from_words};
 ghost use Rattle.walk_forecast.specs.Numbering.{Numbered};
 ghost use Rattle.walk_forecast.specs.Surveys.{pair_below, added_sum, Addable, PairIn};
 
-use text::refusals;
+use text::refusals::Refusal;
 
 // 2^63: a first word from here on is a refusal.
 pub const REFUSED: u64 = 9223372036854775808;
@@ -24,16 +24,29 @@ pub struct Survey {
     pub width: usize,
 }
 
-// What a survey comes to: length and openings; the refusal's number and the openings until then; or a reference, ended before `next`, to the
-// definition `number`, whose pair is 16 after `until` openings of the whole.
+// Bytes that a reference adds, and the openings after it.
+#[derive(Clone, Copy)]
+pub struct Bytes {
+    pub len: usize,
+    pub openings: u64,
+}
+
+// What refuses it, and the openings until then. By its number, as a pair's word has it.
+#[derive(Clone, Copy)]
+pub struct Failed {
+    pub number: u32,
+    pub openings: u64,
+}
+
+// What a reference adds where so many openings were made before it.
+pub type Added = Result<Bytes, Failed>;
+
+// What a survey comes to: length and openings; or a reference, ended before `next`, to the definition `number`, whose pair is 16 after `until`
+// openings of the whole.
 #[derive(Drop)]
 pub enum Outlook {
     Sized {
         len: usize,
-        openings: u64,
-    },
-    Fails {
-        number: u32,
         openings: u64,
     },
     Waits {
@@ -45,12 +58,7 @@ pub enum Outlook {
     },
 }
 
-// What a reference adds where so many openings were made before it.
-#[derive(Drop)]
-pub enum Added {
-    Bytes { len: usize, openings: u64 },
-    Refusal { number: u32, openings: u64 },
-}
+pub type Surveyed = Result<Outlook, Failed>;
 
 // ---- the number of a definition
 
@@ -61,9 +69,10 @@ fn number_by_name(list: &[u8], pool: &[u8], command: usize) -> usize
     ensures { Numbered list.now pool.now command result }
 {
     let start = entity::u32_at(list, command + 1);
-    let end = start + entity::wide(list[command + 5]);
+    let end = start + usize::from(list[command + 5]);
     let mut at = entity::mark_size(list);
     let mut number: usize = 0;
+    // By hand: commands are of two sizes.
     loop {
         if entity::is_named(list, pool, at, &pool[start..end]) {
             return number;
@@ -82,21 +91,21 @@ fn pair_added(first: u64, second: u64, openings: u64, limit: u64) -> Added
 {
     let made = openings + 1 + second;
     if limit < made {
-        return Added::Refusal {
-            number: refusals::TOO_MANY_OPENINGS,
+        return Err(Failed {
+            number: Refusal::TooManyOpenings(0).number(),
             openings: limit,
-        };
+        });
     }
     if first < REFUSED {
-        return Added::Bytes {
+        return Ok(Bytes {
             len: first as usize,
             openings: made,
-        };
+        });
     }
-    Added::Refusal {
+    Err(Failed {
         number: (first - REFUSED) as u32,
         openings: made,
-    }
+    })
 }
 
 // By the definition's pair of one depth less.

@@ -11,7 +11,7 @@ use Rattle.text.specs.Bytes.{pick}
 use Rattle.text.specs.Version.{Rule, rule_of}
 use Rattle.text.specs.Simple.{Simple}
 use Rattle.text.specs.Utf8.{WellFormed}
-use Rattle.text.specs.declared.Answer.TheVariants.{Done}
+use Rattle.text.specs.Answers.{Done}
 use Rattle.eols.specs.Stops.{rule_for}
 use Rattle.eols.proofs.LineEnds.{version_rule}
 use Rattle.halts.proofs.Smooth.{simple_plain}
@@ -29,9 +29,7 @@ use Rattle.memory.proofs.Readings.{by_limit}
 use Rattle.walk_depths.specs.LeastDepth.{used_up, least_depth}
 use Rattle.walk_depths.proofs.ByDepth.{least_enough, least_refused}
 use Rattle.walk_least_depth.specs.Allowance.{settings_for, outcomes, Begins, Small, NeedKeeps, Says, how_for, allowed_for, least_answer}
-use Rattle.walk_least_depth.specs.declared.Need.{Need}
-use Rattle.walk_least_depth.specs.declared.Need.TheVariants.{Cannot}
-use Rattle.walk_least_depth.specs.declared.Need.TheVariants.{Enough as Found}
+use Rattle.walk_least_depth.specs.Allowance.{Need, Found, Cannot}
 use Rattle.walk_least_depth.proofs.NeedRooms.{room_zeros}
 
 -- ---- a new memory

@@ -21,7 +21,10 @@ use Rattle.memory.specs.Slots.{opening, shaped, slot_of, Stands, Memory}
 use Rattle.memory.specs.Levels.{Level, level_of, at_depth, left, Whole, Opens, Lent, FlatKeeps}
 use Rattle.memory.specs.declared.Reading.{Reading}
 use Rattle.memory.specs.declared.Reached.{Reached}
-use Rattle.memory.specs.declared.Reached.TheVariants.{End, Opening, Paused, Stopped}
+use Rattle.memory.specs.declared.Reached.TheVariants.{End, Opening, Paused}
+use Rattle.memory.specs.declared.Stop.{Stop}
+use Rattle.text.specs.Refusals.{number_of, first_of, second_of}
+use Rattle.std.specs.Prelude.{Result, Ok, Err}
 use Rattle.memory.proofs.Slots.{opening_one, opening_within, stands_opened}
 use Rattle.memory.proofs.Levels.{place_of, Sound, opening_brief, text_short, walk_left, came_start, came_refused, came_room, opens_place, inner_room}
 use Rattle.memory.proofs.Readings.{by_inner, by_limit}
@@ -29,9 +32,7 @@ use Rattle.walk_depths.specs.LeastDepth.{used_up}
 use Rattle.walk_depths.specs.Summary.{Enough, Refusal, Known}
 use Rattle.walk_depths.proofs.Needs.{Needs, known_made, needs_end, needs_refused, needs_reference, shaped_plainly}
 use Rattle.walk_least_depth.specs.Allowance.{plain_at, inner_at, settings_for, outcomes, Knows, Room, Remembers, IsKnown, Asks, Begins, Small, Counts, Tells, NeedKeeps, Says}
-use Rattle.walk_least_depth.specs.declared.Need.{Need}
-use Rattle.walk_least_depth.specs.declared.Need.TheVariants.{Cannot}
-use Rattle.walk_least_depth.specs.declared.Need.TheVariants.{Enough as Found}
+use Rattle.walk_least_depth.specs.Allowance.{Need, Found, Cannot}
 use Rattle.walk_least_depth.proofs.NeedRooms.{front_length, knows_front, room_front, room_more}
 
 -- ---- outcomes by depth
@@ -125,7 +126,7 @@ module _ (r : Reading) (list pool text : List ℕ) (openings : ℕ) where
           record { v = g.v; whole = []; begun = openings; size = g.at_base; came = mine.came most (le_refl _); room = g.sum }
 
       -- the walk between two openings came on
-      module _ {new kept : List ℕ} {x : Reached}
+      module _ {new kept : List ℕ} {x : Result Reached Stop}
           (f : FlatKeeps (level_of (plain_at r most) list pool text) r.base (place_of at len made) [] (take 84 words) new kept x) where
         pub back_size : length kept ≡ 84
         back_size = f.words ∙ front_size
@@ -136,10 +137,10 @@ module _ (r : Reading) (list pool text : List ℕ) (openings : ℕ) where
         back_knows : Knows S list pool old → Knows S list pool (kept ++ drop 84 words)
         back_knows k = knows_front S list pool kept words back_size (t.known k)
 
-        abbrev told : {y : Reached} → x ≡ y → FlatKeeps (level_of (plain_at r most) list pool text) r.base (place_of at len made) [] (take 84 words) new kept y
-        told q = subst (λ (y : Reached). FlatKeeps (level_of (plain_at r most) list pool text) r.base (place_of at len made) [] (take 84 words) new kept y) q f
+        abbrev told : {y : Result Reached Stop} → x ≡ y → FlatKeeps (level_of (plain_at r most) list pool text) r.base (place_of at len made) [] (take 84 words) new kept y
+        told q = subst (λ (y : Result Reached Stop). FlatKeeps (level_of (plain_at r most) list pool text) r.base (place_of at len made) [] (take 84 words) new kept y) q f
 
-        pub turn_end : {len-all now : ℕ} → x ≡ End len-all now
+        pub turn_end : {len-all now : ℕ} → x ≡ Ok (End len-all now)
             → NeedKeeps S list pool r.base r.depth all old (kept ++ drop 84 words) (Found most now len-all)
         unfolding enough_same
         turn_end {len-all} {now} q =
@@ -164,25 +165,27 @@ module _ (r : Reading) (list pool text : List ℕ) (openings : ℕ) where
             done_value : {u w : List ℕ} {m n : ℕ} → done u m ≡ done w n → u ≡ w
             done_value {u} {w} {m} {n} z = cc
 
-        pub turn_stopped : {number a b now : ℕ} → x ≡ Stopped number a b now
-            → NeedKeeps S list pool r.base r.depth all old (kept ++ drop 84 words) (Cannot number a b)
-        turn_stopped {number} {a} {b} {now} q =
-            record {
+        pub turn_stopped : {stop : Stop} {handed : Need} → x ≡ Err stop
+            → handed ≡ Cannot (number_of stop.refusal) (first_of stop.refusal) (second_of stop.refusal)
+            → NeedKeeps S list pool r.base r.depth all old (kept ++ drop 84 words) handed
+        turn_stopped {stop} q h =
+            subst (λ (y : Need). NeedKeeps S list pool r.base r.depth all old (kept ++ drop 84 words) y) (sym h)
+            (record {
               words = back_length;
               tells =
                   refusal_same (all_left r.depth)
-                  (needs_refused level refl g.v [] refl openings r.base g.at_base mine r.depth number a b now t.allowed (told q));
-            }
+                  (needs_refused level refl g.v [] refl openings r.base g.at_base mine r.depth stop t.allowed (told q));
+            })
 
         -- with a memory nothing is paused at
-        pub never_paused : {i before now : ℕ} → x ≡ Paused i before now → ⊥
+        pub never_paused : {i before now : ℕ} → x ≡ Ok (Paused (place_of i before now)) → ⊥
         never_paused q =
             let o = (told q).onward in
             omega (arith, front_size, o.2)
 
         -- ---- an opening
 
-        module _ (sound : Sound S list pool) {i next command slot before now : ℕ} (q : x ≡ Opening i next command slot before now) where
+        module _ (sound : Sound S list pool) {i next command slot before now : ℕ} (q : x ≡ Ok (Opening i next command slot before now)) where
           abbrev txt : List ℕ
           txt = command_text list pool command
 
@@ -321,13 +324,14 @@ module _ (r : Reading) (list pool text : List ℕ) (openings : ℕ) where
             tells_of to = subst (λ (z : Need). Tells S list pool (r.base + before) (r.depth - 1) (λ e. walk S S.inner e txt (now + 1)) (kept ++ drop 84 words) after z) to k.tells
 
             -- and refused
-            pub turn_refused : {number a b : ℕ} → y ≡ Cannot number a b → NeedKeeps S list pool r.base r.depth all old after y
-            turn_refused {number} {a} {b} to =
+            pub turn_refused : {number a b : ℕ} {handed : Need} → y ≡ Cannot number a b → handed ≡ Cannot number a b
+                → NeedKeeps S list pool r.base r.depth all old after handed
+            turn_refused {number} {a} {b} to h =
                 let o = opens_for g.v g.at_base g.room r.depth t.allowed in
                 let x = tells_of to in
                 let c = came_refused (at_depth r.depth level) g.v [] openings o.came x.before x.made
                 (o.is ∙ ap (λ (w : Outcome). followed w (λ n. left (at_depth r.depth level) next n)) x.is) in
-                subst (λ (z : Need). NeedKeeps S list pool r.base r.depth all old after z) (sym to)
+                subst (λ (z : Need). NeedKeeps S list pool r.base r.depth all old after z) (sym h)
                 (record {
                   words = opened_words;
                   tells = record { before = c.before; made = x.made; is = sym (all_left r.depth) ∙ c.outcome };

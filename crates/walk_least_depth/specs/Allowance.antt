@@ -1,9 +1,8 @@
 -- The terms in which the recursion of the least depth is proved: what it is lent, what it tells. No promise of a call rests on them.
 -- Assumes nothing.
-use Rattle.std.specs.Prelude.{ℕ, ◌+◌, ◌-◌, ◌*◌, ◌≤◌, ◌<◌, ◌≡◌, Bool, List, ◌++◌, length, get_or, set, take, eqb, ltb}
+use Rattle.std.specs.Prelude.{ℕ, ◌+◌, ◌-◌, ◌*◌, ◌≤◌, ◌<◌, ◌≡◌, Bool, List, ◌++◌, length, get_or, set, take, eqb, ltb, Result, Ok, Err}
 use Rattle.text.specs.Bytes.{pick}
-use Rattle.text.specs.declared.Answer.{Answer}
-use Rattle.text.specs.declared.Answer.TheVariants.{Done, Refused}
+use Rattle.text.specs.Answers.{Answer, Done, Refused}
 use Rattle.text.specs.Utf8.{WellFormed}
 use Rattle.entity.specs.Commands.{command_text, Defines}
 use Rattle.tokens.specs.Outcome.{Outcome}
@@ -13,9 +12,9 @@ use Rattle.memory.specs.Slots.{slot_of, Stands, Memory}
 use Rattle.memory.specs.Levels.{settings_by}
 use Rattle.memory.specs.declared.Reading.{Reading}
 use Rattle.walk_depths.specs.Summary.{Enough, Refusal, Known}
-use Rattle.walk_least_depth.specs.declared.Need.{Need}
-use Rattle.walk_least_depth.specs.declared.Need.TheVariants.{Cannot}
-use Rattle.walk_least_depth.specs.declared.Need.TheVariants.{Enough as Found}
+use Rattle.text.specs.Refusals.{number_of, first_of, second_of}
+use Rattle.text.specs.declared.refusals.Refusal.{Refusal as Refused_by}
+use Rattle.walk_least_depth.specs.declared.Least.{Least}
 
 -- ---- what the code's numbers mean
 
@@ -93,6 +92,16 @@ pub record Small (r : Reading) (text : List ℕ) : Type 0 where
 pub record Counts (s : Settings) (list pool : List ℕ) (base allowance : ℕ) (o : ℕ → Outcome) (seen kept : List ℕ) (depth openings len : ℕ) : Type 0 where
   pub enough : Enough allowance depth openings len o
   pub room : (v : List ℕ) → length v ≡ base → Room s list pool v seen → Room s list pool (v ++ enough.value) kept
+
+-- the least depth, the openings of the whole walk so far, and the length; or the refusal at the allowance
+pub data Need : Type 0 where
+  Found : ℕ → ℕ → ℕ → Need
+  Cannot : ℕ → ℕ → ℕ → Need
+
+-- the code's result
+abbrev pub needed : Result Least Refused_by → Need
+needed (Ok least) = Found least.depth least.openings least.len
+needed (Err refusal) = Cannot (number_of refusal) (first_of refusal) (second_of refusal)
 
 abbrev pub Tells : Settings → List ℕ → List ℕ → ℕ → ℕ → (ℕ → Outcome) → List ℕ → List ℕ → Need → Type 0
 Tells s list pool base allowance o seen kept (Found depth openings len) = Counts s list pool base allowance o seen kept depth openings len

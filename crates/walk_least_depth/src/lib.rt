@@ -4,6 +4,7 @@
 #![tactic(auto)]
 
 ghost use Rattle.std.specs.Prelude.{◌≡◌, true, List, ℕ, ◌+◌, ◌≤◌, ◌<◌, max, eqb, length};
+ghost use Rattle.text.specs.Call.{answered};
 ghost use Rattle.text.specs.Version.{rule_of};
 ghost use Rattle.text.specs.Simple.{Simple};
 ghost use Rattle.text.specs.Utf8.{WellFormed};
@@ -11,59 +12,45 @@ ghost use Rattle.halts.specs.Halts.{Smooth};
 ghost use Rattle.entity.specs.Table.{marked, ValidTable};
 ghost use Rattle.attribute.specs.Walk.{Settings, walk, reading_of};
 ghost use Rattle.attribute.specs.Steps.{read_by};
-ghost use Rattle.walk_least_depth.specs.declared.Need.TheVariants.{Cannot};
 ghost use Rattle.walk_least_depth.specs.Allowance.{plain_at, inner_at, settings_for, outcomes, known_in, IsKnown, Asks, Remembers};
-ghost use Rattle.walk_least_depth.specs.Allowance.{Begins, Small, NeedOf, Says, how_for, allowed_for, least_answer};
+ghost use Rattle.walk_least_depth.specs.Allowance.{needed, Begins, Small, NeedOf, Says, how_for, allowed_for, least_answer};
 ghost use Rattle.walk_depths.specs.LeastDepth.{least_depth};
 
 use memory::{Place, Reached, Reading};
-use text::{Answer, refusals};
+use text::refusals::Refusal;
+use text::{Answer, PASSED, Success};
 
-// The least depth, the openings of the whole walk so far, and the length; or the refusal at the allowance.
-#[derive(Drop)]
-pub enum Need {
-    Enough {
-        depth: u64,
-        openings: u64,
-        len: usize,
-    },
-    Cannot {
-        number: u32,
-        first: u64,
-        second: u64,
-    },
+// The least depth, the openings of the whole walk so far, and the length.
+#[derive(Clone, Copy)]
+pub struct Least {
+    pub depth: u64,
+    pub openings: u64,
+    pub len: usize,
 }
 
-fn too_deep() -> Need
-    ensures { result ≡ Cannot 16 0 0 }
-{
-    Need::Cannot {
-        number: refusals::TOO_DEEP,
-        first: 0,
-        second: 0,
-    }
-}
+// That, or the refusal at the allowance.
+pub type Need = Result<Least, Refusal>;
 
 // A text without halts: its length, at depth 0 where it has no stop, else at depth 1.
 fn smooth_need(text: &[u8], openings: u64, newer: bool, allowance: u64) -> Need
     requires { Smooth newer text.now 0 (length text.now) }
-    ensures { (s : Settings) (how : ℕ) → eqb how 1 ≡ newer → Says allowance (λ d. walk s (read_by how 0) d text.now openings) result }
+    ensures { (s : Settings) (how : ℕ) → eqb how 1 ≡ newer → Says allowance (λ d. walk s (read_by how 0) d text.now openings) (needed result) }
 {
     if !halts::has_stop(text, newer) {
-        return Need::Enough {
+        return Ok(Least {
             depth: 0,
             openings,
             len: text.len(),
-        };
+        });
     }
     if allowance == 0 {
-        return too_deep();
+        return Err(Refusal::TooDeep);
     }
-    Need::Enough {
+    Ok(Least {
         depth: 1,
         openings,
         len: text.len(),
-    }
+    })
 }
 
 // What the walk between two openings is set to: the same reading at the depth that was enough so far.
@@ -97,12 +84,6 @@ pub fn one_less(allowed: Reading, before: usize) -> Reading
         limit: allowed.limit,
         base: allowed.base + before,
     }
-}
-
-fn greater(a: u64, b: u64) -> u64
-    ensures { result ≡ max a b }
-{
-    if a < b { b } else { a }
 }
 
 // ---- what is known of a text: 64 words after the walk's own 84, in one room. For each slot the command plus 1, the least depth of a text that refers to
@@ -158,7 +139,7 @@ pub fn least_depth(
     requires valid_table { ValidTable list.now pool.now }
     requires small { Small allowed text.now }
     requires begins { Begins (settings_for allowed list.now pool.now) list.now pool.now text.now room.old allowed.base openings }
-    ensures { NeedOf allowed list.now pool.now text.now openings room.old room.new result }
+    ensures { NeedOf allowed list.now pool.now text.now openings room.old room.new (needed result) }
 {
     let newer = allowed.how == 1;
     let mut first = halts::next_halt(text, 0, newer);
@@ -166,13 +147,14 @@ pub fn least_depth(
         return smooth_need(text, openings, newer, allowed.depth);
     }
     if allowed.depth == 0 {
-        return too_deep();
+        return Err(Refusal::TooDeep);
     }
     let mut at: usize = 0;
     let mut len: usize = 0;
     let mut made = openings;
     let mut most: u64 = 1;
     let mut none = [0u8; 1];
+    // By hand: a turn begins where the one before it came to a text to open.
     loop {
         match flat::normalize_flat(
             text,
@@ -187,34 +169,18 @@ pub fn least_depth(
             pool,
             &mut room[..84],
             &mut none[..0],
-        ) {
+        )? {
             Reached::End { len: all, openings } => {
-                return Need::Enough {
+                return Ok(Least {
                     depth: most,
                     openings,
                     len: all,
-                };
+                });
             }
-            Reached::Stopped {
-                number,
-                first: a,
-                second,
-                openings: _,
-            } => {
-                return Need::Cannot {
-                    number,
-                    first: a,
-                    second,
-                };
-            }
-            Reached::Paused {
-                at: from,
-                len: before,
-                openings,
-            } => {
-                at = from;
-                len = before;
-                made = openings;
+            Reached::Paused(here) => {
+                at = here.at;
+                len = here.len;
+                made = here.openings;
                 first = halts::next_halt(text, at, newer);
             }
             Reached::Opening {
@@ -226,7 +192,7 @@ pub fn least_depth(
                 openings,
             } => {
                 if is_known(command, slot, openings, allowed, room) {
-                    most = greater(most, room[slot + 100]);
+                    most = most.max(room[slot + 100]);
                     made = openings + room[slot + 132];
                     len = before + room[slot + 116] as usize;
                     at = next;
@@ -241,27 +207,19 @@ pub fn least_depth(
                         list,
                         pool,
                         room,
-                    );
-                    let Need::Enough {
-                        depth,
-                        openings: now_made,
-                        len: more,
-                    } = found
-                    else {
-                        return found;
-                    };
+                    )?;
                     keep_text(
                         command,
                         slot,
-                        depth + 1,
+                        found.depth + 1,
                         allowed.base + before,
-                        more,
-                        now_made - openings,
+                        found.len,
+                        found.openings - openings,
                         room,
                     );
-                    most = greater(most, depth + 1);
-                    made = now_made;
-                    len = before + more;
+                    most = most.max(found.depth + 1);
+                    made = found.openings;
+                    len = before + found.len;
                     at = next;
                     first = halts::next_halt(text, at, newer);
                 }
@@ -275,7 +233,7 @@ pub fn need_of(text: &[u8], openings: u64, allowed: Reading, list: &[u8], pool: 
     requires valid_table { ValidTable list.now pool.now }
     requires base_value { (allowed.base ≡ 0) × (openings ≤ allowed.limit) × Small allowed text.now }
     requires well_formed { WellFormed text.now }
-    ensures { Says allowed.depth (outcomes allowed list.now pool.now text.now openings) result }
+    ensures { Says allowed.depth (outcomes allowed list.now pool.now text.now openings) (needed result) }
 {
     let mut room = [0u64; 148];
     least_depth(text, openings, allowed, list, pool, &mut room)
@@ -283,40 +241,17 @@ pub fn need_of(text: &[u8], openings: u64, allowed: Reading, list: &[u8], pool: 
 
 // ---- the call
 
-// Even depth 128 is used up.
-pub const NO_DEPTH: u32 = 32;
-
 // 32 in place of the 16 of depth 128.
 fn answer_of(need: Need) -> Answer
-    ensures { result ≡ least_answer need }
+    ensures { answered result ≡ least_answer (needed need) }
 {
     match need {
-        Need::Enough {
-            depth,
-            openings: _,
-            len: _,
-        } => Answer::Done {
-            first: depth,
+        Ok(enough) => Ok(Success {
+            first: enough.depth,
             second: 0,
-        },
-        Need::Cannot {
-            number,
-            first,
-            second,
-        } => {
-            if number == refusals::TOO_DEEP {
-                return Answer::Refused {
-                    number: NO_DEPTH,
-                    first: 0,
-                    second: 0,
-                };
-            }
-            Answer::Refused {
-                number,
-                first,
-                second,
-            }
-        }
+        }),
+        Err(Refusal::TooDeep) => Err(Refusal::NoDepth),
+        Err(refusal) => Err(refusal),
     }
 }
 
@@ -359,13 +294,10 @@ pub fn least_of(
     requires text_len_bound { length text.now ≤ 16777216 }
     requires limit_bound { limit ≤ 1000000 }
     requires well_formed { WellFormed text.now }
-    ensures { result ≡ least_depth (reading_of (rule_of version) list.now pool.now limit) text.now }
+    ensures { answered result ≡ least_depth (reading_of (rule_of version) list.now pool.now limit) text.now }
 {
     if simple {
-        return Answer::Done {
-            first: 0,
-            second: 0,
-        };
+        return Ok(PASSED);
     }
     let newer = 1 < version;
     if halts::next_halt(text, 0, newer) == text.len() {

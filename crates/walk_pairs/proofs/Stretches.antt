@@ -17,7 +17,10 @@ use Rattle.tokens.specs.Outcome.{Outcome, done, refused, prepend, followed}
 use Rattle.attribute.specs.Walk.{Settings, walk}
 use Rattle.memory.specs.Slots.{opening, shaped, slot_of, Stands, Kept, Memory}
 use Rattle.memory.specs.Levels.{Level, at_depth, left, Came, Whole, Opens, FlatKeeps}
-use Rattle.memory.specs.declared.Reached.TheVariants.{End, Opening, Stopped}
+use Rattle.memory.specs.declared.Reached.TheVariants.{End, Opening}
+use Rattle.memory.specs.declared.Stop.{Stop}
+use Rattle.text.specs.Refusals.{number_of}
+use Rattle.std.specs.Prelude.{Ok, Err}
 use Rattle.memory.proofs.Slots.{opening_one, opening_within, opening_deeper, stands_opened}
 use Rattle.memory.proofs.Levels.{place_of, Sound, opening_brief, opening_utf8, came_start, came_memory, came_on, opens_place, text_short}
 use Rattle.memory.proofs.Keeping.{memory_none, memory_start, memory_more, memory_kept}
@@ -98,20 +101,20 @@ module _ (l : Level) (plain : l.form ≡ 0) (e : ℕ) where
 
   module _ {words : List ℕ} {i len made : ℕ} (n : Stretch l e words i len made) where
     -- the text's end
-    pub stretch_end : {all now : ℕ} {new kept : List ℕ} → FlatKeeps (at_depth e l) 0 (place_of i len made) [] words new kept (End all now) → Gives l e (sized all now)
+    pub stretch_end : {all now : ℕ} {new kept : List ℕ} → FlatKeeps (at_depth e l) 0 (place_of i len made) [] words new kept (Ok (End all now)) → Gives l e (sized all now)
     unfolding summary
     stretch_end {all} {now} {new} {kept} f d le =
         let here : Whole (at_depth d l) [] [] 0 new kept all now = f.reaches d le [] [] 0 refl (n d le) in
         ap summary here.outcome ∙ ap (λ (x : ℕ). sized x now) (sym (ap length (plainly here.value)) ∙ here.size)
 
     -- a refusal, and the openings made until then
-    pub stretch_refused : {number first second then : ℕ} {new kept : List ℕ}
-        → FlatKeeps (at_depth e l) 0 (place_of i len made) [] words new kept (Stopped number first second then) → Gives l e (fails number then)
+    pub stretch_refused : {stop : Stop} {new kept : List ℕ}
+        → FlatKeeps (at_depth e l) 0 (place_of i len made) [] words new kept (Err stop) → Gives l e (fails (number_of stop.refusal) stop.openings)
     unfolding summary
     stretch_refused f d le = ap summary (f.reaches d le [] [] 0 refl (n d le)).outcome
 
     pub stretch_stands : {at next command slot before now : ℕ} {new kept : List ℕ}
-        → FlatKeeps (at_depth e l) 0 (place_of i len made) [] words new kept (Opening at next command slot before now)
+        → FlatKeeps (at_depth e l) 0 (place_of i len made) [] words new kept (Ok (Opening at next command slot before now))
         → AtReference l e kept at next command slot before now
     stretch_stands {at} {next} {command} {slot} {before} {now} {new} {kept} f d le =
         subst (λ (x : List ℕ). Opens (at_depth d l) [] [] 0 x kept at next command slot before now) (empty new f.buffer)

@@ -1,17 +1,16 @@
 -- K11's definitions on the smallest inputs, each a case that is easily misread. Assumes nothing.
 use mathlib.Core.Path.{◌≡◌, refl}
 use mathlib.Core.Bool.{true, false}
-use mathlib.Core.List.{List, [], ◌∷◌}
+use mathlib.Core.List.{[], ◌∷◌}
 use Prim.Native.Nat.{ℕ}
 use lib.ListN.{replicate}
-use Rattle.text.specs.Call.{passed, length_check, version_check, utf8_check}
+use Rattle.text.specs.Call.{length_check, version_check, utf8_check}
 use Rattle.text.specs.Utf8.{utf8_end}
-use Rattle.text.specs.declared.Answer.{Answer}
-use Rattle.text.specs.declared.Answer.TheVariants.{Refused}
+use Rattle.text.specs.Answers.{Refused}
 use Rattle.entity.specs.Table.{table_check}
 use Rattle.attribute.specs.Checks.{settings_check}
 use Rattle.walk_rehearsal.specs.declared.Span.{Span}
-use Rattle.walk_rehearsal.specs.declared.Verdict.TheVariants.{Accepted, Fallen}
+use Rattle.walk_rehearsal.specs.Rehearsal.{Accepted, Fallen}
 use Rattle.walk_rehearsal.specs.Rehearsal.{leaves_text, inside, spans_check, counted}
 use Rattle.walk_rehearsal.specs.Turns.{job_check}
 

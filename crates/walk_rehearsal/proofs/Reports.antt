@@ -18,8 +18,8 @@ use Rattle.tokens.specs.Outcome.{Outcome, done, refused}
 use Rattle.attribute.specs.Walk.{Settings, normalize}
 use Rattle.walk_rehearsal.specs.declared.Span.{Span}
 use Rattle.walk_rehearsal.specs.declared.Job.{Job}
-use Rattle.walk_rehearsal.specs.declared.Verdict.{Verdict}
-use Rattle.walk_rehearsal.specs.declared.Verdict.TheVariants.{Accepted, Fallen}
+use Rattle.walk_rehearsal.specs.Rehearsal.{Verdict}
+use Rattle.walk_rehearsal.specs.Rehearsal.{Accepted, Fallen}
 use Rattle.walk_rehearsal.specs.Rehearsal.{bytes_of, verdict, verdict_of, raised, counted, counted_over, report}
 use Rattle.walk_rehearsal.specs.Counts.{share, summed, first_words}
 use Rattle.walk_rehearsal.specs.Turns.{settings_of, Modest, Within, Reads, Turn}

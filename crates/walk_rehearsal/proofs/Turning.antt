@@ -3,18 +3,17 @@
 use mathlib.Core.Path.{◌≡◌, refl, sym, ap, subst, ◌∙◌}
 use mathlib.Core.Bool.{Bool, true, false}
 use mathlib.Core.List.{List, [], ◌∷◌}
-use Prim.Native.Nat.{ℕ, zero, suc, ◌+◌, ◌-◌, ◌≤◌, ◌<◌}
+use Prim.Native.Nat.{ℕ, suc, ◌+◌, ◌-◌, ◌≤◌, ◌<◌}
 use native.Mathlib.Omega.{arith}
 use native.Mathlib.Numerals.{add-one}
-use lib.Dec.{eqb, ltb}
+use lib.Dec.{ltb}
 use lib.ListN.{length, get_or, take, drop, replicate}
 use lib.Seq.{take-length}
-use borrow.Author.Tests.{ltb-true, ltb-false}
+use borrow.Author.Tests.{ltb-false}
 use Rattle.text.specs.Bytes.{pick}
-use Rattle.text.specs.Call.{Called, called, call_of, passed, and_then, guarded, argument_check, length_check, utf8_check}
+use Rattle.text.specs.Call.{answered, Called, called, call_of, passed, and_then, guarded, argument_check, length_check, utf8_check}
 use Rattle.text.specs.Version.{rule_of}
-use Rattle.text.specs.declared.Answer.{Answer}
-use Rattle.text.specs.declared.Answer.TheVariants.{Done, Refused}
+use Rattle.text.specs.Answers.{Answer, Done, Refused}
 use Rattle.text.proofs.Call.{checked_length}
 use Rattle.entity.specs.Table.{table_check, ValidTable}
 use Rattle.entity.proofs.Tables.{checked_table}
@@ -23,8 +22,8 @@ use Rattle.attribute.specs.Walk.{reading_of}
 use Rattle.attribute.proofs.Checked.{checked_settings}
 use Rattle.walk_rehearsal.specs.declared.Span.{Span}
 use Rattle.walk_rehearsal.specs.declared.Job.{Job}
-use Rattle.walk_rehearsal.specs.Rehearsal.{inside, spans_by, spans_check, verdict_of, bytes_of, counted, counted_over, report}
-use Rattle.walk_rehearsal.specs.Turns.{job_check, job_for, cleared_by, Begins, settings_of, Within, Ready, Turn}
+use Rattle.walk_rehearsal.specs.Rehearsal.{inside, spans_by, spans_check, counted_over, report}
+use Rattle.walk_rehearsal.specs.Turns.{job_check, Started, started, job_for, cleared_by, Begins, settings_of, Within, Ready, Turn}
 use Rattle.walk_rehearsal.proofs.Spans.{no_span, drop_next, stays_inside}
 use Rattle.walk_rehearsal.proofs.Reports.{within_start}
 
@@ -105,8 +104,8 @@ module _ (text : List ℕ) (version depth limit : ℕ) (list pool : List ℕ) (y
   abbrev checked : Answer
   checked = job_check text version depth limit list pool (length ys) staying
 
-  pub count_most : (j : Job) → j ≡ job_for checked version depth limit (length ys) → j.count ≤ length ys
-  count_most j e = subst (λ (k : Job). k.count ≤ length ys) (sym e) (go checked)
+  pub count_most : (j : Job) → started j ≡ job_for checked version depth limit (length ys) → j.count ≤ length ys
+  count_most j e = subst (λ (k : Started). k.count ≤ length ys) (sym e) (go checked)
     where
       go : (a : Answer) → (job_for a version depth limit (length ys)).count ≤ length ys
       go (Done x y) = omega arith
@@ -116,10 +115,10 @@ module _ (text : List ℕ) (version depth limit : ℕ) (list pool : List ℕ) (y
   same_limit (Done x y) = refl
   same_limit (Refused number x y) = refl
 
-  pub standing : (j : Job) → j ≡ job_for checked version depth limit (length ys) → staying ≡ inside (length text) ys → 0 < j.count → Standing text j list pool ys
+  pub standing : (j : Job) → started j ≡ job_for checked version depth limit (length ys) → staying ≡ inside (length text) ys → 0 < j.count → Standing text j list pool ys
   standing j e at h =
       let settings = settings_check version depth limit in
-      let passes = counts_passed checked version depth limit (length ys) (subst (λ (k : Job). 0 < k.count) e h) in
+      let passes = counts_passed checked version depth limit (length ys) (subst (λ (k : Started). 0 < k.count) e h) in
       let walk = both (and_then (argument_check text settings) (table_check list pool)) (spans_by (length ys) staying) passes in
       let parts = both (argument_check text settings) (table_check list pool) walk.0 in
       let table = parts.1 in
@@ -130,44 +129,47 @@ module _ (text : List ℕ) (version depth limit : ℕ) (list pool : List ℕ) (y
       record {
         valid = checked_table list pool refl table.is;
         short = checked_length text (and_then settings (utf8_check text)) arguments.is;
-        limited = subst (λ (n : ℕ). n ≤ 1000000) (sym (ap (λ (k : Job). k.limit) e ∙ same_limit checked)) (checked_settings version depth limit set.is).1;
+        limited = subst (λ (n : ℕ). n ≤ 1000000) (sym (ap (λ (k : Started). k.limit) e ∙ same_limit checked)) (checked_settings version depth limit set.is).1;
         few = few.0;
         stays = stays_inside (length text) ys (subst (λ (n : ℕ). length ys ≤ n) at few.1);
       }
 
   pub begun_within : (j : Job) (words after : List ℕ) → Begins checked version depth limit (length ys) words j after → 0 < j.count → Within 0 after
   begun_within j words after b h =
-      let passes = counts_passed checked version depth limit (length ys) (subst (λ (k : Job). 0 < k.count) b.job h) in
+      let passes = counts_passed checked version depth limit (length ys) (subst (λ (k : Started). 0 < k.count) b.job h) in
       subst (Within 0) (sym (b.cleared ∙ ap (λ (a : Answer). cleared_by a words) passes.is)) within_start
 
   -- ---- the end
 
   -- number, words and report are those of the refusal, or 0, 0, 0 and the report of all spans
   pub rehearsed : (j : Job) (words start : List ℕ) → Begins checked version depth limit (length ys) words j start → staying ≡ inside (length text) ys
-      → {r : ℕ} {ws : List ℕ} {last : List ℕ} → r ≡ j.number → ws ≡ j.first ∷ j.second ∷ [] → over text j list pool ys 0 start ≡ last
+      → {r : ℕ} {ws : List ℕ} {last : List ℕ} → called r ws (last ∷ []) ≡ call_of (answered j.answer) (last ∷ [])
+      → over text j list pool ys 0 start ≡ last
       → called r ws (last ∷ [])
       ≡ guarded (and_then (and_then (argument_check text (settings_check version depth limit)) (table_check list pool)) (spans_check (length text) ys)) (words ∷ [])
       (called 0 (0 ∷ 0 ∷ []) (report (reading_of (rule_of version) list pool limit) depth text ys ∷ []))
   unfolding spans_check report counted_over
-  rehearsed j words start b at {r} {ws} {last} er ew el =
-      rw (er, ew, sym el)
-      (ap (λ (k : Job). called k.number (k.first ∷ k.second ∷ []) (over text k list pool ys 0 start ∷ [])) b.job
-      ∙ ap (λ (w : List ℕ). ends_so w) b.cleared
+  rehearsed j words start b at {r} {ws} {last} put_so el =
+      put_so
+      ∙ ap (λ (w : List ℕ). call_of (answered j.answer) (w ∷ [])) (sym el)
+      ∙ ap (λ (k : Started). call_of k.answer (over_so k start ∷ [])) b.job
+      ∙ ap (λ (w : List ℕ). ends_by checked w) b.cleared
       ∙ go checked
-      ∙ ap (λ (n : ℕ). finally n) at)
+      ∙ ap (λ (n : ℕ). finally n) at
     where
       finally : ℕ → Called
       finally n =
           guarded (job_check text version depth limit list pool (length ys) n) (words ∷ [])
           (called 0 (0 ∷ 0 ∷ []) (report (reading_of (rule_of version) list pool limit) depth text ys ∷ []))
 
+      -- what all spans of a job that starts so make of the words
+      over_so : Started → List ℕ → List ℕ
+      over_so k w = counted_over (reading_of (rule_of k.version) list pool k.limit) k.depth text (take (k.count - 0) (drop 0 ys)) w
+
       ends_by : Answer → List ℕ → Called
       ends_by a w =
           let k = job_for a version depth limit (length ys) in
-          called k.number (k.first ∷ k.second ∷ []) (over text k list pool ys 0 w ∷ [])
-
-      ends_so : List ℕ → Called
-      ends_so w = ends_by checked w
+          call_of k.answer (over_so k w ∷ [])
 
       go : (a : Answer) → ends_by a (cleared_by a words)
           ≡ guarded a (words ∷ []) (called 0 (0 ∷ 0 ∷ []) (report (reading_of (rule_of version) list pool limit) depth text ys ∷ []))

@@ -1,6 +1,6 @@
 -- The verdict on a value: an answer without room gives it (`verdict_read`), a simple text is its own value (`verdict_simple`), one that is not
 -- UTF-8 falls by 5 (`verdict_utf8`), and every verdict is modest (`verdict_modest`, `reads_so`). Assumes nothing.
-use mathlib.Core.Path.{◌≡◌, refl, sym, ap, subst, ◌∙◌}
+use mathlib.Core.Path.{◌≡◌, refl, sym, subst}
 use mathlib.Core.Bool.{Bool, true, false}
 use mathlib.Core.List.{List, []}
 use Prim.Native.Nat.{ℕ, ◌≤◌, ◌<◌}
@@ -10,7 +10,7 @@ use lib.ListN.{length, get_or}
 use Rattle.text.specs.Bytes.{pick}
 use Rattle.text.specs.Utf8.{well_formed, WellFormed, utf8_end}
 use Rattle.text.specs.Version.{Rule, rule_of}
-use Rattle.text.specs.declared.Answer.TheVariants.{Done, Refused}
+use Rattle.text.specs.Answers.{Done, Refused}
 use Rattle.text.proofs.Bytes.{pick_both}
 use Rattle.text.proofs.Utf8.{tested, testable}
 use Rattle.text.proofs.Longest.{whole_end}
@@ -23,8 +23,8 @@ use Rattle.attribute.proofs.Values.{table_length, openings_within}
 use Rattle.normalize.specs.declared.Wanted.{Wanted}
 use Rattle.normalize.specs.Calls.{outcome_for}
 use Rattle.walk_rehearsal.specs.declared.Job.{Job}
-use Rattle.walk_rehearsal.specs.declared.Verdict.{Verdict}
-use Rattle.walk_rehearsal.specs.declared.Verdict.TheVariants.{Accepted, Fallen}
+use Rattle.walk_rehearsal.specs.Rehearsal.{Verdict}
+use Rattle.walk_rehearsal.specs.Rehearsal.{Accepted, Fallen}
 use Rattle.walk_rehearsal.specs.Rehearsal.{verdict, verdict_of}
 use Rattle.walk_rehearsal.specs.Turns.{verdict_by, settings_of, Modest, Reads}
 use Rattle.walk_rehearsal.proofs.WalkNumbers.{Numbered, normalize_numbered}

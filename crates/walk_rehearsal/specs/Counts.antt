@@ -2,8 +2,8 @@
 use Rattle.std.specs.Prelude.{ℕ, zero, suc, ◌+◌, List, [], ◌∷◌, eqb, get_or}
 use Rattle.text.specs.Bytes.{pick}
 use Rattle.walk_rehearsal.specs.declared.Span.{Span}
-use Rattle.walk_rehearsal.specs.declared.Verdict.{Verdict}
-use Rattle.walk_rehearsal.specs.declared.Verdict.TheVariants.{Accepted, Fallen}
+use Rattle.walk_rehearsal.specs.Rehearsal.{Verdict}
+use Rattle.walk_rehearsal.specs.Rehearsal.{Accepted, Fallen}
 
 -- what a verdict adds to word j
 abbrev pub share : ℕ → Verdict → ℕ

@@ -1,16 +1,26 @@
 -- The rehearsal of a job (document 02, K11). Assumes nothing.
-use Rattle.std.specs.Prelude.{ℕ, zero, suc, ◌+◌, Bool, List, [], ◌∷◌, ltb, length, get_or, set, replicate}
+use Rattle.std.specs.Prelude.{ℕ, suc, ◌+◌, Bool, List, [], ◌∷◌, ltb, length, get_or, set, replicate, Result, Ok, Err}
 use Rattle.text.specs.Bytes.{pick}
 use Rattle.text.specs.Utf8.{well_formed}
 use Rattle.text.specs.Call.{passed}
-use Rattle.text.specs.declared.Answer.{Answer}
-use Rattle.text.specs.declared.Answer.TheVariants.{Refused}
+use Rattle.text.specs.Answers.{Answer}
+use Rattle.text.specs.Answers.{Refused}
 use Rattle.entity.specs.Table.{part}
 use Rattle.tokens.specs.Outcome.{Outcome, done, refused}
 use Rattle.attribute.specs.Walk.{Settings, normalize}
 use Rattle.walk_rehearsal.specs.declared.Span.{Span}
-use Rattle.walk_rehearsal.specs.declared.Verdict.{Verdict}
-use Rattle.walk_rehearsal.specs.declared.Verdict.TheVariants.{Accepted, Fallen}
+use Rattle.text.specs.Refusals.{number_of}
+use Rattle.text.specs.declared.refusals.Refusal.{Refusal}
+
+-- how a value fares: the length of its normalized value, or the number of its refusal
+pub data Verdict : Type 0 where
+  Accepted : ℕ → Verdict
+  Fallen : ℕ → Verdict
+
+-- the code's verdict
+abbrev pub fared : Result ℕ Refusal → Verdict
+fared (Ok length) = Accepted length
+fared (Err refusal) = Fallen (number_of refusal)
 
 -- K11: does a span leave a text of that length? A sum of numbers, which does not wrap
 abbrev pub leaves_text : ℕ → Span → Bool

@@ -2,16 +2,16 @@
 use Rattle.std.specs.Prelude.{ℕ, suc, ◌+◌, ◌*◌, ◌≤◌, ◌≡◌, ◌&&◌, not, List, eqb, length, get_or, replicate}
 use Rattle.text.specs.Bytes.{pick}
 use Rattle.text.specs.Version.{rule_of}
-use Rattle.text.specs.Call.{and_then, argument_check}
-use Rattle.text.specs.declared.Answer.{Answer}
-use Rattle.text.specs.declared.Answer.TheVariants.{Done, Refused}
+use Rattle.text.specs.Call.{answered, and_then, passed, argument_check}
+use Rattle.text.specs.Answers.{Answer}
+use Rattle.text.specs.Answers.{Done, Refused}
 use Rattle.entity.specs.Table.{table_check, ValidTable}
 use Rattle.attribute.specs.Checks.{settings_check}
 use Rattle.attribute.specs.Walk.{Settings, reading_of}
 use Rattle.walk_rehearsal.specs.declared.Span.{Span}
 use Rattle.walk_rehearsal.specs.declared.Job.{Job}
-use Rattle.walk_rehearsal.specs.declared.Verdict.{Verdict}
-use Rattle.walk_rehearsal.specs.declared.Verdict.TheVariants.{Accepted, Fallen}
+use Rattle.walk_rehearsal.specs.Rehearsal.{Verdict}
+use Rattle.walk_rehearsal.specs.Rehearsal.{Accepted, Fallen}
 use Rattle.walk_rehearsal.specs.Rehearsal.{leaves_text, spans_by, bytes_of, verdict_of, counted}
 
 -- the span at index `at`, after which one more stays inside if all before it did
@@ -28,12 +28,24 @@ abbrev pub job_check : List ℕ → ℕ → ℕ → ℕ → List ℕ → List �
 job_check text version depth limit list pool count staying =
     and_then (and_then (argument_check text (settings_check version depth limit)) (table_check list pool)) (spans_by count staying)
 
+-- how a job starts: what it is set to, how many of its spans are to be read, and its answer
+pub record Started : Type 0 where
+  pub version : ℕ
+  pub depth : ℕ
+  pub limit : ℕ
+  pub count : ℕ
+  pub answer : Answer
+
+-- the code's job
+abbrev pub started : Job → Started
+started j = record { version = j.version; depth = j.depth; limit = j.limit; count = j.count; answer = answered j.answer }
+
 -- a job that was refused has no spans to read
-abbrev pub job_for : Answer → ℕ → ℕ → ℕ → ℕ → Job
+abbrev pub job_for : Answer → ℕ → ℕ → ℕ → ℕ → Started
 job_for (Done first second) version depth limit count =
-    record { version = version; depth = depth; limit = limit; count = count; number = 0; first = 0; second = 0 }
+    record { version = version; depth = depth; limit = limit; count = count; answer = passed }
 job_for (Refused number first second) version depth limit count =
-    record { version = version; depth = depth; limit = limit; count = 0; number = number; first = first; second = second }
+    record { version = version; depth = depth; limit = limit; count = 0; answer = Refused number first second }
 
 -- and its report stays as it was
 abbrev pub cleared_by : Answer → List ℕ → List ℕ
@@ -42,7 +54,7 @@ cleared_by (Refused number first second) words = words
 
 -- how a job starts
 pub record Begins (checked : Answer) (version depth limit count : ℕ) (words : List ℕ) (j : Job) (after : List ℕ) : Type 0 where
-  pub job : j ≡ job_for checked version depth limit count
+  pub job : started j ≡ job_for checked version depth limit count
   pub cleared : after ≡ cleared_by checked words
 
 -- how the values of a job are read

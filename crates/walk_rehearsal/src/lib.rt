@@ -3,12 +3,15 @@
 #![tactic(auto)]
 
 ghost use Rattle.std.specs.Prelude.{◌≡◌, true, List, [], ◌∷◌, ℕ, suc, ◌+◌, ◌≤◌, ◌<◌, length, get_or, replicate};
+ghost use Rattle.text.specs.Call.{answered};
 ghost use Rattle.entity.specs.Table.{ValidTable};
-ghost use Rattle.walk_rehearsal.specs.Rehearsal.{leaves_text, inside, spans_by, counted};
+ghost use Rattle.walk_rehearsal.specs.Rehearsal.{leaves_text, inside, spans_by, fared, counted};
 ghost use Rattle.walk_rehearsal.specs.Turns.{further_by, verdict_by, job_check, Begins, Reads, Countable, Ready, Turn};
 
 use normalize::Wanted;
-use text::{Answer, refusals, simple, validate};
+use text::refusals::Refusal;
+use text::{Answer, PASSED, simple, validate};
+use tokens::Buffer;
 
 // Where a value stands in the text of a job.
 #[repr(C)]
@@ -25,20 +28,11 @@ pub struct Job {
     pub depth: u64,
     pub limit: u64,
     pub count: usize,
-    pub number: u32,
-    pub first: u64,
-    pub second: u64,
+    pub answer: Answer,
 }
 
-// How a value fares: the length of its normalized value, or the number of its refusal.
-#[derive(Drop)]
-pub enum Verdict {
-    Accepted { length: u64 },
-    Fallen { number: u32 },
-}
-
-// Too many spans, or one that leaves the text.
-pub const SPAN_OUTSIDE: u32 = 31;
+// How a value fares: the length of its normalized value, or its refusal.
+pub type Verdict = Result<u64, Refusal>;
 
 // ---- spans that leave the text
 
@@ -73,57 +67,35 @@ pub fn leaving(spans: &[Span], size: usize) -> usize
     ensures { result ≡ inside size spans.now }
 {
     let mut staying: usize = 0;
-    let mut i: usize = 0;
-    while i < spans.len() {
-        let s = spans[i];
-        staying = further(size, s, i, staying);
-        i += 1;
+    for (i, s) in spans.iter().enumerate() {
+        staying = further(size, *s, i, staying);
     }
     staying
 }
 
 // 31, by the number of spans and how many stand before the first that leaves.
 fn check_spans(count: usize, staying: usize) -> Answer
-    ensures { result ≡ spans_by count staying }
+    ensures { answered result ≡ spans_by count staying }
 {
     if 65536 < count {
-        return Answer::Refused {
-            number: SPAN_OUTSIDE,
-            first: 65536,
-            second: 0,
-        };
+        return Err(Refusal::SpanOutside(65536));
     }
     if staying < count {
-        return Answer::Refused {
-            number: SPAN_OUTSIDE,
-            first: staying as u64,
-            second: 0,
-        };
+        return Err(Refusal::SpanOutside(staying as u64));
     }
-    Answer::Done {
-        first: 0,
-        second: 0,
-    }
+    Ok(PASSED)
 }
 
 // ---- one value
 
 // A reading without room refuses an accepted value by 19, with its length.
 fn verdict_by(read: Answer) -> Verdict
-    ensures { result ≡ verdict_by read }
+    ensures { fared result ≡ verdict_by (answered read) }
 {
     match read {
-        Answer::Done { first, second: _ } => Verdict::Accepted { length: first },
-        Answer::Refused {
-            number,
-            first,
-            second: _,
-        } => {
-            if number == refusals::NO_ROOM {
-                return Verdict::Accepted { length: first };
-            }
-            Verdict::Fallen { number }
-        }
+        Ok(words) => Ok(words.first),
+        Err(Refusal::NoRoom(length)) => Ok(length),
+        Err(refusal) => Err(refusal),
     }
 }
 
@@ -132,17 +104,14 @@ fn read_value(value: &[u8], job: Job, list: &[u8], pool: &[u8]) -> Verdict
     requires valid_table { ValidTable list.now pool.now }
     requires value_len_bound { length value.now ≤ 16777216 }
     requires limit_bound { job.limit ≤ 1000000 }
-    ensures { Reads job list.now pool.now value.now result }
+    ensures { Reads job list.now pool.now value.now (fared result) }
 {
     if simple::is_simple(value) {
-        return Verdict::Accepted {
-            length: value.len() as u64,
-        };
+        return Ok(value.len() as u64);
     }
-    if validate::utf8_end(value) != value.len() {
-        return Verdict::Fallen {
-            number: refusals::NOT_UTF8,
-        };
+    let end = validate::utf8_end(value);
+    if end != value.len() {
+        return Err(Refusal::NotUtf8(end as u64));
     }
     let mut none = [0u8; 1];
     let wanted = Wanted {
@@ -152,23 +121,23 @@ fn read_value(value: &[u8], job: Job, list: &[u8], pool: &[u8]) -> Verdict
         limit: job.limit,
     };
     let room = &mut none[..0];
-    verdict_by(normalize::normalized(value, wanted, 0, false, list, pool, refusals::NO_ROOM, room))
+    verdict_by(normalize::normalized(value, wanted, 0, false, list, pool, Buffer::Output, room))
 }
 
 // ---- the report
 
 // The report's change by a verdict.
 fn count(verdict: Verdict, report: &mut [u64; 29])
-    requires { Countable verdict report.old }
-    ensures { report.new ≡ counted verdict report.old }
+    requires { Countable (fared verdict) report.old }
+    ensures { report.new ≡ counted (fared verdict) report.old }
 {
     match verdict {
-        Verdict::Accepted { length } => {
+        Ok(length) => {
             report[0] = report[0] + 1;
             report[28] = report[28] + length;
         }
-        Verdict::Fallen { number } => {
-            let k = number as usize;
+        Err(refusal) => {
+            let k = refusal.number() as usize;
             report[k] = report[k] + 1;
         }
     }
@@ -205,16 +174,9 @@ fn check_job(
     count: usize,
     staying: usize,
 ) -> Answer
-    ensures { result ≡ job_check text.now version depth limit list.now pool.now count staying }
+    ensures { answered result ≡ job_check text.now version depth limit list.now pool.now count staying }
 {
-    let checked = checks::check_walk(text, false, version, depth, limit, list, pool);
-    let Answer::Done {
-        first: _,
-        second: _,
-    } = checked
-    else {
-        return checked;
-    };
+    checks::check_walk(text, false, version, depth, limit, list, pool)?;
     check_spans(count, staying)
 }
 
@@ -232,12 +194,8 @@ pub fn begin(
 ) -> Job
     ensures { Begins (job_check text.now version depth limit list.now pool.now count staying) version depth limit count report.old result report.new }
 {
-    let checked = check_job(text, version, depth, limit, list, pool, count, staying);
-    match checked {
-        Answer::Done {
-            first: _,
-            second: _,
-        } => {
+    match check_job(text, version, depth, limit, list, pool, count, staying) {
+        Ok(_) => {
             let zeros: [u64; 29] = [0; 29];
             *report = zeros;
             Job {
@@ -245,31 +203,15 @@ pub fn begin(
                 depth,
                 limit,
                 count,
-                number: 0,
-                first: 0,
-                second: 0,
+                answer: Ok(PASSED),
             }
         }
-        Answer::Refused {
-            number,
-            first,
-            second,
-        } => Job {
+        Err(refusal) => Job {
             version,
             depth,
             limit,
             count: 0,
-            number,
-            first,
-            second,
+            answer: Err(refusal),
         },
     }
-}
-
-// The job's answer as C sees it.
-pub fn put_job(answer: &mut [u64; 2], job: Job) -> u32
-    ensures { (result ≡ job.number) × (answer.new ≡ job.first ∷ job.second ∷ []) }
-{
-    *answer = [job.first, job.second];
-    job.number
 }

@@ -2,11 +2,11 @@
 use mathlib.Core.Path.{sym, ◌∙◌}
 use native.Mathlib.Omega.{arith}
 use lib.ListN.{get_or}
+use Prim.Native.Nat.{◌+◌}
 use Rattle.entity.proofs.Commands.{size_some}
 use Rattle.flat.proofs.Halting.{valid_short}
 use Rattle.walk_forecast.proofs.Standing.{standing_inside}
 use Rattle.walk_forecast.proofs.Seeking.{lent_bound, seeking_start, seeking_named, seeking_next, seeking_found}
-use Prim.Native.Nat.{◌-◌}
 use Rattle.walk_forecast.proofs.number_by_name.Goals as goal
 
 pub overflow_add-command : goal.overflow_add-command
@@ -21,11 +21,8 @@ overflow_add-command-2 c = omega (arith, c.requires.defines.fits)
 pub bounds-list-command : goal.bounds-list-command
 bounds-list-command c = omega (arith, c.requires.defines.fits)
 
-pub wide-requires : goal.wide-requires
-wide-requires c = tt
-
 pub overflow_add-end : goal.overflow_add-end
-overflow_add-end c = omega (arith, c.wide.ensures, c.u32_at-start.ensures)
+overflow_add-end c = omega (arith, c.from.ensures, c.type_inv.list (c.args.command + 5), c.u32_at-start.ensures)
 
 pub mark_size-at-requires : goal.mark_size-at-requires
 mark_size-at-requires c = tt
@@ -41,19 +38,19 @@ slice_bounds-is_named-start c = omega arith
 
 pub slice_bounds-is_named-end : goal.slice_bounds-is_named-end
 slice_bounds-is_named-end c =
-    omega (arith, c.requires.defines.name, c.u32_at-start.ensures, c.wide.ensures)
+    omega (arith, c.requires.defines.name, c.u32_at-start.ensures, c.from.ensures, c.type_inv.list (c.args.command + 5))
 
 pub is_named-requires : goal.is_named-requires
 is_named-requires c =
     let a = c.args in
-    let b = lent_bound a.list.now a.pool.now a.command c.requires.defines c.u32_at-start.ensures.0 c.wide.ensures.0 in
+    let b = lent_bound a.list.now a.pool.now a.command c.requires.defines c.u32_at-start.ensures.0 c.from.ensures in
     let named = seeking_named c.loop-command.invariant b in
     record { at_in_bounds = omega (arith, named.fits, size_some (get_or a.list.now c.loop-command.at 0)); at_in_bounds_2 = named.name }
 
 pub returns-then-is_named : goal.returns-then-is_named
 returns-then-is_named c =
     let a = c.args in
-    let b = lent_bound a.list.now a.pool.now a.command c.requires.defines c.u32_at-start.ensures.0 c.wide.ensures.0 in
+    let b = lent_bound a.list.now a.pool.now a.command c.requires.defines c.u32_at-start.ensures.0 c.from.ensures in
     let found = seeking_found c.loop-command.invariant b (sym c.is_named.ensures ∙ c.if-is_named.true) in
     record { there = found.0; gives = found.1 }
 
@@ -81,5 +78,5 @@ loop-command-smaller c =
 pub loop-command-preserved : goal.loop-command-preserved
 loop-command-preserved c =
     let a = c.args in
-    let b = lent_bound a.list.now a.pool.now a.command c.requires.defines c.u32_at-start.ensures.0 c.wide.ensures.0 in
+    let b = lent_bound a.list.now a.pool.now a.command c.requires.defines c.u32_at-start.ensures.0 c.from.ensures in
     seeking_next c.loop-command.invariant b c.command_size-at.ensures.0 (sym c.is_named.ensures ∙ c.if-is_named.false)

@@ -9,7 +9,7 @@ use Rattle.halts.specs.Halts.{Smooth}
 use Rattle.attribute.specs.Walk.{walk, reading_of}
 use Rattle.attribute.specs.Steps.{read_by}
 use Rattle.memory.specs.declared.Reading.{Reading}
-use Rattle.walk_least_depth.specs.Allowance.{outcomes, how_for, Says, Small}
+use Rattle.walk_least_depth.specs.Allowance.{needed, outcomes, how_for, Says, Small}
 use Rattle.walk_least_depth.proofs.LeastAnswers.{how_newer, smooth_are, outcomes_are, least_said, simple_least}
 use Rattle.walk_least_depth.proofs.least_of.Goals as goal
 
@@ -30,7 +30,7 @@ returns-then-next_halt-text c =
     c.answer_of.ensures
     ∙ least_said a.version a.list.now a.pool.now a.limit a.text.now (λ e. walk s (read_by (how_for a.version) 0) e a.text.now 0)
     (smooth_are a.version a.list.now a.pool.now a.limit a.text.now)
-    c.smooth_need.result (c.smooth_need.ensures s (how_for a.version) (how_newer (ltb 1 a.version)))
+    (needed c.smooth_need.result) (c.smooth_need.ensures s (how_for a.version) (how_newer (ltb 1 a.version)))
 
 pub need_of-requires : goal.need_of-requires
 need_of-requires c =
@@ -47,4 +47,4 @@ returns c =
     ∙ least_said a.version a.list.now a.pool.now a.limit a.text.now o
     (λ e. ap (λ (x : Reading). outcomes x a.list.now a.pool.now a.text.now 0 e) c.allowed_for.ensures
     ∙ outcomes_are a.version a.list.now a.pool.now a.limit 128 a.text.now e)
-    c.need_of.result (subst (λ (n : ℕ). Says n o c.need_of.result) (ap (λ (x : Reading). x.depth) c.allowed_for.ensures) c.need_of.ensures)
+    (needed c.need_of.result) (subst (λ (n : ℕ). Says n o (needed c.need_of.result)) (ap (λ (x : Reading). x.depth) c.allowed_for.ensures) c.need_of.ensures)

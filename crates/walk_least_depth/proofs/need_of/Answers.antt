@@ -1,5 +1,5 @@
 -- Words that are 0 are a room that keeps nothing (`new_room`).
-use Rattle.walk_least_depth.specs.Allowance.{outcomes}
+use Rattle.walk_least_depth.specs.Allowance.{needed, outcomes}
 use Rattle.walk_least_depth.proofs.LeastAnswers.{new_room, keeps_says}
 use Rattle.walk_least_depth.proofs.need_of.Goals as goal
 
@@ -12,4 +12,4 @@ least_depth-requires c =
 pub returns : goal.returns
 returns c =
     let a = c.args in
-    keeps_says (outcomes a.allowed a.list.now a.pool.now a.text.now a.openings) c.least_depth.result c.least_depth.ensures
+    keeps_says (outcomes a.allowed a.list.now a.pool.now a.text.now a.openings) (needed c.least_depth.result) c.least_depth.ensures

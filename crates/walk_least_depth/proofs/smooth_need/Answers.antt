@@ -3,10 +3,6 @@ use mathlib.Core.Path.{◌∙◌, sym, ap, subst}
 use mathlib.Core.Bool.{Bool}
 use lib.ListN.{length}
 use Rattle.halts.specs.Halts.{Smooth, any_stop, stop_byte}
-use Rattle.attribute.specs.Walk.{walk}
-use Rattle.attribute.specs.Steps.{read_by}
-use Rattle.walk_least_depth.specs.declared.Need.{Need}
-use Rattle.walk_least_depth.specs.Allowance.{Says}
 use Rattle.walk_least_depth.proofs.SmoothNeeds.{smooth_none, smooth_some, stops_deep}
 use Rattle.walk_least_depth.proofs.smooth_need.Goals as goal
 
@@ -19,9 +15,8 @@ returns-then-not-has_stop c =
 pub returns-then-allowance-eq0 : goal.returns-then-allowance-eq0
 returns-then-allowance-eq0 c =
     let a = c.args in
-    λ s how q. subst (λ (r : Need). Says a.allowance (λ d. walk s (read_by how 0) d a.text.now a.openings) r) (sym c.too_deep.ensures)
-    (stops_deep s how a.text.now a.openings
-    (ap (λ (n : Bool). any_stop (stop_byte n) a.text.now) q ∙ sym c.has_stop.ensures ∙ c.if-not-has_stop.false) c.if-allowance-eq0.true)
+    λ s how q. stops_deep s how a.text.now a.openings
+    (ap (λ (n : Bool). any_stop (stop_byte n) a.text.now) q ∙ sym c.has_stop.ensures ∙ c.if-not-has_stop.false) c.if-allowance-eq0.true
 
 pub returns : goal.returns
 returns c =

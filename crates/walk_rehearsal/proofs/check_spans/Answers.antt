@@ -1,7 +1,5 @@
 -- `check_spans`: the tests of `spans_by` in their order.
 use borrow.Author.Tests.{lt-ltb, le-ltb}
-use Rattle.walk_rehearsal.proofs.check_spans.Reads as reads
-use Rattle.walk_rehearsal.proofs.check_spans.Lts as lts
 use Rattle.walk_rehearsal.proofs.check_spans.Goals as goal
 
 -- src/lib.rt:77:9

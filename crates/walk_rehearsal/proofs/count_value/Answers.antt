@@ -1,9 +1,5 @@
 -- `count_value` reads the part that the span names, and counts the verdict on it (`turn_so`).
 use Rattle.walk_rehearsal.proofs.Reports.{within_small, turn_so}
-use Rattle.walk_rehearsal.proofs.count_value.Reads as reads
-use Rattle.walk_rehearsal.proofs.count_value.Lts as lts
-use Rattle.walk_rehearsal.proofs.count.Reads as count-reads
-use Rattle.walk_rehearsal.proofs.read_value.Reads as read-value-reads
 use Rattle.walk_rehearsal.proofs.count_value.Goals as goal
 
 -- src/lib.rt:202:5

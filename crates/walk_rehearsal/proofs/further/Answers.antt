@@ -1,9 +1,6 @@
 -- `further`: the tests of `further_by` in their order.
 use mathlib.Core.Path.{sym, ◌∙◌}
 use borrow.Author.Tests.{eq-eqb, ne_eqb}
-use Rattle.walk_rehearsal.proofs.further.Reads as reads
-use Rattle.walk_rehearsal.proofs.further.Lts as lts
-use Rattle.walk_rehearsal.proofs.leaves_text.Reads as leaves-text-reads
 use Rattle.walk_rehearsal.proofs.further.Goals as goal
 
 -- src/lib.rt:67:9

@@ -4,8 +4,6 @@ use native.Mathlib.Omega.{arith}
 use borrow.Author.Tests.{lt-ltb}
 use Prim.Native.Nat.{◌+◌}
 use Rattle.walk_rehearsal.proofs.Spans.{leaves_so}
-use Rattle.walk_rehearsal.proofs.leaves_text.Reads as reads
-use Rattle.walk_rehearsal.proofs.leaves_text.Lts as lts
 use Rattle.walk_rehearsal.proofs.leaves_text.Goals as goal
 
 -- src/lib.rt:55:9

@@ -10,15 +10,8 @@ use Rattle.normalize.specs.Calls.{outcome_for}
 use Rattle.normalize.proofs.Texts.{simple_value, shown_plain}
 use Rattle.walk_rehearsal.specs.Turns.{settings_of, verdict_by}
 use Rattle.walk_rehearsal.proofs.Verdicts.{wanted_for, lenient, reads_so, verdict_simple, verdict_utf8, verdict_read}
-use Rattle.walk_rehearsal.proofs.read_value.Reads as reads
-use Rattle.walk_rehearsal.proofs.read_value.Lts as lts
-use Rattle.normalize.proofs.normalized.Reads as normalized-reads
-use Rattle.text.proofs.simple.is_simple.Reads as is-simple-reads
-use Rattle.text.proofs.validate.utf8_end.Reads as utf8-end-reads
-use Rattle.walk_rehearsal.proofs.verdict_by.Reads as verdict-by-reads
 use Rattle.walk_rehearsal.proofs.read_value.Goals as goal
 
--- src/lib.rt:104:9
 pub returns-then-is_simple : goal.returns-then-is_simple
 returns-then-is_simple c =
     let a = c.args in
@@ -28,25 +21,22 @@ returns-then-is_simple c =
     (verdict_simple set a.job.depth a.value.now (simple_well_formed a.value.now simple)
     (sym (lenient a.job a.list.now a.pool.now a.value.now) ∙ simple_value (wanted_for a.job) a.list.now a.pool.now a.value.now simple))
 
--- src/lib.rt:109:9
-pub returns-then-utf8_end-value : goal.returns-then-utf8_end-value
-returns-then-utf8_end-value c =
+pub returns-then-end-value : goal.returns-then-end-value
+returns-then-end-value c =
     let a = c.args in
     reads_so a.job a.list.now a.pool.now a.value.now (λ k. omega (arith, c.type_inv.list k)) c.requires.value_len_bound c.requires.limit_bound
-    (verdict_utf8 (settings_of a.job a.list.now a.pool.now) a.job.depth a.value.now (λ e. c.if-utf8_end-value.true (c.utf8_end.ensures ∙ e)))
+    (verdict_utf8 (settings_of a.job a.list.now a.pool.now) a.job.depth a.value.now (λ e. c.if-end-value.true (c.utf8_end-end.ensures ∙ e)))
 
--- src/lib.rt:121:16
 pub normalized-requires : goal.normalized-requires
 normalized-requires c =
-    record { valid_table = c.requires.valid_table; text_len_bound = c.requires.value_len_bound; limit_bound = c.requires.limit_bound; well_formed = end_whole c.args.value.now (sym c.utf8_end.ensures ∙ c.if-utf8_end-value.false) }
+    record { valid_table = c.requires.valid_table; text_len_bound = c.requires.value_len_bound; limit_bound = c.requires.limit_bound; well_formed = end_whole c.args.value.now (sym c.utf8_end-end.ensures ∙ c.if-end-value.false) }
 
--- src/lib.rt:97:1
 pub returns : goal.returns
 returns c =
     let a = c.args in
     let o = outcome_for (wanted_for a.job) a.list.now a.pool.now a.value.now in
     let so = shown_plain o ∙ lenient a.job a.list.now a.pool.now a.value.now in
-    let whole = end_whole a.value.now (sym c.utf8_end.ensures ∙ c.if-utf8_end-value.false) in
+    let whole = end_whole a.value.now (sym c.utf8_end-end.ensures ∙ c.if-end-value.false) in
     reads_so a.job a.list.now a.pool.now a.value.now (λ k. omega (arith, c.type_inv.list k)) c.requires.value_len_bound c.requires.limit_bound
     (c.verdict_by.ensures
     ∙ ap verdict_by (c.normalized.ensures.0 ∙ ap (λ (x : Outcome). answer_in 19 x []) so)
