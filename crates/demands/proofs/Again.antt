@@ -11,8 +11,8 @@ use lib.Dec.{ltb}
 use borrow.Author.Tests.{le-ltb, ltb-false}
 use Rattle.text.specs.Bytes.{pick}
 use Rattle.text.specs.Call.{Called, called, guarded, passed, laid, finish, length_check, argument_check}
-use Rattle.text.specs.declared.Answer.{Answer}
-use Rattle.text.specs.declared.Answer.TheVariants.{Done, Refused}
+use Rattle.text.specs.Answers.{Answer}
+use Rattle.text.specs.Answers.{Done, Refused}
 use Rattle.output.proofs.Laid.{laid_length}
 use Rattle.escape.specs.Escape.{level_check, level_of, level_set, write}
 use Rattle.escape.proofs.Levels.{level_ascii}

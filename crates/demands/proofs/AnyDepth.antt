@@ -11,7 +11,7 @@ use lib.Dec.{eqb}
 use Rattle.text.specs.Version.{Rule}
 use Rattle.text.specs.Utf8.{WellFormed}
 use Rattle.text.proofs.Bytes.{or_left}
-use Rattle.charref.specs.declared.CharNumber.{CharNumber}
+use Rattle.charref.specs.CharNumbers.{CharNumber}
 use Rattle.entity.specs.Binding.{Bound, GoodBound}
 use Rattle.tokens.specs.Outcome.{Outcome, done, refused}
 use Rattle.attribute.specs.Walk.{Settings, normalize, reading}

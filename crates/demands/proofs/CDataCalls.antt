@@ -13,14 +13,14 @@ use lib.Dec.{ltb, eqb}
 use borrow.Author.Tests.{eqb-true}
 use Rattle.text.specs.Utf8.{WellFormed, utf8_end}
 use Rattle.text.specs.Call.{called, guarded, length_check, utf8_check, text_check}
-use Rattle.text.specs.declared.Answer.{Answer}
-use Rattle.text.specs.declared.Answer.TheVariants.{Done, Refused}
+use Rattle.text.specs.Answers.{Answer}
+use Rattle.text.specs.Answers.{Done, Refused}
 use Rattle.text.proofs.Longest.{end_whole}
 use Rattle.utils.specs.CData.{stepped, cdata_step, piece_answer}
 use Rattle.utils.specs.Pieces.{joined, pieces, cursor_at, calls, handed, holds}
 use Rattle.utils.specs.declared.Cursor.{Cursor}
-use Rattle.utils.specs.declared.Piece.{Piece}
-use Rattle.utils.specs.declared.Piece.TheVariants.{Part, NoMore, Outside}
+use Rattle.std.specs.Prelude.{Ok, Err}
+use Rattle.utils.specs.CData.{Piece, part, no_more}
 use Rattle.utils.specs.declared.Stepped.{Stepped}
 use Rattle.utils.proofs.Pieces.{pieces_joined, pieces_free, pieces_count, pieces_cut, pieces_some, calls_handed}
 use Rattle.govlezna.specs.declared.CDataNext.{CDataNext}
@@ -72,9 +72,8 @@ answered s = cursor_left (piece_answer s.piece) s.next
 
 next_kept : (p : Piece) (c : Cursor) → (cursor_left (piece_answer p) c).next ≡ c
 unfolding piece_answer
-next_kept (Part start size) c = refl
-next_kept NoMore c = refl
-next_kept (Outside offset) c = refl
+next_kept (Ok p) c = refl
+next_kept (Err refusal) c = refl
 
 module _ (t : List ℕ) (p : Passes t) where
   step_call : (c : Cursor) → cdata_next_call t c ≡ answered (cdata_step t c)
@@ -94,16 +93,16 @@ module _ (t : List ℕ) (p : Passes t) where
 -- ---- what is handed over, one by one
 
 handed_piece : (ps : List (List ℕ)) (o j k : ℕ) (d : Stepped) → k < length ps
-    → (get_or (handed o ps j) k d).piece ≡ Part (o + length (joined (take k ps))) (length (get_or ps k []))
+    → (get_or (handed o ps j) k d).piece ≡ part (o + length (joined (take k ps))) (length (get_or ps k []))
 unfolding handed
 handed_piece [] o j k d h = absurd (omega arith)
-handed_piece (p ∷ []) o j zero d h = let z : o ≡ o + 0 = omega arith in ap (λ (n : ℕ). Part n (length p)) z
+handed_piece (p ∷ []) o j zero d h = let z : o ≡ o + 0 = omega arith in ap (λ (n : ℕ). part n (length p)) z
 handed_piece (p ∷ []) o j (suc k) d h = absurd (omega arith)
-handed_piece (p ∷ q ∷ ps) o j zero d h = let z : o ≡ o + 0 = omega arith in ap (λ (n : ℕ). Part n (length p)) z
+handed_piece (p ∷ q ∷ ps) o j zero d h = let z : o ≡ o + 0 = omega arith in ap (λ (n : ℕ). part n (length p)) z
 handed_piece (p ∷ q ∷ ps) o j (suc k) d h =
     let front : List ℕ = joined (take k (q ∷ ps)) in
     let z : o + length p + length front ≡ o + length (p ++ front) = omega (arith, length-append p front) in
-    handed_piece (q ∷ ps) (o + length p) j k d (omega arith) ∙ ap (λ (n : ℕ). Part n (length (get_or (q ∷ ps) k []))) z
+    handed_piece (q ∷ ps) (o + length p) j k d (omega arith) ∙ ap (λ (n : ℕ). part n (length (get_or (q ∷ ps) k []))) z
 
 -- where the last piece starts
 last_start : ℕ → List (List ℕ) → ℕ
@@ -112,11 +111,11 @@ last_start o (p ∷ []) = o
 last_start o (p ∷ q ∷ ps) = last_start (o + length p) (q ∷ ps)
 
 handed_later : (ps : List (List ℕ)) (o j k : ℕ) (d : Stepped) → 0 < length ps → length ps ≤ k → k < length ps + j
-    → get_or (handed o ps j) k d ≡ stepped NoMore (last_start o ps) 1
+    → get_or (handed o ps j) k d ≡ stepped no_more (last_start o ps) 1
 unfolding handed last_start
 handed_later [] o j k d s h l = absurd (omega arith)
 handed_later (p ∷ []) o j zero d s h l = absurd (omega arith)
-handed_later (p ∷ []) o j (suc k) d s h l = get_or-replicate j k (stepped NoMore o 1) d (omega arith)
+handed_later (p ∷ []) o j (suc k) d s h l = get_or-replicate j k (stepped no_more o 1) d (omega arith)
 handed_later (p ∷ q ∷ ps) o j zero d s h l = absurd (omega arith)
 handed_later (p ∷ q ∷ ps) o j (suc k) d s h l = handed_later (q ∷ ps) (o + length p) j k d (omega arith) (omega arith) (omega arith)
 
@@ -144,13 +143,13 @@ module _ (t : List ℕ) (p : Passes t) where
 
   -- the step number k
   abbrev step : ℕ → Stepped
-  step k = get_or (handed 0 ps (suc k)) k (stepped NoMore 0 0)
+  step k = get_or (handed 0 ps (suc k)) k (stepped no_more 0 0)
 
   -- the call after k others is that step
   call_handed : (k : ℕ) → call_after k t ≡ answered (step k)
   call_handed k =
-      call_is t p (length ps + suc k) k (cursor_at 0 0) (stepped NoMore 0 0) (omega arith)
-      ∙ ap (λ (l : List Stepped). answered (get_or l k (stepped NoMore 0 0))) (calls_handed t (suc k) p.well)
+      call_is t p (length ps + suc k) k (cursor_at 0 0) (stepped no_more 0 0) (omega arith)
+      ∙ ap (λ (l : List Stepped). answered (get_or l k (stepped no_more 0 0))) (calls_handed t (suc k) p.well)
 
   -- with piece number k
   call_piece : (k : ℕ) → k < length ps
@@ -159,8 +158,8 @@ module _ (t : List ℕ) (p : Passes t) where
   call_piece k h =
       let start : ℕ = length (joined (take k ps)) in
       let z : 0 + start ≡ start = omega arith in
-      let q : (step k).piece ≡ Part start (length (get_or ps k [])) =
-      handed_piece ps 0 (suc k) k (stepped NoMore 0 0) h ∙ ap (λ (n : ℕ). Part n (length (get_or ps k []))) z in
+      let q : (step k).piece ≡ part start (length (get_or ps k [])) =
+      handed_piece ps 0 (suc k) k (stepped no_more 0 0) h ∙ ap (λ (n : ℕ). part n (length (get_or ps k []))) z in
       call_handed k ∙ ap (λ (q : Piece). cursor_left (piece_answer q) (step k).next) q
 
   part_is : (k : ℕ) → k < length ps → part_of t (call_after k t) ≡ get_or ps k []
@@ -186,7 +185,7 @@ module _ (t : List ℕ) (p : Passes t) where
         free = λ k h. ap holds (part_is k h) ∙ pieces_free t k;
         cuts = λ k h. rw (part_is k (omega arith), part_is (k + 1) h) (pieces_cut t k h);
         last = cursor_at (last_start 0 ps) 1;
-        no_more = λ k h. call_handed k ∙ ap answered (handed_later ps 0 (suc k) k (stepped NoMore 0 0) (omega (arith, pieces_some t)) h (omega arith));
+        no_more = λ k h. call_handed k ∙ ap answered (handed_later ps 0 (suc k) k (stepped no_more 0 0) (omega (arith, pieces_some t)) h (omega arith));
       }
 
 -- CDATA, of the calls: pieces joined are the text, none holds `]]>`, each ends at a cut, at most n/3 + 1; "no more" after the last and ever after

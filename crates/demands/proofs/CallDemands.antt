@@ -13,8 +13,8 @@ use Rattle.text.specs.Bytes.{pick}
 use Rattle.text.specs.Version.{known_version}
 use Rattle.text.specs.Utf8.{WellFormed, utf8_end}
 use Rattle.text.specs.Call.{Called, called, call_of, and_then, guarded, passed, laid, finish, length_check, version_check, utf8_check, text_check, argument_check}
-use Rattle.text.specs.declared.Answer.{Answer}
-use Rattle.text.specs.declared.Answer.TheVariants.{Done, Refused}
+use Rattle.text.specs.Answers.{Answer}
+use Rattle.text.specs.Answers.{Done, Refused}
 use Rattle.text.proofs.Call.{checked_length}
 use Rattle.text.proofs.Longest.{whole_end, end_whole}
 use Rattle.output.proofs.Finish.{finish_laid}
@@ -24,7 +24,6 @@ use Rattle.escape.proofs.Levels.{level_ascii}
 use Rattle.entity.specs.Table.{Declaration, declarations, size_check, table_check, ValidTable}
 use Rattle.entity.proofs.Tables.{checked_table, empty_valid}
 use Rattle.tokens.specs.Outcome.{Outcome, done, refused, finished}
-use Rattle.canonical.specs.Canonical.{canonical}
 use Rattle.attribute.specs.Checks.{settings_check}
 use Rattle.attribute.specs.Form.{besides, handed, formed}
 use Rattle.attribute.proofs.InHand.{in_hand_done}

@@ -1,7 +1,7 @@
 -- The numbers by which checks and walks refuse (document 01, Refusals by place), and what that says of a call. Assumes nothing.
 use mathlib.Core.Path.{◌≡◌, refl}
 use Prim.Native.Nat.{ℕ, zero, suc}
-use mathlib.Core.Bool.{Bool, true, false, ◌||◌}
+use mathlib.Core.Bool.{Bool, true, false}
 use mathlib.Core.List.{List, [], ◌∷◌}
 use lib.ListN.{length}
 use lib.Dec.{eqb, ltb}
@@ -10,11 +10,11 @@ use Rattle.text.proofs.Bytes.{pick_both}
 use Rattle.text.specs.Version.{Rule, known_version}
 use Rattle.text.specs.Call.{called, call_of, passed, and_then, laid, finish, length_check, version_check, utf8_check}
 use Rattle.text.specs.Utf8.{utf8_end}
-use Rattle.text.specs.declared.Answer.{Answer}
-use Rattle.text.specs.declared.Answer.TheVariants.{Done, Refused}
+use Rattle.text.specs.Answers.{Answer}
+use Rattle.text.specs.Answers.{Done, Refused}
 use Rattle.charref.specs.CharRef.{any_character, char_number, number_answer}
-use Rattle.charref.specs.declared.CharNumber.{CharNumber}
-use Rattle.charref.specs.declared.CharNumber.TheVariants.{Char, UnexpectedSign, InvalidNumber, InvalidCodepoint, IllegalCharacter, Forbidden}
+use Rattle.charref.specs.CharNumbers.{CharNumber}
+use Rattle.charref.specs.CharNumbers.{Char, UnexpectedSign, InvalidNumber, InvalidCodepoint, IllegalCharacter, Forbidden}
 use Rattle.charref.proofs.Numbers.{char_forbidden, any_passes}
 use Rattle.escape.specs.Escape.{known_level, level_check}
 use Rattle.entity.specs.Table.{table_check, marked}

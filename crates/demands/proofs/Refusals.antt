@@ -8,8 +8,8 @@ use lib.Dec.{eqb, ltb}
 use Rattle.text.specs.Bytes.{pick}
 use Rattle.text.specs.Version.{Rule, rule_of}
 use Rattle.text.specs.Call.{Called, called, call_of, and_then, guarded, laid, finish, length_check, version_check, utf8_check, text_check, argument_check}
-use Rattle.text.specs.declared.Answer.{Answer}
-use Rattle.text.specs.declared.Answer.TheVariants.{Done, Refused}
+use Rattle.text.specs.Answers.{Answer}
+use Rattle.text.specs.Answers.{Done, Refused}
 use Rattle.text.proofs.Bytes.{pick_both}
 use Rattle.charref.specs.CharRef.{any_character, char_number, number_answer}
 use Rattle.escape.specs.Escape.{level_check, level_of, level_set, write}
@@ -19,7 +19,7 @@ use Rattle.utils.specs.declared.Part.{Part}
 use Rattle.utils.specs.declared.Cursor.{Cursor}
 use Rattle.utils.specs.declared.Stepped.{Stepped}
 use Rattle.utils.specs.CData.{piece_from, outside, cdata_step, piece_answer, first_cut, stepped}
-use Rattle.utils.specs.declared.Piece.TheVariants.{Part as Cut, NoMore, Outside}
+use Rattle.utils.specs.CData.{part, no_more, outside_at}
 use Rattle.entity.specs.Table.{table_check}
 use Rattle.entity.specs.Binding.{binding}
 use Rattle.tokens.specs.Outcome.{Outcome, done, refused, finished}
@@ -130,11 +130,11 @@ step_stays text cursor = go (outside text cursor.offset) (eqb cursor.finished 0)
     rest : List ℕ
     rest = drop at text
 
-    cut : (t : Bool) → StepStays cursor (pick t (stepped (Cut at (length rest)) at 1) (stepped (Cut at (first_cut rest)) (at + first_cut rest) 0))
+    cut : (t : Bool) → StepStays cursor (pick t (stepped (part at (length rest)) at 1) (stepped (part at (first_cut rest)) (at + first_cut rest) 0))
     cut true = piece (at ∷ length rest ∷ []) (record { offset = at; finished = 1 })
     cut false = piece (at ∷ first_cut rest ∷ []) (record { offset = at + first_cut rest; finished = 0 })
 
-    go : (t u : Bool) → StepStays cursor (pick t (record { piece = Outside at; next = cursor }) (pick u (piece_from at rest) (record { piece = NoMore; next = cursor })))
+    go : (t u : Bool) → StepStays cursor (pick t (record { piece = outside_at at; next = cursor }) (pick u (piece_from at rest) (record { piece = no_more; next = cursor })))
     go true u = stays 20 (at ∷ 0 ∷ []) refl
     go false true = cut (eqb (first_cut rest) (length rest))
     go false false = stays 255 (0 ∷ 0 ∷ []) refl

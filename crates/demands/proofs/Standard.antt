@@ -13,8 +13,8 @@ use Rattle.text.specs.Version.{Rule, xml10, xml11}
 use Rattle.text.specs.Utf8.{WellFormed}
 use Rattle.text.proofs.Bytes.{pick_by, and_left, and_right, or_left, contrary}
 use Rattle.charref.specs.CharRef.{char_number, number_answer, encode}
-use Rattle.charref.specs.declared.CharNumber.{CharNumber}
-use Rattle.charref.specs.declared.CharNumber.TheVariants.{Char, UnexpectedSign, InvalidNumber, InvalidCodepoint, IllegalCharacter, Forbidden}
+use Rattle.charref.specs.CharNumbers.{CharNumber}
+use Rattle.charref.specs.CharNumbers.{Char, UnexpectedSign, InvalidNumber, InvalidCodepoint, IllegalCharacter, Forbidden}
 use Rattle.entity.specs.Binding.{Bound, text, external, predefined, unknown, GoodBound}
 use Rattle.tokens.specs.Tokens.{Stop, number, named, Heads, tokens}
 use Rattle.tokens.specs.Outcome.{Outcome, done, refused, run, numbered, number_outcome}

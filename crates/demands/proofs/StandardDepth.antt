@@ -8,7 +8,7 @@ use mathlib.Core.List.{List, [], ◌∷◌}
 use lib.Dec.{eqb}
 use Rattle.text.specs.Bytes.{pick, same_bytes}
 use Rattle.charref.specs.CharRef.{char_number}
-use Rattle.charref.specs.declared.CharNumber.{CharNumber}
+use Rattle.charref.specs.CharNumbers.{CharNumber}
 use Rattle.tokens.specs.Tokens.{Name, ended, endless, name_at}
 use Rattle.demands.specs.Standard.{is_white, both, name_then, name_skip, value_of, character_value, replaced_by, entity_value, reference_value, standard}
 

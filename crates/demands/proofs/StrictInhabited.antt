@@ -1,6 +1,6 @@
 -- K8's premises are met under XML 1.1: by a value whose form is read again strictly (`plain_again`), and by one whose form holds a raw
 -- RestrictedChar and gets 26 (`odd_refused`). Assumes nothing.
-use mathlib.Core.Path.{◌≡◌, refl}
+use mathlib.Core.Path.{refl}
 use Prim.Native.Nat.{ℕ}
 use native.Mathlib.Omega.{arith}
 use mathlib.Core.List.{List, [], ◌∷◌}

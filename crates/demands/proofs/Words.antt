@@ -9,7 +9,7 @@ use lib.Dec.{eqb, ltb, lit≤}
 use borrow.Author.Tests.{eqb-true, ltb-true, ltb-false}
 use Rattle.text.specs.Bytes.{pick, same_bytes}
 use Rattle.charref.specs.CharRef.{digit_value, number_from, in_base, judge, char_number, encode}
-use Rattle.charref.specs.declared.CharNumber.{CharNumber}
+use Rattle.charref.specs.CharNumbers.{CharNumber}
 use Rattle.charref.proofs.Encoding.{encode_1, encode_at_least}
 use Rattle.charref.proofs.Apart.{AllApart, encode_apart, apart_append, encode_high, from_high, from_high_all, base_high, base_high_all, number_apart}
 use Rattle.charref.proofs.Numbers.{number_step, number_stop_lem}

@@ -4,17 +4,14 @@ use mathlib.Core.Path.{◌≡◌, refl, ◌∙◌, ap}
 use mathlib.Core.List.{List, [], ◌∷◌}
 use Prim.Native.Nat.{ℕ}
 use Rattle.text.specs.Call.{Called, call_of, guarded, text_check}
-use Rattle.text.specs.declared.Answer.{Answer}
-use Rattle.text.specs.declared.Answer.TheVariants.{Done, Refused}
+use Rattle.text.specs.Answers.{Answer, Done, Refused}
 use Rattle.utils.specs.CData.{cdata_step}
 use Rattle.utils.specs.declared.Cursor.{Cursor}
 use Rattle.utils.specs.declared.Stepped.{Stepped}
-use Rattle.checks.specs.declared.Answered.{Answered}
-use Rattle.checks.specs.Checked.{after_check, cdata_answer}
+use Rattle.checks.specs.Checked.{Answered, after_check, cdata_answer}
 use Rattle.collapse.specs.NextToken.{next_token}
-use Rattle.collapse.specs.Checked.{after_check as tokenChecked, token_answer}
+use Rattle.collapse.specs.Checked.{Moved, after_check as tokenChecked, token_answer}
 use Rattle.collapse.specs.declared.Found.{Found}
-use Rattle.collapse.specs.declared.Moved.{Moved}
 use Rattle.govlezna.specs.declared.CDataNext.{CDataNext}
 use Rattle.govlezna.specs.Calls.{cursor_left, cursor_guarded, cdata_next_call, token_call, next_nmtoken_call}
 

@@ -1,5 +1,5 @@
 -- What the checks of a call answer, and what they let pass. Assumes nothing.
-use mathlib.Core.Path.{◌≡◌, refl, ◌∙◌, ap}
+use mathlib.Core.Path.{◌≡◌, refl, sym, ◌∙◌, ap}
 use mathlib.Core.Bool.{Bool, true, false}
 use mathlib.Core.List.{List, []}
 use Prim.Native.Nat.{ℕ, ◌≤◌}
@@ -10,10 +10,12 @@ use borrow.Author.Tests.{eqb-true}
 use Rattle.text.specs.Bytes.{pick}
 use Rattle.text.specs.Utf8.{utf8_end, WellFormed}
 use Rattle.text.proofs.Longest.{end_whole}
-use Rattle.text.specs.Call.{passed, and_then, call_of, guarded, longest_text, length_check, utf8_check, text_check}
-use Rattle.text.specs.declared.Answer.{Answer}
-use Rattle.text.specs.declared.Answer.TheVariants.{Done, Refused}
-use Rattle.text.proofs.Call.{checked_length}
+use Rattle.std.specs.Prelude.{Result, Err}
+use Rattle.text.specs.declared.Success.{Success}
+use Rattle.text.specs.declared.refusals.Refusal.{Refusal}
+use Rattle.text.specs.Call.{answered, Called, passed, and_then, call_of, guarded, longest_text, length_check, utf8_check, text_check}
+use Rattle.text.specs.Answers.{Answer, Done, Refused}
+use Rattle.text.proofs.Call.{halts, checked_length}
 use Rattle.entity.specs.Table.{table_check, ValidTable}
 use Rattle.entity.proofs.Tables.{checked_table}
 use Rattle.attribute.specs.Checks.{settings_check}
@@ -25,6 +27,11 @@ use Rattle.govlezna.specs.Calls.{part_call, trim_call, walk_check}
 pub guards : (checked later : Answer) (buffers : List (List ℕ)) → call_of (and_then checked later) buffers ≡ guarded checked buffers (call_of later buffers)
 guards (Done first second) later buffers = refl
 guards (Refused number first second) later buffers = refl
+
+-- what the checks refuse is handed on, and the buffers stay as they were lent
+pub refuses : (buffers : List (List ℕ)) (rest : Called) {checked : Answer} {asked handed : Result Success Refusal} {e : Refusal} → answered asked ≡ checked
+    → asked ≡ Err e → handed ≡ Err e → call_of (answered handed) buffers ≡ guarded checked buffers rest
+refuses buffers rest {asked = asked} {handed = handed} is was now = halts buffers rest (ap answered (now ∙ sym was) ∙ is) (ap answered now)
 
 -- the part that a trim finds, once the text is checked
 pub trims : (trim : List ℕ → Part) (text : List ℕ) {answer : Answer} {part : Part} → answer ≡ and_then (text_check text) (Done part.start part.length)

@@ -5,8 +5,7 @@ use Rattle.text.specs.Version.{rule_of}
 use Rattle.escape.specs.Escape.{level_check, level_of, level_set, write}
 use Rattle.c14n.specs.C14n.{c14n_attribute, c14n_text}
 use Rattle.eols.specs.LineEnds.{eols}
-use Rattle.text.specs.declared.Answer.{Answer}
-use Rattle.text.specs.declared.Answer.TheVariants.{Done, Refused}
+use Rattle.text.specs.Answers.{Answer, Done, Refused}
 use Rattle.utils.specs.declared.Part.{Part}
 use Rattle.utils.specs.declared.Cursor.{Cursor}
 use Rattle.utils.specs.declared.Stepped.{Stepped}

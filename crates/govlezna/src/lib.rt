@@ -3,13 +3,20 @@
 #![tactic(auto)]
 
 ghost use Rattle.std.specs.Prelude.{◌≡◌, [], ◌∷◌};
-ghost use Rattle.text.specs.Call.{called};
+ghost use Rattle.text.specs.Call.{answered, called, call_of, guarded};
+ghost use Rattle.text.specs.Version.{rule_of};
 ghost use Rattle.govlezna.specs.Calls.{check_utf8_call, parse_number_call, escape_call, normalize_eols_call, trim_call, cursor_left, cdata_next_call, check_table_call, unescape_call, normalize_attribute_value_call, canonical_form_call, normalize_attribute_value_strict_call, canonical_form_strict_call, register_add_call, register_withdraw_call, register_count_call, normalize_nmtokens_call, next_nmtoken_call, c14n_attribute_call, c14n_text_call};
 ghost use Rattle.govlezna.specs.Calls.{least_depth_call, rehearse_call};
 ghost use Rattle.govlezna.specs.declared.CDataNext.{CDataNext};
 ghost use Rattle.utils.specs.Trim.{trim_start, trim_end, trim_spaces};
 ghost use Rattle.register.specs.RegisterCalls.{lent};
-ghost use Rattle.govlezna.specs.Calls.{read_declarations_call};
+ghost use Rattle.govlezna.specs.Calls.{read_declarations_call, walk_check};
+ghost use Rattle.tokens.specs.Outcome.{finished};
+ghost use Rattle.attribute.specs.Form.{formed};
+ghost use Rattle.attribute.specs.Strict.{reading_by};
+ghost use Rattle.attribute.specs.Walk.{normalize};
+ghost use Rattle.normalize.specs.Calls.{outcome_for};
+ghost use Rattle.nmtokens.specs.Nmtokens.{collapsed};
 
 use checks::put;
 use normalize::Wanted;
@@ -39,19 +46,19 @@ pub fn govlezna_parse_number(text: &[u8], answer: &mut [u64; 2]) -> u32
     put(checks::checked_number(text), answer)
 }
 
+// The call after the checks of its arguments, as each `checked_` below: what they refuse leaves every buffer.
+fn checked_escape(text: &[u8], level: u8, out: &mut [u8]) -> Answer
+    ensures { call_of (answered result) (out.new ∷ []) ≡ escape_call text.now level out.old }
+{
+    checks::check_escape(text, level)?;
+    escape::escape(text, level, out)
+}
+
 // The text at one of the four levels. Success: the length written.
 pub fn govlezna_escape(text: &[u8], level: u8, out: &mut [u8], answer: &mut [u64; 2]) -> u32
     ensures { called result answer.new (out.new ∷ []) ≡ escape_call text.now level out.old }
 {
-    let level_checked = checks::check_escape(text, level);
-    let Answer::Done {
-        first: _,
-        second: _,
-    } = level_checked
-    else {
-        return put(level_checked, answer);
-    };
-    put(escape::escape(text, level, out), answer)
+    put(checked_escape(text, level, out), answer)
 }
 
 // An attribute value as Canonical XML writes it. Success: the length written.
@@ -68,6 +75,13 @@ pub fn govlezna_c14n_text(text: &[u8], out: &mut [u8], answer: &mut [u64; 2]) ->
     put(c14n::c14n(text, false, out), answer)
 }
 
+fn checked_eols(text: &[u8], version: u8, out: &mut [u8]) -> Answer
+    ensures { call_of (answered result) (out.new ∷ []) ≡ normalize_eols_call text.now version out.old }
+{
+    checks::check_eols(text, version)?;
+    eols::normalize_eols(text, version, out)
+}
+
 // Every line end of the version becomes LF. Success: the length written.
 pub fn govlezna_normalize_eols(
     text: &[u8],
@@ -77,15 +91,7 @@ pub fn govlezna_normalize_eols(
 ) -> u32
     ensures { called result answer.new (out.new ∷ []) ≡ normalize_eols_call text.now version out.old }
 {
-    let version_checked = checks::check_eols(text, version);
-    let Answer::Done {
-        first: _,
-        second: _,
-    } = version_checked
-    else {
-        return put(version_checked, answer);
-    };
-    put(eols::normalize_eols(text, version, out), answer)
+    put(checked_eols(text, version, out), answer)
 }
 
 // Is the table valid? Success: the number of its declarations.
@@ -93,6 +99,13 @@ pub fn govlezna_check_table(list: &[u8], pool: &[u8], answer: &mut [u64; 2]) -> 
     ensures { called result answer.new [] ≡ check_table_call list.now pool.now }
 {
     put(tables::check_table(list, pool), answer)
+}
+
+fn checked_unescape(text: &[u8], list: &[u8], pool: &[u8], out: &mut [u8]) -> Answer
+    ensures { call_of (answered result) (out.new ∷ []) ≡ unescape_call text.now list.now pool.now out.old }
+{
+    checks::check_with_table(text::check_text(text), list, pool)?;
+    unescape::unescape_with(text, list, pool, out)
 }
 
 // References become what they stand for; a replacement text is copied and not opened. Success: the length written.
@@ -105,15 +118,30 @@ pub fn govlezna_unescape(
 ) -> u32
     ensures { called result answer.new (out.new ∷ []) ≡ unescape_call text.now list.now pool.now out.old }
 {
-    let table_checked = checks::check_with_table(text::check_text(text), list, pool);
-    let Answer::Done {
-        first: _,
-        second: _,
-    } = table_checked
-    else {
-        return put(table_checked, answer);
+    put(checked_unescape(text, list, pool, out), answer)
+}
+
+// The constant makes a function of each for the compiler: one that both exported functions call took up to a sixth more instructions.
+fn checked_value<const STRICT: bool>(
+    text: &[u8],
+    version: u8,
+    depth: u64,
+    limit: u64,
+    list: &[u8],
+    pool: &[u8],
+    out: &mut [u8],
+) -> Answer
+    ensures { call_of (answered result) (out.new ∷ []) ≡ guarded (walk_check text.now version depth limit list.now pool.now) (out.old ∷ []) (finished (normalize (reading_by STRICT (rule_of version) list.now pool.now limit) depth text.now) out.old) }
+{
+    let simple = simple::is_simple(text);
+    checks::check_walk(text, simple, version, depth, limit, list, pool)?;
+    let wanted = Wanted {
+        version,
+        strict: STRICT,
+        depth,
+        limit,
     };
-    put(unescape::unescape_with(text, list, pool, out), answer)
+    normalize::normalize_attribute_value(text, simple, wanted, list, pool, out)
 }
 
 // The attribute value normalized. Success: the length written, the openings.
@@ -129,29 +157,8 @@ pub fn govlezna_normalize_attribute_value(
 ) -> u32
     ensures { called result answer.new (out.new ∷ []) ≡ normalize_attribute_value_call text.now version depth limit list.now pool.now out.old }
 {
-    let simple = simple::is_simple(text);
-    let walk_checked = checks::check_walk(text, simple, version, depth, limit, list, pool);
-    let Answer::Done {
-        first: _,
-        second: _,
-    } = walk_checked
-    else {
-        return put(walk_checked, answer);
-    };
     put(
-        normalize::normalize_attribute_value(
-            text,
-            simple,
-            Wanted {
-                version,
-                strict: false,
-                depth,
-                limit,
-            },
-            list,
-            pool,
-            out,
-        ),
+        checked_value::<false>(text, version, depth, limit, list, pool, out),
         answer,
     )
 }
@@ -169,31 +176,32 @@ pub fn govlezna_normalize_attribute_value_strict(
 ) -> u32
     ensures { called result answer.new (out.new ∷ []) ≡ normalize_attribute_value_strict_call text.now version depth limit list.now pool.now out.old }
 {
-    let strict_simple = simple::is_simple(text);
-    let strict_checked = checks::check_walk(text, strict_simple, version, depth, limit, list, pool);
-    let Answer::Done {
-        first: _,
-        second: _,
-    } = strict_checked
-    else {
-        return put(strict_checked, answer);
-    };
     put(
-        normalize::normalize_attribute_value(
-            text,
-            strict_simple,
-            Wanted {
-                version,
-                strict: true,
-                depth,
-                limit,
-            },
-            list,
-            pool,
-            out,
-        ),
+        checked_value::<true>(text, version, depth, limit, list, pool, out),
         answer,
     )
+}
+
+fn checked_form<const STRICT: bool>(
+    text: &[u8],
+    version: u8,
+    depth: u64,
+    limit: u64,
+    list: &[u8],
+    pool: &[u8],
+    scratch: &mut [u8],
+    out: &mut [u8],
+) -> Answer
+    ensures { call_of (answered result) (scratch.new ∷ out.new ∷ []) ≡ guarded (walk_check text.now version depth limit list.now pool.now) (scratch.old ∷ out.old ∷ []) (formed (rule_of version) (normalize (reading_by STRICT (rule_of version) list.now pool.now limit) depth text.now) scratch.old out.old) }
+{
+    checks::check_walk(text, false, version, depth, limit, list, pool)?;
+    let wanted = Wanted {
+        version,
+        strict: STRICT,
+        depth,
+        limit,
+    };
+    normalize::canonical_form(text, wanted, list, pool, scratch, out)
 }
 
 // The canonical form of the normalized value, whose last character the scratch takes. Success: the length written, the openings.
@@ -210,28 +218,8 @@ pub fn govlezna_canonical_form(
 ) -> u32
     ensures { called result answer.new (scratch.new ∷ out.new ∷ []) ≡ canonical_form_call text.now version depth limit list.now pool.now scratch.old out.old }
 {
-    let form_checked = checks::check_walk(text, false, version, depth, limit, list, pool);
-    let Answer::Done {
-        first: _,
-        second: _,
-    } = form_checked
-    else {
-        return put(form_checked, answer);
-    };
     put(
-        normalize::canonical_form(
-            text,
-            Wanted {
-                version,
-                strict: false,
-                depth,
-                limit,
-            },
-            list,
-            pool,
-            scratch,
-            out,
-        ),
+        checked_form::<false>(text, version, depth, limit, list, pool, scratch, out),
         answer,
     )
 }
@@ -250,30 +238,30 @@ pub fn govlezna_canonical_form_strict(
 ) -> u32
     ensures { called result answer.new (scratch.new ∷ out.new ∷ []) ≡ canonical_form_strict_call text.now version depth limit list.now pool.now scratch.old out.old }
 {
-    let strict_form_checked = checks::check_walk(text, false, version, depth, limit, list, pool);
-    let Answer::Done {
-        first: _,
-        second: _,
-    } = strict_form_checked
-    else {
-        return put(strict_form_checked, answer);
-    };
     put(
-        normalize::canonical_form(
-            text,
-            Wanted {
-                version,
-                strict: true,
-                depth,
-                limit,
-            },
-            list,
-            pool,
-            scratch,
-            out,
-        ),
+        checked_form::<true>(text, version, depth, limit, list, pool, scratch, out),
         answer,
     )
+}
+
+fn checked_nmtokens(
+    text: &[u8],
+    wanted: Wanted,
+    list: &[u8],
+    pool: &[u8],
+    scratch: &mut [u8],
+    out: &mut [u8],
+) -> Answer
+    ensures { call_of (answered result) (scratch.new ∷ out.new ∷ []) ≡ guarded (walk_check text.now wanted.version wanted.depth wanted.limit list.now pool.now) (scratch.old ∷ out.old ∷ []) (collapsed (outcome_for wanted list.now pool.now text.now) scratch.old out.old) }
+{
+    let Wanted {
+        version,
+        depth,
+        limit,
+        ..
+    } = wanted;
+    checks::check_walk(text, false, version, depth, limit, list, pool)?;
+    nmtokens::normalize_nmtokens(text, wanted, list, pool, scratch, out)
 }
 
 // The value normalized as a list of tokens (K5): the scratch takes it, its second stage goes to `out`. Success: the length written, the
@@ -291,16 +279,8 @@ pub fn govlezna_normalize_nmtokens(
 ) -> u32
     ensures { called result answer.new (scratch.new ∷ out.new ∷ []) ≡ normalize_nmtokens_call text.now version depth limit list.now pool.now scratch.old out.old }
 {
-    let list_checked = checks::check_walk(text, false, version, depth, limit, list, pool);
-    let Answer::Done {
-        first: _,
-        second: _,
-    } = list_checked
-    else {
-        return put(list_checked, answer);
-    };
     put(
-        nmtokens::normalize_nmtokens(
+        checked_nmtokens(
             text,
             Wanted {
                 version,
@@ -359,21 +339,17 @@ pub fn govlezna_trim_xml_spaces(text: &[u8], answer: &mut [u64; 2]) -> u32
 
 // An answer beside the cursor that it leaves.
 fn leave(res: Answer, next: Cursor) -> CDataNext
-    ensures { result ≡ cursor_left res next }
+    ensures { result ≡ cursor_left (answered res) next }
 {
     match res {
-        Answer::Done { first, second } => CDataNext {
+        Ok(words) => CDataNext {
             number: 0,
-            words: [first, second],
+            words: [words.first, words.second],
             next,
         },
-        Answer::Refused {
-            number,
-            first,
-            second,
-        } => CDataNext {
-            number,
-            words: [first, second],
+        Err(refusal) => CDataNext {
+            number: refusal.number(),
+            words: refusal.words(),
             next,
         },
     }
@@ -435,6 +411,14 @@ pub fn govlezna_register_count(form: &[u8], buffer: &[u8], used: u64, answer: &m
     put(registers::count(form, buffer, used), answer)
 }
 
+fn checked_least(text: &[u8], version: u8, limit: u64, list: &[u8], pool: &[u8]) -> Answer
+    ensures { call_of (answered result) [] ≡ least_depth_call text.now version limit list.now pool.now }
+{
+    let simple = simple::is_simple(text);
+    checks::check_walk(text, simple, version, 128, limit, list, pool)?;
+    walk_least_depth::least_of(text, simple, version, limit, list, pool)
+}
+
 // The least depth at which the value is accepted (K14). Success: that depth.
 pub fn govlezna_least_depth(
     text: &[u8],
@@ -446,19 +430,14 @@ pub fn govlezna_least_depth(
 ) -> u32
     ensures { called result answer.new [] ≡ least_depth_call text.now version limit list.now pool.now }
 {
-    let simple = simple::is_simple(text);
-    let checked = checks::check_walk(text, simple, version, 128, limit, list, pool);
-    let Answer::Done {
-        first: _,
-        second: _,
-    } = checked
-    else {
-        return put(checked, answer);
-    };
-    put(
-        walk_least_depth::least_of(text, simple, version, limit, list, pool),
-        answer,
-    )
+    put(checked_least(text, version, limit, list, pool), answer)
+}
+
+fn checked_declarations(text: &[u8], version: u8, list: &mut [u8], pool: &mut [u8]) -> Answer
+    ensures { call_of (answered result) (list.new ∷ pool.new ∷ []) ≡ read_declarations_call text.now version list.old pool.old }
+{
+    checks::check_eols(text, version)?;
+    table_declarations::read_declarations(text, version, list, pool)
 }
 
 // A text of entity declarations as a table. Success: the length of the list, of the pool.
@@ -471,18 +450,7 @@ pub fn govlezna_read_declarations(
 ) -> u32
     ensures { called result answer.new (list.new ∷ pool.new ∷ []) ≡ read_declarations_call text.now version list.old pool.old }
 {
-    let declared_checked = checks::check_eols(text, version);
-    let Answer::Done {
-        first: _,
-        second: _,
-    } = declared_checked
-    else {
-        return put(declared_checked, answer);
-    };
-    put(
-        table_declarations::read_declarations(text, version, list, pool),
-        answer,
-    )
+    put(checked_declarations(text, version, list, pool), answer)
 }
 
 // How the values of a job fare (K11): a thin function over the lent spans, the turns of which are `walk_rehearsal::count_value`. Success:
@@ -512,12 +480,8 @@ pub fn govlezna_rehearse(
         spans.len(),
         staying,
     );
-    let count = job.count;
-    let mut i: usize = 0;
-    while i < count {
-        let s = spans[i];
-        walk_rehearsal::count_value(report, text, s, job, list, pool);
-        i += 1;
+    for s in &spans[..job.count] {
+        walk_rehearsal::count_value(report, text, *s, job, list, pool);
     }
-    walk_rehearsal::put_job(answer, job)
+    put(job.answer, answer)
 }

@@ -10,8 +10,8 @@ use Rattle.text.specs.Version.{Rule}
 use Rattle.text.specs.Call.{guarded}
 use Rattle.text.proofs.Bytes.{and_left, and_right}
 use Rattle.charref.specs.CharRef.{char_number, any_character, number_answer, only_char}
-use Rattle.charref.specs.declared.CharNumber.{CharNumber}
-use Rattle.charref.specs.declared.CharNumber.TheVariants.{Char, Forbidden}
+use Rattle.charref.specs.CharNumbers.{CharNumber}
+use Rattle.charref.specs.CharNumbers.{Char, Forbidden}
 use Rattle.charref.proofs.Rules.{char_related}
 use Rattle.entity.specs.Binding.{Bound, text, external, predefined, unknown}
 use Rattle.charref.specs.Chars.{is_char}

@@ -16,8 +16,8 @@ use borrow.Author.Tests.{eqb-true, ltb-false, le-ltb}
 use Rattle.text.specs.Version.{Rule, rule_of, known_version}
 use Rattle.text.specs.Utf8.{WellFormed, utf8_end}
 use Rattle.text.specs.Call.{Called, called, and_then, passed, guarded, laid, length_check, version_check, utf8_check, text_check, argument_check, longest_text}
-use Rattle.text.specs.declared.Answer.{Answer}
-use Rattle.text.specs.declared.Answer.TheVariants.{Done, Refused}
+use Rattle.text.specs.Answers.{Answer}
+use Rattle.text.specs.Answers.{Done, Refused}
 use Rattle.text.proofs.Bytes.{or_right}
 use Rattle.text.proofs.Longest.{end_whole}
 use Rattle.entity.specs.Table.{declarations, marked, table_check, ValidTable}

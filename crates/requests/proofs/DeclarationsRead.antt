@@ -9,8 +9,8 @@ use lib.ListN.{length}
 use Rattle.text.specs.Bytes.{pick}
 use Rattle.text.proofs.Bytes.{pick_by}
 use Rattle.charref.specs.CharRef.{char_number, any_character, number_answer}
-use Rattle.charref.specs.declared.CharNumber.{CharNumber}
-use Rattle.charref.specs.declared.CharNumber.TheVariants.{Char, UnexpectedSign, InvalidNumber, InvalidCodepoint, IllegalCharacter, Forbidden}
+use Rattle.charref.specs.CharNumbers.{CharNumber}
+use Rattle.charref.specs.CharNumbers.{Char, UnexpectedSign, InvalidNumber, InvalidCodepoint, IllegalCharacter, Forbidden}
 use Rattle.charref.proofs.Numbers.{char_number_passes_lem}
 use Rattle.entity.specs.Table.{inside, Declaration, name_of, text_of, declarations_from, declarations, mark_size}
 use Rattle.entity.specs.Binding.{Bound, text, body_bound}

@@ -1,20 +1,20 @@
 -- K9, of every call that reads with a table: a reference to an external entity is refused by 27 with the offset of its `&` in the text being walked,
 -- before 17, wherever it stands behind what is read, in the value and at any depth of nesting, and in unescaping, `amp` too (`k9_refers`); and by
 -- nothing else is 27 given (`k9_only` of WhenRefused.antt). Assumes nothing.
-use mathlib.Core.Path.{◌≡◌, refl, sym, subst, ◌∙◌}
-use Prim.Native.Nat.{ℕ, suc}
-use mathlib.Core.Bool.{Bool, true, false}
-use mathlib.Core.List.{List, [], ◌∷◌}
+use mathlib.Core.Path.{sym, subst, ◌∙◌}
+use Prim.Native.Nat.{ℕ}
+use mathlib.Core.Bool.{Bool, false}
+use mathlib.Core.List.{List}
 use lib.ListN.{length}
 use Rattle.text.specs.Version.{Rule, rule_of}
 use Rattle.entity.specs.Binding.{Bound, binding}
-use Rattle.legal.specs.Legal.{Place, in_table}
-use Rattle.tokens.specs.Tokens.{Stop, named, stop}
+use Rattle.legal.specs.Legal.{Place}
+use Rattle.tokens.specs.Tokens.{named, stop}
 use Rattle.unescape.specs.Unescape.{text_head, replaced, unescape_from, unescape}
 use Rattle.attribute.specs.Walk.{Settings}
 use Rattle.attribute.specs.Strict.{reading_by}
 use Rattle.requests.specs.Unused.{Reader, normalizing, forming, listing, unescaping, call_with}
-use Rattle.requests.specs.Reached.{heads_in, stopped, ComesTo, Opening, Within, here, inside}
+use Rattle.requests.specs.Reached.{heads_in, stopped, ComesTo, Within, here, inside}
 use Rattle.requests.specs.Refused.{AnswersSo, Outside, OutsideText, OutsideThere}
 use Rattle.requests.specs.External.{ReferenceIn, Through, itself, through, Refers, RefersText, RefersThere}
 use Rattle.requests.proofs.Reached.{walk_run}

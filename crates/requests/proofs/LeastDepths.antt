@@ -5,7 +5,7 @@ use mathlib.Core.Path.{◌≡◌, refl, sym, ap, subst, ◌∙◌}
 use mathlib.Core.Logic.{◌≢◌}
 use mathlib.Core.Bool.{Bool, true, false, true≢false}
 use mathlib.Core.List.{List, [], ◌∷◌}
-use Prim.Native.Nat.{ℕ, ◌≤◌, ◌<◌}
+use Prim.Native.Nat.{ℕ, ◌≤◌}
 use native.Mathlib.Omega.{arith}
 use lib.Dec.{eqb, ltb, leb}
 use lib.ListN.{length}
@@ -13,8 +13,8 @@ use borrow.Author.Tests.{le-ltb, eqb-true, eq-eqb, leb-true, leb-false}
 use Rattle.text.specs.Bytes.{pick}
 use Rattle.text.specs.Call.{called, call_of, and_then, guarded, laid, finish, length_check, version_check, utf8_check, argument_check}
 use Rattle.text.proofs.Bytes.{pick_both}
-use Rattle.text.specs.declared.Answer.{Answer}
-use Rattle.text.specs.declared.Answer.TheVariants.{Done, Refused}
+use Rattle.text.specs.Answers.{Answer}
+use Rattle.text.specs.Answers.{Done, Refused}
 use Rattle.entity.specs.Table.{table_check}
 use Rattle.tokens.specs.Outcome.{Outcome, done, refused, finished}
 use Rattle.attribute.specs.Checks.{settings_check}

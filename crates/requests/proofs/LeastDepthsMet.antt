@@ -5,7 +5,7 @@ use Prim.Native.Nat.{ℕ}
 use native.Mathlib.Omega.{arith}
 use Rattle.text.specs.Call.{called, length_check, version_check, utf8_check}
 use Rattle.text.specs.Utf8.{utf8_end}
-use Rattle.entity.specs.Table.{declarations, table_check, marked}
+use Rattle.entity.specs.Table.{declarations, table_check}
 use Rattle.tokens.specs.Outcome.{finished}
 use Rattle.attribute.specs.Checks.{settings_check}
 use Rattle.attribute.specs.Walk.{normalize, reading_of}

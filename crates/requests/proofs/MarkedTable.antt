@@ -2,20 +2,20 @@
 -- its bindings (`k4_binds`) and of unescaping (`k4_unescape`); anywhere but first it is 7 with its offset (`k4_middle`). Assumes nothing.
 use mathlib.Core.Path.{◌≡◌, refl, sym, ap, ◌∙◌}
 use mathlib.Core.Logic.{◌≢◌}
-use Prim.Native.Nat.{ℕ, zero, suc, ◌+◌, ◌*◌, ◌≤◌, ◌<◌}
+use Prim.Native.Nat.{ℕ, zero, suc, ◌+◌, ◌≤◌, ◌<◌}
 use native.Mathlib.Omega.{arith}
 use native.Mathlib.Nat.{zero-add, add-zero}
 use mathlib.Core.Bool.{Bool, true, false, ◌||◌}
 use mathlib.Core.List.{List, [], ◌∷◌, ◌++◌}
 use lib.Dec.{eqb, ltb}
-use lib.ListN.{length, get_or, length-append, get_or-append}
-use borrow.Author.Tests.{ltb-false, le-ltb}
+use lib.ListN.{length, length-append, get_or-append}
+use borrow.Author.Tests.{le-ltb}
 use Rattle.text.specs.Bytes.{pick}
-use Rattle.text.specs.Call.{Called, called, call_of, and_then, passed, guarded, text_check}
-use Rattle.text.specs.declared.Answer.{Answer}
-use Rattle.text.specs.declared.Answer.TheVariants.{Done, Refused}
-use Rattle.entity.specs.Table.{little_endian, Body, inside, outside, marked, mark_size, declares, declaration, operands, Declaration, declarations, runs_past, ill_formed, declaration_check, end_check, commands_check, size_check, table_check}
-use Rattle.entity.specs.Binding.{Bound, binding_in, binding}
+use Rattle.text.specs.Call.{called, call_of, and_then, passed, guarded, text_check}
+use Rattle.text.specs.Answers.{Answer}
+use Rattle.text.specs.Answers.{Done, Refused}
+use Rattle.entity.specs.Table.{little_endian, marked, declares, declaration, operands, Declaration, declarations, runs_past, ill_formed, declaration_check, end_check, commands_check, size_check, table_check}
+use Rattle.entity.specs.Binding.{binding_in, binding}
 use Rattle.tokens.specs.Outcome.{finished}
 use Rattle.unescape.specs.Unescape.{unescape}
 use Rattle.govlezna.specs.Calls.{check_table_call, unescape_call}

@@ -13,11 +13,11 @@ use borrow.Author.Tests.{ltb-false, le-ltb}
 use Rattle.text.specs.Bytes.{pick}
 use Rattle.text.specs.Utf8.{WellFormed}
 use Rattle.text.specs.Call.{Called, called, guarded, laid, finish, text_check}
-use Rattle.text.specs.declared.Answer.{Answer}
-use Rattle.text.specs.declared.Answer.TheVariants.{Done, Refused}
+use Rattle.text.specs.Answers.{Answer}
+use Rattle.text.specs.Answers.{Done, Refused}
 use Rattle.output.proofs.Laid.{laid_front}
 use Rattle.utils.specs.CData.{outside, piece_answer}
-use Rattle.utils.specs.declared.Piece.TheVariants.{Outside}
+use Rattle.utils.specs.CData.{outside_at}
 use Rattle.utils.proofs.Boundary.{start_inside}
 use Rattle.collapse.specs.Collapse.{spaces, collapse, ends, tokens, spaced}
 use Rattle.collapse.specs.NextToken.{found, token_at, token_from, token_size, next_token}
@@ -334,7 +334,7 @@ token_ends text offset = go (outside text offset) (token_size (drop (offset + sp
     start : ℕ
     start = offset + spaces (drop offset text)
 
-    go : (t : Bool) (size : ℕ) → RefusesToken offset (token_call (pick t (found (Outside offset) offset) (token_at offset start size)))
+    go : (t : Bool) (size : ℕ) → RefusesToken offset (token_call (pick t (found (outside_at offset) offset) (token_at offset start size)))
     go true size = stays 20 (offset ∷ 0 ∷ []) refl
     go false zero = stays 255 (0 ∷ 0 ∷ []) refl
     go false (suc size) = token start (suc size)

@@ -9,8 +9,8 @@ use lib.Dec.{eqb}
 use lib.ListN.{length, drop}
 use borrow.Author.Tests.{eqb-true, eqb-false, eq-eqb, ne_eqb}
 use Rattle.text.specs.Bytes.{pick, same_bytes}
-use Rattle.text.specs.declared.Answer.{Answer}
-use Rattle.text.specs.declared.Answer.TheVariants.{Done, Refused}
+use Rattle.text.specs.Answers.{Answer}
+use Rattle.text.specs.Answers.{Done, Refused}
 use Rattle.charref.specs.CharRef.{char_number, any_character, number_answer}
 use Rattle.entity.specs.Binding.{Bound, text, external, predefined, unknown}
 use Rattle.legal.specs.Legal.{Place, in_table}

@@ -9,8 +9,8 @@ use lib.Dec.{ltb}
 use lib.ListN.{length, take}
 use Rattle.text.specs.Bytes.{pick}
 use Rattle.text.specs.Call.{Called, called, guarded, laid, finish}
-use Rattle.text.specs.declared.Answer.{Answer}
-use Rattle.text.specs.declared.Answer.TheVariants.{Done, Refused}
+use Rattle.text.specs.Answers.{Answer}
+use Rattle.text.specs.Answers.{Done, Refused}
 use Rattle.tokens.specs.Outcome.{Outcome, done, refused, finished}
 use Rattle.govlezna.specs.Calls.{normalize_attribute_value_call, normalize_attribute_value_strict_call}
 use Rattle.demands.specs.Demands.{Asked, Taken}

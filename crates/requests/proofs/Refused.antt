@@ -9,8 +9,8 @@ use lib.ListN.{length}
 use Rattle.text.specs.Bytes.{pick}
 use Rattle.text.specs.Version.{rule_of}
 use Rattle.text.specs.Call.{Called, called, guarded, and_then, laid, text_check, length_check, utf8_check, finish}
-use Rattle.text.specs.declared.Answer.{Answer}
-use Rattle.text.specs.declared.Answer.TheVariants.{Done, Refused}
+use Rattle.text.specs.Answers.{Answer}
+use Rattle.text.specs.Answers.{Done, Refused}
 use Rattle.text.proofs.Bytes.{contrary}
 use Rattle.entity.specs.Table.{table_check}
 use Rattle.entity.specs.Binding.{binding}

@@ -16,8 +16,8 @@ use borrow.Author.Tests.{eqb-true, eqb-false, ltb-true, ltb-false}
 use Rattle.text.specs.Bytes.{pick, same_bytes}
 use Rattle.text.specs.Utf8.{WellFormed}
 use Rattle.text.specs.Call.{Called, called, guarded, length_check, utf8_check, text_check, passed, longest_text}
-use Rattle.text.specs.declared.Answer.{Answer}
-use Rattle.text.specs.declared.Answer.TheVariants.{Done, Refused}
+use Rattle.text.specs.Answers.{Answer}
+use Rattle.text.specs.Answers.{Done, Refused}
 use Rattle.text.proofs.Bytes.{pick_both}
 use Rattle.register.specs.Entries.{Entry, entry, cost, count_in, recount, largest_count, Change, changed, refused, add, withdraw, absent}
 use Rattle.register.specs.Stored.{Held, holds, damaged, bytes_of, entries, intact, register, written}

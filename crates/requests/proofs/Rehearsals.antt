@@ -8,14 +8,14 @@ use mathlib.Core.List.{List, [], ◌∷◌, ◌++◌}
 use Prim.Native.Nat.{ℕ, zero, suc, ◌+◌, ◌≤◌, ◌<◌}
 use native.Mathlib.Omega.{arith}
 use lib.Dec.{eqb, ltb}
-use lib.ListN.{length, get_or, take, drop}
+use lib.ListN.{length, take, drop}
 use borrow.Author.Tests.{lt-ltb, le-ltb, ltb-true, ltb-false, ne_eqb, eqb-true}
 use Rattle.text.specs.Bytes.{pick}
-use Rattle.text.specs.Utf8.{well_formed, WellFormed, utf8_end}
-use Rattle.text.specs.Call.{Called, called, call_of, passed, and_then, guarded, laid, finish, length_check, utf8_check, argument_check}
+use Rattle.text.specs.Utf8.{well_formed, utf8_end}
+use Rattle.text.specs.Call.{Called, called, passed, and_then, guarded, laid, finish, length_check, utf8_check, argument_check}
 use Rattle.text.specs.Version.{rule_of}
-use Rattle.text.specs.declared.Answer.{Answer}
-use Rattle.text.specs.declared.Answer.TheVariants.{Done, Refused}
+use Rattle.text.specs.Answers.{Answer}
+use Rattle.text.specs.Answers.{Done, Refused}
 use Rattle.text.proofs.Bytes.{pick_both}
 use Rattle.text.proofs.Call.{checked_length}
 use Rattle.text.proofs.Longest.{end_whole}
@@ -25,8 +25,8 @@ use Rattle.tokens.specs.Outcome.{Outcome, done, refused, finished}
 use Rattle.attribute.specs.Checks.{settings_check}
 use Rattle.attribute.specs.Walk.{Settings, normalize, reading_of}
 use Rattle.walk_rehearsal.specs.declared.Span.{Span}
-use Rattle.walk_rehearsal.specs.declared.Verdict.{Verdict}
-use Rattle.walk_rehearsal.specs.declared.Verdict.TheVariants.{Accepted, Fallen}
+use Rattle.walk_rehearsal.specs.Rehearsal.{Verdict}
+use Rattle.walk_rehearsal.specs.Rehearsal.{Accepted, Fallen}
 use Rattle.walk_rehearsal.specs.Rehearsal.{inside, spans_check, verdict, verdict_of, bytes_of, report}
 use Rattle.walk_rehearsal.specs.Counts.{share, summed}
 use Rattle.walk_rehearsal.proofs.WalkNumbers.{Numbered, normalize_numbered}

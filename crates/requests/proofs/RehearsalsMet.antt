@@ -5,10 +5,10 @@ use mathlib.Core.Logic.{◌≢◌}
 use mathlib.Core.List.{List, [], ◌∷◌}
 use Prim.Native.Nat.{ℕ, ◌<◌}
 use native.Mathlib.Omega.{arith}
-use lib.ListN.{length, replicate, length-replicate}
+use lib.ListN.{replicate, length-replicate}
 use Rattle.text.specs.Call.{Called, called, length_check, version_check, utf8_check}
 use Rattle.text.specs.Utf8.{utf8_end, well_formed}
-use Rattle.entity.specs.Table.{part, declarations, table_check, marked}
+use Rattle.entity.specs.Table.{part, declarations, table_check}
 use Rattle.tokens.specs.Outcome.{finished}
 use Rattle.attribute.specs.Checks.{settings_check}
 use Rattle.attribute.specs.Walk.{normalize, reading_of}

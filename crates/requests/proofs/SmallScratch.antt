@@ -8,8 +8,8 @@ use Prim.Native.Nat.{ℕ, ◌≤◌, ◌<◌}
 use lib.ListN.{length, take}
 use Rattle.text.specs.Version.{Rule}
 use Rattle.text.specs.Call.{Called, called, guarded, laid}
-use Rattle.text.specs.declared.Answer.{Answer}
-use Rattle.text.specs.declared.Answer.TheVariants.{Done, Refused}
+use Rattle.text.specs.Answers.{Answer}
+use Rattle.text.specs.Answers.{Done, Refused}
 use Rattle.tokens.specs.Outcome.{Outcome, done}
 use Rattle.attribute.specs.Form.{handed, formed, formed_whole, without_scratch, HoldsWhole}
 use Rattle.attribute.proofs.InHand.{same_form, in_hand_short, in_hand_no_room, in_hand_done}

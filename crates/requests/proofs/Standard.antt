@@ -14,8 +14,8 @@ use borrow.Author.Tests.{eqb-true, ltb-true, ltb-false}
 use Rattle.text.specs.Bytes.{pick}
 use Rattle.text.specs.Call.{called, guarded, laid, finish, length_check, utf8_check}
 use Rattle.text.specs.Utf8.{utf8_end}
-use Rattle.text.specs.declared.Answer.{Answer}
-use Rattle.text.specs.declared.Answer.TheVariants.{Done, Refused}
+use Rattle.text.specs.Answers.{Answer}
+use Rattle.text.specs.Answers.{Done, Refused}
 use Rattle.text.proofs.Bytes.{contrary}
 use Rattle.charref.specs.CharRef.{any_character}
 use Rattle.entity.specs.Table.{marked, table_check}

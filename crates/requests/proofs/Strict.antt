@@ -12,8 +12,8 @@ use lib.ListN.{length, take}
 use borrow.Author.Tests.{le-ltb}
 use Rattle.text.specs.Version.{Rule, xml11}
 use Rattle.text.specs.Call.{Called, called, guarded, laid, finish}
-use Rattle.text.specs.declared.Answer.{Answer}
-use Rattle.text.specs.declared.Answer.TheVariants.{Done, Refused}
+use Rattle.text.specs.Answers.{Answer}
+use Rattle.text.specs.Answers.{Done, Refused}
 use Rattle.output.proofs.Laid.{laid_front}
 use Rattle.tokens.specs.Outcome.{Outcome, done, refused, finished}
 use Rattle.tokens.proofs.Related.{Keeps, Stays}

@@ -4,7 +4,7 @@
 -- any number (`k13_firsts_stay`). Assumes nothing.
 use mathlib.Core.Path.{◌≡◌, refl, sym, ap, subst, ◌∙◌}
 use mathlib.Core.Logic.{◌≢◌}
-use Prim.Native.Nat.{ℕ, ◌≤◌}
+use Prim.Native.Nat.{ℕ}
 use mathlib.Core.Bool.{Bool, true, false}
 use mathlib.Core.Option.{Option, some, none}
 use mathlib.Core.List.{List, [], ◌∷◌, ◌++◌, append-nil}
@@ -13,8 +13,8 @@ use Rattle.text.specs.Bytes.{pick, same_bytes}
 use Rattle.text.specs.Utf8.{well_formed}
 use Rattle.text.specs.Version.{Rule, rule_of}
 use Rattle.text.specs.Call.{Called, called, call_of, guarded, and_then, text_check, argument_check}
-use Rattle.text.specs.declared.Answer.{Answer}
-use Rattle.text.specs.declared.Answer.TheVariants.{Done, Refused}
+use Rattle.text.specs.Answers.{Answer}
+use Rattle.text.specs.Answers.{Done, Refused}
 use Rattle.text.proofs.Bytes.{same_equal}
 use Rattle.entity.specs.Table.{Declaration, name_of, declarations, table_check}
 use Rattle.entity.specs.Binding.{Bound, text, predefined, external, unknown, predefined_of, body_bound, binding_in, binding}
@@ -32,8 +32,8 @@ use Rattle.nmtokens.specs.Nmtokens.{collapsed}
 use Rattle.attribute.specs.LookedUp.{looked_up}
 use Rattle.attribute.proofs.LookedUp.{unused_table}
 use Rattle.walk_rehearsal.specs.declared.Span.{Span}
-use Rattle.walk_rehearsal.specs.declared.Verdict.{Verdict}
-use Rattle.walk_rehearsal.specs.declared.Verdict.TheVariants.{Fallen}
+use Rattle.walk_rehearsal.specs.Rehearsal.{Verdict}
+use Rattle.walk_rehearsal.specs.Rehearsal.{Fallen}
 use Rattle.walk_rehearsal.specs.Rehearsal.{spans_check, bytes_of, verdict, verdict_of, counted, counted_over, report}
 use Rattle.walk_depths.specs.LeastDepth.{least_depth}
 use Rattle.walk_depths.proofs.NamesByDepth.{names_down, least_same}

@@ -11,8 +11,8 @@ use lib.Seq.{take-append-le, drop-append-le}
 use borrow.Author.Tests.{ltb-false}
 use Rattle.text.specs.Bytes.{pick}
 use Rattle.text.specs.Call.{and_then}
-use Rattle.text.specs.declared.Answer.{Answer}
-use Rattle.text.specs.declared.Answer.TheVariants.{Done, Refused}
+use Rattle.text.specs.Answers.{Answer}
+use Rattle.text.specs.Answers.{Done, Refused}
 use Rattle.text.proofs.Bytes.{or_left, or_right}
 use Rattle.entity.specs.Table.{part, Body, inside, outside, Declaration, name_of, text_of, mark_size, declares, declaration, operands, declarations_from, declarations, body_past, runs_past, ill_formed, declaration_check, end_check, commands_check, size_check, table_check, ValidTable}
 use Rattle.entity.specs.Binding.{Bound, text, body_bound}

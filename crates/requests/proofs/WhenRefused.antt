@@ -9,10 +9,10 @@ use lib.ListN.{drop}
 use Rattle.text.specs.Bytes.{pick, same_bytes}
 use Rattle.text.specs.Version.{Rule, rule_of}
 use Rattle.text.specs.Call.{called}
-use Rattle.text.specs.declared.Answer.TheVariants.{Refused}
+use Rattle.text.specs.Answers.{Refused}
 use Rattle.charref.specs.CharRef.{char_number, any_character, number_answer, only_char}
-use Rattle.charref.specs.declared.CharNumber.{CharNumber}
-use Rattle.charref.specs.declared.CharNumber.TheVariants.{Char, UnexpectedSign, InvalidNumber, InvalidCodepoint, IllegalCharacter, Forbidden}
+use Rattle.charref.specs.CharNumbers.{CharNumber}
+use Rattle.charref.specs.CharNumbers.{Char, UnexpectedSign, InvalidNumber, InvalidCodepoint, IllegalCharacter, Forbidden}
 use Rattle.charref.proofs.Numbers.{relegal, relegal_number, char_number_passes_lem}
 use Rattle.entity.specs.Binding.{Bound, text, external, predefined, unknown, binding}
 use Rattle.charref.specs.Chars.{is_char}

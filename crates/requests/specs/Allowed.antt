@@ -3,8 +3,8 @@ use Rattle.std.specs.Prelude.{◌≡◌, ℕ, zero, suc, Bool, true, false, ◌&
 use Rattle.text.specs.Bytes.{pick, same_bytes}
 use Rattle.text.specs.Version.{Rule}
 use Rattle.charref.specs.CharRef.{char_number, only_char}
-use Rattle.charref.specs.declared.CharNumber.{CharNumber}
-use Rattle.charref.specs.declared.CharNumber.TheVariants.{Char, UnexpectedSign, InvalidNumber, InvalidCodepoint, IllegalCharacter, Forbidden}
+use Rattle.charref.specs.CharNumbers.{CharNumber}
+use Rattle.charref.specs.CharNumbers.{Char, UnexpectedSign, InvalidNumber, InvalidCodepoint, IllegalCharacter, Forbidden}
 use Rattle.entity.specs.Binding.{Bound, text, external, predefined, unknown}
 use Rattle.legal.specs.Legal.{in_value, in_table, may_stand, fault_at}
 use Rattle.tokens.specs.Tokens.{Stop, kept, space, number, named, unterminated, Token, copy, stop, barred, token_of, skip_of, Heads, tokens}

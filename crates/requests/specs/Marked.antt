@@ -1,5 +1,5 @@
 -- K4, lists whose texts are past line ends (document 02), stated of the calls. Assumes nothing.
-use Rattle.std.specs.Prelude.{◌≡◌, ℕ, suc, Bool, true, false, ◌||◌, List, [], ◌∷◌, ◌++◌, eqb}
+use Rattle.std.specs.Prelude.{◌≡◌, ℕ, suc, true, false, ◌||◌, List, [], ◌∷◌, ◌++◌, eqb}
 use Rattle.text.specs.Bytes.{pick}
 use Rattle.text.specs.Version.{rule_of}
 use Rattle.legal.specs.Legal.{Place, in_value, in_table}

@@ -2,7 +2,7 @@
 -- refusal is the answer). Assumes nothing.
 use Rattle.std.specs.Prelude.{◌≡◌, ◌≢◌, ℕ, zero, suc, ◌+◌, false, List, [], ◌∷◌, ◌++◌, length, drop}
 use Rattle.text.specs.Bytes.{same_bytes}
-use Rattle.text.specs.declared.Answer.TheVariants.{Refused}
+use Rattle.text.specs.Answers.{Refused}
 use Rattle.charref.specs.CharRef.{char_number, any_character, number_answer}
 use Rattle.entity.specs.Binding.{Bound, text, external, predefined, unknown}
 use Rattle.legal.specs.Legal.{Place, in_value, in_table}

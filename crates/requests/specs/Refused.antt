@@ -5,7 +5,7 @@ use Rattle.text.specs.Bytes.{same_bytes}
 use Rattle.text.specs.Version.{Rule, rule_of}
 use Rattle.text.specs.Call.{Called, called}
 use Rattle.charref.specs.CharRef.{char_number, any_character}
-use Rattle.charref.specs.declared.CharNumber.TheVariants.{Char}
+use Rattle.charref.specs.CharNumbers.{Char}
 use Rattle.entity.specs.Binding.{Bound, external, binding}
 use Rattle.charref.specs.Chars.{is_char}
 use Rattle.legal.specs.Legal.{Place, in_value, may_stand, fault_at}

@@ -1,7 +1,7 @@
 -- K7, the canonical form from a small scratch (document 02), stated of both calls. Assumes nothing.
 use Rattle.std.specs.Prelude.{ℕ, Bool, true, false, List}
 use Rattle.text.specs.Call.{Called}
-use Rattle.text.specs.declared.Answer.{Answer}
+use Rattle.text.specs.Answers.{Answer}
 use Rattle.tokens.specs.Outcome.{Outcome}
 use Rattle.govlezna.specs.Calls.{walk_check, walked, walked_strictly}
 use Rattle.demands.specs.Demands.{Asked}

@@ -4,7 +4,7 @@ use Rattle.std.specs.Prelude.{◌≡◌, ℕ, ◌≤◌, ◌<◌, Bool, true, fa
 use Rattle.std.proofs.Math.Option.{Option, none, some}
 use Rattle.text.specs.Call.{Called, called, laid}
 use Rattle.charref.specs.CharRef.{any_character, only_char}
-use Rattle.charref.specs.declared.CharNumber.{CharNumber}
+use Rattle.charref.specs.CharNumbers.{CharNumber}
 use Rattle.entity.specs.Table.{marked}
 use Rattle.entity.specs.Binding.{binding}
 use Rattle.demands.specs.Demands.{Asked, rule_for}

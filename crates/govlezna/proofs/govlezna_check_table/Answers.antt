@@ -1,6 +1,6 @@
 use mathlib.Core.Path.{ap, ◌∙◌}
 use mathlib.Core.List.{[]}
-use Rattle.text.specs.declared.Answer.{Answer}
+use Rattle.text.specs.Answers.{Answer}
 use Rattle.text.specs.Call.{call_of}
 use Rattle.govlezna.specs.Calls.{check_table_call}
 use Rattle.govlezna.proofs.govlezna_check_table.Goals as goal

@@ -3,8 +3,8 @@ use mathlib.Core.Path.{ap, ◌∙◌}
 use mathlib.Core.List.{[]}
 use lib.ListN.{length}
 use Rattle.text.specs.Call.{call_of, text_check}
-use Rattle.text.specs.declared.Answer.{Answer}
-use Rattle.text.specs.declared.Answer.TheVariants.{Done}
+use Rattle.text.specs.Answers.{Answer}
+use Rattle.text.specs.Answers.{Done}
 use Rattle.govlezna.specs.Calls.{check_utf8_call}
 use Rattle.govlezna.proofs.Passing.{guards}
 use Rattle.govlezna.proofs.govlezna_check_utf8.Goals as goal

@@ -1,33 +1,9 @@
--- `govlezna_normalize_nmtokens` answers as its checks refuse, or else as the second stage over the walk does; nothing is known of its text
--- before the checks, so `check_walk` is told that it is not simple.
-use mathlib.Core.Path.{◌∙◌, sym}
-use mathlib.Core.List.{[], ◌∷◌}
-use Rattle.text.proofs.Call.{halts, passes}
-use Rattle.attribute.specs.Strict.{reading_by}
+-- `govlezna_normalize_nmtokens` puts what `checked_nmtokens` answers.
+use mathlib.Core.Path.{◌∙◌}
 use Rattle.govlezna.specs.Calls.{normalize_nmtokens_call}
-use Rattle.govlezna.proofs.Passing.{passed_walk}
-use mathlib.Core.Bool.{true≢false}
+use Rattle.attribute.specs.Strict.{reading_by}
 use Rattle.govlezna.proofs.govlezna_normalize_nmtokens.Goals as goal
-
-pub check_walk-list_checked-requires : goal.check_walk-list_checked-requires
-check_walk-list_checked-requires c = λ q. absurd (true≢false (sym q))
-
-pub returns-in_default : goal.returns-in_default
-unfolding normalize_nmtokens_call
-returns-in_default c =
-    let a = c.args in
-    let lent = a.scratch.now ∷ a.out.now ∷ [] in
-    c.put.ensures lent ∙ halts lent _ c.check_walk-list_checked.ensures c.in_default.is
-
-pub normalize_nmtokens-requires : goal.normalize_nmtokens-requires
-normalize_nmtokens-requires c =
-    let a = c.args in
-    let both = passed_walk a.text.now a.version a.depth a.limit a.list.now a.pool.now c.check_walk-list_checked.ensures c.in-Done.is in
-    record { valid_table = both.0; text_len_bound = both.1.0; limit_bound = both.1.1.0; well_formed = both.1.1.1 }
 
 pub returns : goal.returns
 unfolding normalize_nmtokens_call reading_by
-returns c =
-    let a = c.args in
-    let lent = a.scratch.now ∷ a.out.now ∷ [] in
-    c.put-2.ensures _ ∙ c.normalize_nmtokens.ensures ∙ passes lent _ c.check_walk-list_checked.ensures c.in-Done.is
+returns c = c.put.ensures _ ∙ c.checked_nmtokens.ensures

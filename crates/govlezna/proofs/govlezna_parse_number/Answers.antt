@@ -3,7 +3,7 @@ use Rattle.charref.specs.CharRef.{number_answer, char_number, any_character}
 use mathlib.Core.Path.{ap, ◌∙◌}
 use mathlib.Core.List.{[]}
 use Rattle.text.specs.Call.{call_of, text_check}
-use Rattle.text.specs.declared.Answer.{Answer}
+use Rattle.text.specs.Answers.{Answer}
 use Rattle.govlezna.specs.Calls.{parse_number_call}
 use Rattle.govlezna.proofs.Passing.{guards}
 use Rattle.govlezna.proofs.govlezna_parse_number.Goals as goal

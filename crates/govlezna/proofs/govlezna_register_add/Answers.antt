@@ -1,7 +1,8 @@
 -- `govlezna_register_add`: what `add` answers, stored (`stored`): the used length first, then words and number.
+use Rattle.text.specs.Call.{answered}
 use Rattle.registers.proofs.Storing.{stored}
 use Rattle.govlezna.proofs.govlezna_register_add.Goals as goal
 
 pub returns : goal.returns
 returns c =
-    stored c.add-added.result c.args.used.now c.put.ensures c.used_after.ensures c.add-added.ensures
+    stored (answered c.add-added.result) c.args.used.now c.put.ensures c.used_after.ensures c.add-added.ensures

@@ -1,0 +1,23 @@
+-- `checked_value`: the check and the walk are both told whether the text is simple.
+use mathlib.Core.Path.{ap, ◌∙◌}
+use mathlib.Core.List.{[], ◌∷◌}
+use borrow.Author.Rules.{rules}
+use Rattle.std.proofs.Common.{◌≡◌, Err}
+use Rattle.text.specs.Call.{answered}
+use Rattle.text.proofs.Call.{passes}
+use Rattle.govlezna.proofs.Passing.{refuses, passed_walk}
+use Rattle.govlezna.proofs.checked_value.Goals as goal
+
+pub normalize_attribute_value-requires : goal.normalize_attribute_value-requires
+normalize_attribute_value-requires o c =
+    let a = c.args in
+    let passed = passed_walk a.text.now a.version a.depth a.limit a.list.now a.pool.now c.check_walk.ensures (ap answered c.in_ok-check_walk.was) in
+    record { simple = c.is_simple-simple.ensures; valid_table = passed.0; text_len_bound = passed.1.0; limit_bound = passed.1.1.0; well_formed = passed.1.1.1 }
+
+pub returns-in_err-check_walk : goal.returns-in_err-check_walk
+returns-in_err-check_walk o c =
+    let handed : c.from_residual.result ≡ Err c.in_err-check_walk.field-0.0 = search rules in
+    refuses (c.args.out.now ∷ []) _ c.check_walk.ensures c.in_err-check_walk.was handed
+
+pub returns : goal.returns
+returns o c = c.normalize_attribute_value.ensures ∙ passes (c.args.out.now ∷ []) _ c.check_walk.ensures (ap answered c.in_ok-check_walk.was)
