@@ -1,7 +1,10 @@
--- What one more digit, or one more pair of digits, makes of what was read before it. Assumes nothing.
-use Rattle.std.proofs.Common.{◌≡◌, ℕ, suc, ◌+◌, ◌-◌, ◌*◌, ◌/◌, ◌%◌, ◌^◌, ◌<◌, ◌≤◌, List, [], ◌∷◌, ◌++◌, length, get_or, take, set, sym, refl, append_assoc, not-suc-le-zero, pow-suc, add-one, arith, take-suc, take-suc-set, le-ltb, lt-ltb}
-use Rattle.io.specs.Digits.{last_digits, hex_digit_ascii}
-use Rattle.replay.specs.Values.{hex_of, field_of}
+-- What a digit writes, and what one more pair of digits makes of what was read before it. Assumes nothing.
+use Rattle.std.proofs.Common.{◌≡◌, ℕ, zero, suc, ◌+◌, ◌-◌, ◌*◌, ◌/◌, ◌%◌, ◌<◌, ◌≤◌, List, [], ◌∷◌, ◌++◌, length, get_or, take, drop, set, refl, not-suc-le-zero, arith, le-ltb, lt-ltb, Some, flat_map}
+use Rattle.std.proofs.lemmas.List.{flat_map_more, take_more, take_more_set}
+use Rattle.std.proofs.Math.Seq.{take-add}
+use Rattle.std.specs.Simd.{first_chunks}
+use Rattle.io.specs.Digits.{hex_digit_ascii}
+use Rattle.replay.specs.Values.{HexDigit, hex_of, field_of}
 
 -- the byte of a digit below ten
 pub glyph_digit : (b : ℕ) → 48 ≤ b → b < 58 → hex_digit_ascii (b - 48) ≡ b
@@ -17,43 +20,37 @@ glyph_letter b low =
     let e : 87 + (b - 97 + 10) ≡ b = omega arith in
     simp (le-ltb _ _ d) e
 
-module _ (field : List ℕ) (n i : ℕ) (within : i < length field) where
-  pub more_digits : 48 ≤ get_or field i 0 → get_or field i 0 < 58 → last_digits 10 i n ≡ take i field
-      → last_digits 10 (i + 1) (n * 10 + (get_or field i 0 - 48)) ≡ take (i + 1) field
-  more_digits low high before =
-      let b = get_or field i 0 in
-      let rest : (n * 10 + (b - 48)) / 10 ≡ n = omega arith in
-      let last : (n * 10 + (b - 48)) % 10 ≡ b - 48 = omega arith in
-      rw (add-one, rest, last, glyph_digit b low high, before, take-suc field i 0)
-
--- a number of i digits, and one digit after it
-pub more_room : (n i d : ℕ) → n < 10 ^ i → d < 10 → n * 10 + d < 10 ^ (i + 1)
-more_room n i d h digit = rw (add-one, pow-suc) (omega arith)
-
 hex_of_append_lem : (xs ys : List ℕ) → hex_of (xs ++ ys) ≡ hex_of xs ++ hex_of ys
 unfolding hex_of
 hex_of_append_lem [] ys = refl
 hex_of_append_lem (x ∷ xs) ys = rw (hex_of_append_lem xs ys)
 
--- the two digits from an even place on, after the digits of the bytes before
-two_more : (field : List ℕ) (i : ℕ) → i * 2 + 1 < length field
-    → take ((i + 1) * 2) field ≡ take (i * 2) field ++ (get_or field (i * 2) 0 ∷ get_or field (i * 2 + 1) 0 ∷ [])
-two_more field i within =
-    let even : (i + 1) * 2 ≡ suc (suc (i * 2)) = omega arith in
-    let odd : i * 2 + 1 ≡ suc (i * 2) = omega arith in
-    let first : i * 2 < length field = omega arith in
-    let second : suc (i * 2) < length field = omega arith in
-    rw (even, odd, take-suc field (suc (i * 2)) 0 second, take-suc field (i * 2) 0 first, append_assoc)
+-- two elements, and no more
+two_reads : (p : List ℕ) → length p ≡ 2 → get_or p 0 0 ∷ get_or p 1 0 ∷ [] ≡ p
+two_reads [] two = grind arith
+two_reads (x ∷ []) two = grind arith
+two_reads (x ∷ y ∷ []) two = refl
+two_reads (x ∷ y ∷ z ∷ zs) two = grind arith
 
-module _ (field out : List ℕ) (i high low : ℕ) (within : i * 2 + 1 < length field) (room : i < length out) where
-  pub more_hex : high < 16 → low < 16 → hex_digit_ascii high ≡ get_or field (i * 2) 0 → hex_digit_ascii low ≡ get_or field (i * 2 + 1) 0
-      → hex_of (take i out) ≡ take (i * 2) field
-      → hex_of (take (i + 1) (set out i (high * 16 + low))) ≡ take ((i + 1) * 2) field
+-- one more pair of digits
+module _ (pairs : List (List ℕ)) (out : List ℕ) (i high low : ℕ) (within : i < length pairs) (room : i < length out) where
+  pub more_pairs : length (get_or pairs i []) ≡ 2 → HexDigit (get_or (get_or pairs i []) 0 0) (Some high)
+      → HexDigit (get_or (get_or pairs i []) 1 0) (Some low) → hex_of (take i out) ≡ flat_map (λ p. p) (take i pairs)
+      → hex_of (take (i + 1) (set out i (high * 16 + low))) ≡ flat_map (λ p. p) (take (i + 1) pairs)
   unfolding hex_of
-  more_hex h l eh el before =
+  more_pairs two h l before =
       let top : (high * 16 + low) / 16 ≡ high = omega arith in
       let end : (high * 16 + low) % 16 ≡ low = omega arith in
-      rw (add-one i, take-suc-set out i (high * 16 + low) room, hex_of_append_lem, top, end, eh, el, before, ← add-one i) (sym (two_more field i within))
+      let pair = get_or pairs i [] in
+      rw (take_more_set out i (high * 16 + low) room, hex_of_append_lem, top, end, h.1, l.1, before, take_more pairs i [] within)
+      (rw (two_reads pair two) (flat_map_more (λ p. p) [] (take i pairs) pair))
+
+-- the pairs of a list, one after the other
+pub flat_pairs : (k : ℕ) (xs : List ℕ) → flat_map (λ p. p) (first_chunks 2 k xs) ≡ take (k * 2) xs
+flat_pairs zero xs = refl
+flat_pairs (suc k) xs =
+    let more : suc k * 2 ≡ 2 + k * 2 = omega arith in
+    rw (more, take-add 2 (k * 2) xs, flat_pairs k (drop 2 xs)) refl
 
 -- bytes that are there are written in hexadecimal
 pub field_of_some_lem : (xs : List ℕ) → 0 < length xs → field_of xs ≡ hex_of xs

@@ -1,114 +1,113 @@
-// What came of a stored line, and the comparison of an answer with the stored one.
-ghost use Rattle.std.specs.Prelude.{◌<◌};
+// What a call answered, and its comparison with what is stored.
+ghost use Rattle.std.specs.Prelude.{◌<◌, ◌≤◌};
 
+use crate::arguments::{bytes, numbers};
 use crate::fields::field;
-use crate::values::{decimals, decode_hex};
+use std::error::Error;
+use std::fmt;
 
 // Stands in both answer words before a call. No stored answer has it, so a word that a call leaves
 // unwritten differs.
-pub const UNWRITTEN: u64 = 0xa5a5_a5a5_a5a5_a5a5;
+const UNWRITTEN: u64 = 0xa5a5_a5a5_a5a5_a5a5;
 
 // Stands in all bytes of an output and a scratch before a call. No UTF-8 has it, so a byte that a
 // call leaves unwritten differs.
 pub const UNTOUCHED: u8 = 0xff;
 
-#[derive(Drop)]
+#[derive(Clone, Copy, Debug, PartialEq, Eq)]
 pub struct Answer {
-    pub number: u64,
-    pub first: u64,
-    pub second: u64,
+    number: u64,
+    words: [u64; 2],
 }
 
-#[derive(Drop)]
-pub enum Outcome {
-    // An empty line, or a comment.
-    Nothing,
-    Same,
-    Differs(Answer),
+// Why a stored result does not pass.
+#[derive(Clone, Copy, Debug, PartialEq, Eq)]
+pub enum Failure {
     Malformed,
+    Differs(Answer),
 }
 
-pub fn differs(number: u32, answer: [u64; 2]) -> Outcome {
-    Outcome::Differs(Answer {
-        number: number as u64,
-        first: answer[0],
-        second: answer[1],
-    })
-}
-
-// Compares with `= NUMBER FIRST SECOND`, which stands in the line from field `at` on. How many
-// fields follow it, the call has seen.
-pub fn compare(line: &[u8], at: usize, number: u32, answer: [u64; 2]) -> Outcome
-    requires { at < 99 }
-{
-    if !check::same(field(line, at), b"=") {
-        return Outcome::Malformed;
+impl Answer {
+    // Makes the call, with two unwritten words lent to it.
+    pub fn of<F: FnOnce(&mut [u64; 2]) -> u32>(call: F) -> Answer
+        requires { F.IsAlwaysCallable call }
+    {
+        let mut words = [UNWRITTEN; 2];
+        let number = call(&mut words);
+        Answer {
+            number: u64::from(number),
+            words,
+        }
     }
-    let mut stored = [0u64; 3];
-    if !decimals(line, at + 1, 3, &mut stored) {
-        return Outcome::Malformed;
+
+    // Compares with `= NUMBER FIRST SECOND`, which stands in the line from field `at` on. How many
+    // fields follow it, the call has seen.
+    pub fn compare(self, line: &[u8], at: usize) -> Result<(), Failure>
+        requires { at < 99 }
+    {
+        if field(line, at) != b"=".as_slice() {
+            return Err(Failure::Malformed);
+        }
+        let [number, first, second] = numbers::<3>(line, at + 1)?;
+        let stored = Answer {
+            number,
+            words: [first, second],
+        };
+        self.passes_if(self == stored)
     }
-    if same_answer(stored, number, answer) {
-        return Outcome::Same;
+
+    // Compares what a lent buffer holds with field k, which writes the bytes at its start. They are put
+    // into bytes that are untouched as the lent ones were, so that one comparison sees the rest too.
+    pub fn compare_lent(self, line: &[u8], k: usize, lent: &[u8; 2048]) -> Result<(), Failure> {
+        let mut stored = [UNTOUCHED; 2048];
+        // Else a field that writes untouched bytes after the right ones would pass.
+        if bytes(line, k, &mut stored)?.ends_with(&[UNTOUCHED]) {
+            return Err(Failure::Malformed);
+        }
+        self.passes_if(*lent == stored)
     }
-    differs(number, answer)
+
+    // Whether what the call left besides its answer is as stored.
+    pub fn passes_if(self, is_stored: bool) -> Result<(), Failure> {
+        if is_stored {
+            Ok(())
+        } else {
+            Err(Failure::Differs(self))
+        }
+    }
 }
 
-fn same_answer(stored: [u64; 3], number: u32, answer: [u64; 2]) -> bool {
-    (stored[0] == number as u64) & (stored[1] == answer[0]) & (stored[2] == answer[1])
-}
-
-// Compares with `= NUMBER FIRST SECOND OUTPUT` from field `at` on.
-pub fn compare_output(
+// Makes the call with an output of `room` bytes, and compares with `= NUMBER FIRST SECOND OUTPUT` from
+// field `at` on.
+pub fn replay_output<F: FnOnce(&mut [u8], &mut [u64; 2]) -> u32>(
     line: &[u8],
     at: usize,
-    number: u32,
-    answer: [u64; 2],
-    out: &[u8; 2048],
-) -> Outcome
-    requires { at < 99 }
+    room: usize,
+    call: F,
+) -> Result<(), Failure>
+    requires bounds { (at < 99) × (room ≤ 2048) }
+    requires callable { F.IsAlwaysCallable call }
 {
-    let outcome = compare(line, at, number, answer);
-    let Outcome::Same = outcome else {
-        return outcome;
-    };
-    compare_lent(line, at + 4, number, answer, out)
+    let mut out = [UNTOUCHED; 2048];
+    let answer = Answer::of(|words| call(&mut out[..room], words));
+    answer.compare(line, at)?;
+    answer.compare_lent(line, at + 4, &out)
 }
 
-// Compares what a lent buffer holds with field k, which writes the bytes at its start. They are put
-// into bytes that are untouched as the lent ones were, so that one comparison sees the rest too.
-pub fn compare_lent(
-    line: &[u8],
-    k: usize,
-    number: u32,
-    answer: [u64; 2],
-    lent: &[u8; 2048],
-) -> Outcome {
-    let mut stored = [UNTOUCHED; 2048];
-    let decoded = decode_hex(field(line, k), &mut stored);
-    if !decoded.ok {
-        return Outcome::Malformed;
+impl fmt::Display for Answer {
+    fn fmt<W: fmt::Write>(&self, f: &mut fmt::Formatter<W>) -> fmt::Result {
+        let [first, second] = self.words;
+        write!(f, "{} {first} {second}", self.number)
     }
-    let n = decoded.length;
-    // Else a field that writes untouched bytes after the right ones would pass.
-    if ends_untouched(&stored[..n]) {
-        return Outcome::Malformed;
-    }
-    if !same_bytes(lent, &stored) {
-        return differs(number, answer);
-    }
-    Outcome::Same
 }
 
-// Lent as arrays, since the length of an array that a call has changed is known by its type alone.
-pub fn same_bytes(lent: &[u8; 2048], stored: &[u8; 2048]) -> bool {
-    check::same(lent, stored)
+impl fmt::Display for Failure {
+    fn fmt<W: fmt::Write>(&self, f: &mut fmt::Formatter<W>) -> fmt::Result {
+        match self {
+            Failure::Malformed => write!(f, "is malformed"),
+            Failure::Differs(answer) => write!(f, "differs: {answer}"),
+        }
+    }
 }
 
-fn ends_untouched(bytes: &[u8]) -> bool {
-    let n = bytes.len();
-    if n == 0 {
-        return false;
-    }
-    bytes[n - 1] == UNTOUCHED
-}
+impl Error for Failure {}

@@ -1,138 +1,96 @@
 // The calls that are replayed: from a stored line to what came of it.
-ghost use Rattle.std.specs.Prelude.{◌<◌, ◌≤◌};
+use crate::answers::{Answer, Failure, replay_output};
+use crate::arguments::{byte, bytes, expect_fields, number, numbers, room};
+use crate::cdata::replay_cdata;
+use crate::declared::replay_declarations;
+use crate::fields::field;
+use crate::nmtoken::replay_nmtoken;
+use crate::register_calls::{replay_change, replay_count};
+use crate::table_calls::{
+    replay_check_table, replay_form, replay_least_depth, replay_normalize, replay_unescape,
+};
+use govlezna::{
+    govlezna_c14n_attribute, govlezna_c14n_text, govlezna_canonical_form,
+    govlezna_canonical_form_strict, govlezna_check_utf8, govlezna_escape,
+    govlezna_normalize_attribute_value, govlezna_normalize_attribute_value_strict,
+    govlezna_normalize_eols, govlezna_normalize_nmtokens, govlezna_parse_number,
+    govlezna_register_add, govlezna_register_withdraw, govlezna_trim_xml_end,
+    govlezna_trim_xml_spaces, govlezna_trim_xml_start,
+};
 
-use crate::answers::{Outcome, UNTOUCHED, UNWRITTEN, compare, compare_output};
-use crate::fields::{field, field_count};
-use crate::values::{decimals, decode_hex};
-use crate::{cdata, declared, nmtoken, register_calls, table_calls};
-
-// Which call field 0 of the line names: its place among these names, or 23 where it is none of them.
-fn call_number(line: &[u8]) -> usize {
-    let names =
-        b"check_utf8 parse_number trim_xml_start trim_xml_end trim_xml_spaces escape normalize_eols cdata_next check_table unescape normalize_attribute_value canonical_form normalize_attribute_value_strict canonical_form_strict normalize_nmtokens next_nmtoken register_add register_withdraw register_count c14n_attribute c14n_text least_depth read_declarations";
-    let call = field(line, 0);
-    let mut k = 0;
-    while k < 23 {
-        if check::same(call, field(names, k)) {
-            return k;
+// Field 0 names the call.
+pub fn replay_line(line: &[u8]) -> Result<(), Failure> {
+    match field(line, 0) {
+        b"check_utf8" => replay_text(line, govlezna_check_utf8),
+        b"parse_number" => replay_text(line, govlezna_parse_number),
+        b"trim_xml_start" => replay_text(line, govlezna_trim_xml_start),
+        b"trim_xml_end" => replay_text(line, govlezna_trim_xml_end),
+        b"trim_xml_spaces" => replay_text(line, govlezna_trim_xml_spaces),
+        b"escape" => replay_choice(line, govlezna_escape),
+        b"normalize_eols" => replay_choice(line, govlezna_normalize_eols),
+        b"c14n_attribute" => replay_writer(line, govlezna_c14n_attribute),
+        b"c14n_text" => replay_writer(line, govlezna_c14n_text),
+        b"cdata_next" => replay_cdata(line),
+        b"next_nmtoken" => replay_nmtoken(line),
+        b"register_add" => replay_change(line, govlezna_register_add),
+        b"register_withdraw" => replay_change(line, govlezna_register_withdraw),
+        b"register_count" => replay_count(line),
+        b"read_declarations" => replay_declarations(line),
+        b"check_table" => replay_check_table(line),
+        b"unescape" => replay_unescape(line),
+        b"least_depth" => replay_least_depth(line),
+        b"normalize_attribute_value" => replay_normalize(line, govlezna_normalize_attribute_value),
+        b"normalize_attribute_value_strict" => {
+            replay_normalize(line, govlezna_normalize_attribute_value_strict)
         }
-        k += 1;
-    }
-    23
-}
-
-pub fn replay_line(line: &[u8]) -> Outcome {
-    if line.len() == 0 {
-        return Outcome::Nothing;
-    }
-    if line[0] == b'#' {
-        return Outcome::Nothing;
-    }
-    let call = call_number(line);
-    match call {
-        0..=4 => replay_text(line, call),
-        5..=6 => replay_output(line, call),
-        7 => cdata::replay_cdata(line),
-        15 => nmtoken::replay_nmtoken(line),
-        16..=18 => register_calls::replay_register(line, call),
-        19..=20 => replay_writer(line, call),
-        22 => declared::replay_declarations(line),
-        _ => table_calls::replay_table_line(line, call),
+        b"canonical_form" => replay_form(line, govlezna_canonical_form),
+        b"canonical_form_strict" => replay_form(line, govlezna_canonical_form_strict),
+        b"normalize_nmtokens" => replay_form(line, govlezna_normalize_nmtokens),
+        _ => Err(Failure::Malformed),
     }
 }
 
 // CALL TEXT = NUMBER FIRST SECOND
-fn replay_text(line: &[u8], call: usize) -> Outcome {
-    if field_count(line) != 6 {
-        return Outcome::Malformed;
-    }
-    let mut text = [0u8; 2048];
-    let decoded = decode_hex(field(line, 1), &mut text);
-    if !decoded.ok {
-        return Outcome::Malformed;
-    }
-    let n = decoded.length;
-    let mut answer = [UNWRITTEN; 2];
-    let number = call_text(call, &text[..n], &mut answer);
-    compare(line, 2, number, answer)
-}
-
-// The calls 0 to 4.
-fn call_text(call: usize, text: &[u8], answer: &mut [u64; 2]) -> u32 {
-    match call {
-        0 => govlezna::govlezna_check_utf8(text, answer),
-        1 => govlezna::govlezna_parse_number(text, answer),
-        2 => govlezna::govlezna_trim_xml_start(text, answer),
-        3 => govlezna::govlezna_trim_xml_end(text, answer),
-        _ => govlezna::govlezna_trim_xml_spaces(text, answer),
-    }
+fn replay_text<F: Fn(&[u8], &mut [u64; 2]) -> u32>(line: &[u8], call: F) -> Result<(), Failure>
+    requires { F.IsAlwaysCallable call }
+{
+    expect_fields(line, 6)?;
+    let mut text = [0; 2048];
+    let text = bytes(line, 1, &mut text)?;
+    Answer::of(|words| call(text, words)).compare(line, 2)
 }
 
 // CALL TEXT CHOICE ROOM = NUMBER FIRST SECOND OUTPUT, with a level or a version as the choice, and
 // the length of the output lent as the room.
-fn replay_output(line: &[u8], call: usize) -> Outcome {
-    if field_count(line) != 9 {
-        return Outcome::Malformed;
-    }
-    let mut text = [0u8; 2048];
-    let decoded = decode_hex(field(line, 1), &mut text);
-    if !decoded.ok {
-        return Outcome::Malformed;
-    }
-    let n = decoded.length;
-    let mut read = [0u64; 3];
-    if !decimals(line, 2, 2, &mut read) {
-        return Outcome::Malformed;
-    }
-    let choice = read[0];
-    let room = read[1];
-    if 255 < choice {
-        return Outcome::Malformed;
-    }
-    if 2048 < room {
-        return Outcome::Malformed;
-    }
-    lend_output(line, call, 4, &text[..n], choice as u8, room as usize)
-}
-
-// CALL TEXT ROOM = NUMBER FIRST SECOND OUTPUT.
-fn replay_writer(line: &[u8], call: usize) -> Outcome {
-    if field_count(line) != 8 {
-        return Outcome::Malformed;
-    }
-    let mut text = [0u8; 2048];
-    let decoded = decode_hex(field(line, 1), &mut text);
-    if !decoded.ok {
-        return Outcome::Malformed;
-    }
-    let n = decoded.length;
-    let mut read = [0u64; 3];
-    if !decimals(line, 2, 1, &mut read) {
-        return Outcome::Malformed;
-    }
-    let room = read[0];
-    if 2048 < room {
-        return Outcome::Malformed;
-    }
-    lend_output(line, call, 3, &text[..n], 0, room as usize)
-}
-
-// Makes the call with an output of `room` bytes; what has to come of it stands from field `at` on.
-fn lend_output(line: &[u8], call: usize, at: usize, text: &[u8], choice: u8, room: usize) -> Outcome
-    requires { (at < 99) × (room ≤ 2048) }
+fn replay_choice<F: Fn(&[u8], u8, &mut [u8], &mut [u64; 2]) -> u32>(
+    line: &[u8],
+    call: F,
+) -> Result<(), Failure>
+    requires { F.IsAlwaysCallable call }
 {
-    let mut out = [UNTOUCHED; 2048];
-    let mut answer = [UNWRITTEN; 2];
-    let number = call_output(call, text, choice, &mut out[0..room], &mut answer);
-    compare_output(line, at, number, answer, &out)
+    expect_fields(line, 9)?;
+    let mut text = [0; 2048];
+    let text = bytes(line, 1, &mut text)?;
+    let [choice, length] = numbers::<2>(line, 2)?;
+    let choice = byte(choice)?;
+    replay_output(
+        line,
+        4,
+        room(length)?,
+        |out, words| call(text, choice, out, words),
+    )
 }
 
-// The calls 5, 6, 19 and 20.
-fn call_output(call: usize, text: &[u8], choice: u8, out: &mut [u8], answer: &mut [u64; 2]) -> u32 {
-    match call {
-        5 => govlezna::govlezna_escape(text, choice, out, answer),
-        6 => govlezna::govlezna_normalize_eols(text, choice, out, answer),
-        19 => govlezna::govlezna_c14n_attribute(text, out, answer),
-        _ => govlezna::govlezna_c14n_text(text, out, answer),
-    }
+// CALL TEXT ROOM = NUMBER FIRST SECOND OUTPUT
+fn replay_writer<F: Fn(&[u8], &mut [u8], &mut [u64; 2]) -> u32>(
+    line: &[u8],
+    call: F,
+) -> Result<(), Failure>
+    requires { F.IsAlwaysCallable call }
+{
+    expect_fields(line, 8)?;
+    let mut text = [0; 2048];
+    let text = bytes(line, 1, &mut text)?;
+    let length = number(line, 2)?;
+    replay_output(line, 3, room(length)?, |out, words| call(text, out, words))
 }

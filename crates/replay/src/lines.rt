@@ -1,147 +1,111 @@
 // Standard input, cut into lines, and what came of them.
-use crate::answers::{Answer, Outcome};
+use crate::answers::Failure;
 use crate::calls::replay_line;
-use std::io::{Read, Result};
+use std::io::Read;
+use std::{fmt, io};
 
 #[derive(Drop)]
-pub struct Progress {
-    // Whether there may be more to read.
-    pub is_open: bool,
+pub struct Progress<'a> {
+    // Where the next line is kept: a fixed buffer, since nothing allocates.
+    line: &'a mut [u8],
+    // How many bytes of it have been read; `None` where they are more than fit.
+    used: Option<usize>,
     // How many lines have ended.
-    pub lines: u64,
-    // How many bytes of the next line have been read; one more than fit where it is too long.
-    pub used: usize,
-    pub results: u64,
-    pub differ: u64,
-    pub malformed: u64,
+    lines: u64,
+    results: u64,
+    differ: u64,
+    malformed: u64,
 }
 
 // Replays all of standard input, by way of a buffer for one line.
-pub fn replay_all(rt: &(impl Input + Print), line: &mut [u8]) -> Result<Progress> {
-    let mut p = Progress {
-        is_open: true,
+pub fn replay_all<'a>(rt: &(impl Input + Print), line: &'a mut [u8]) -> io::Result<Progress<'a>> {
+    let mut progress = Progress {
+        line,
+        used: Some(0),
         lines: 0,
-        used: 0,
         results: 0,
         differ: 0,
         malformed: 0,
     };
     let mut input = rt.reader();
-    // Nothing says that the input ends, so the loop counts down from a number that no run uses up.
-    let mut turns = u64::MAX;
-    while turns > 0 && p.is_open {
-        p = replay_some(rt, &mut input, line, p)?;
-        turns -= 1;
+    let mut piece = [0; 4096];
+    // Nothing says that the input ends, so the loop counts to a number that no run comes to.
+    for _ in 0..u64::MAX {
+        let n = match input.read(&mut piece) {
+            Ok(0) => break,
+            Ok(n) => n,
+            Err(_) => {
+                println!(rt; "standard input cannot be read")?;
+                break;
+            }
+        };
+        for b in &piece[..n] {
+            progress.take_byte(rt, *b)?;
+        }
     }
     // A last line that no line feed ends.
-    if p.used > 0 {
-        p = end_line(rt, line, p)?;
+    if progress.used != Some(0) {
+        progress.end_line(rt)?;
     }
-    Ok(p)
+    Ok(progress)
 }
 
-// Reads once, and replays the lines that end in what came.
-fn replay_some<R: Read>(
-    rt: &impl Print,
-    input: &mut R,
-    line: &mut [u8],
-    before: Progress,
-) -> Result<Progress> {
-    let mut p = before;
-    let mut piece = [0u8; 4096];
-    let Ok(n) = input.read(&mut piece) else {
-        println!(rt; "standard input cannot be read")?;
-        p.is_open = false;
-        return Ok(p);
-    };
-    if n == 0 {
-        p.is_open = false;
-        return Ok(p);
-    }
-    replay_piece(rt, &piece[..n], line, p)
-}
-
-fn replay_piece(
-    rt: &impl Print,
-    piece: &[u8],
-    line: &mut [u8],
-    before: Progress,
-) -> Result<Progress> {
-    let mut p = before;
-    let mut i = 0;
-    while i < piece.len() {
-        p = take_byte(rt, piece[i], line, p)?;
-        i += 1;
-    }
-    Ok(p)
-}
-
-// Keeps a byte of the line, or ends the line.
-fn take_byte(rt: &impl Print, b: u8, line: &mut [u8], before: Progress) -> Result<Progress> {
-    if b == b'\n' {
-        return end_line(rt, line, before);
-    }
-    let mut p = before;
-    let used = p.used;
-    if used < line.len() {
-        line[used] = b;
-        p.used = used + 1;
-    } else {
-        p.used = line.len() + 1;
-    }
-    Ok(p)
-}
-
-fn end_line(rt: &impl Print, line: &[u8], before: Progress) -> Result<Progress> {
-    let mut p = before;
-    let used = p.used;
-    p.used = 0;
-    p.lines = p.lines.wrapping_add(1);
-    if used > line.len() {
-        return count(rt, Outcome::Malformed, p);
-    }
-    count(rt, replay_line(&line[0..used]), p)
-}
-
-// Counts what came of the line that has just ended, and reports it where it is not as stored.
-fn count(rt: &impl Print, outcome: Outcome, before: Progress) -> Result<Progress> {
-    let mut p = before;
-    match outcome {
-        Outcome::Nothing => Ok(p),
-        Outcome::Same => {
-            p.results = p.results.wrapping_add(1);
-            Ok(p)
+impl Progress<'_> {
+    // Keeps a byte of the line, or ends the line.
+    fn take_byte(&mut self, rt: &impl Print, b: u8) -> io::Result<()> {
+        if b == b'\n' {
+            return self.end_line(rt);
         }
-        Outcome::Differs(answer) => {
-            report_line(rt, p.lines, b" differs: ")?;
-            report_answer(rt, answer)?;
-            p.results = p.results.wrapping_add(1);
-            p.differ = p.differ.wrapping_add(1);
-            Ok(p)
+        self.used = match self.used {
+            Some(n) if n < self.line.len() => {
+                self.line[n] = b;
+                Some(n + 1)
+            }
+            _ => None,
+        };
+        Ok(())
+    }
+
+    // Replays the line, and reports it where it does not pass.
+    fn end_line(&mut self, rt: &impl Print) -> io::Result<()> {
+        let used = self.used.replace(0);
+        let replayed = replay_used(self.line, used);
+        self.lines = self.lines.wrapping_add(1);
+        if let Some(Err(failure)) = replayed {
+            println!(rt; "line {} {failure}", self.lines)?;
         }
-        Outcome::Malformed => {
-            report_line(rt, p.lines, b" is malformed\n")?;
-            p.malformed = p.malformed.wrapping_add(1);
-            Ok(p)
+        self.count(replayed);
+        Ok(())
+    }
+
+    fn count(&mut self, replayed: Option<Result<(), Failure>>) {
+        match replayed {
+            None => {}
+            Some(Ok(())) => self.results = self.results.wrapping_add(1),
+            Some(Err(Failure::Differs(_))) => {
+                self.results = self.results.wrapping_add(1);
+                self.differ = self.differ.wrapping_add(1);
+            }
+            Some(Err(Failure::Malformed)) => self.malformed = self.malformed.wrapping_add(1),
         }
     }
 }
 
-fn report_line(rt: &impl Print, number: u64, what: &[u8]) -> Result<()> {
-    print!(rt; "line {number}")?;
-    rt.write_all(what)
+// What came of the line; `None` where it is empty, or a comment.
+fn replay_used(line: &[u8], used: Option<usize>) -> Option<Result<(), Failure>> {
+    match used.and_then(|n| line.get(..n)) {
+        Some([] | [b'#', ..]) => None,
+        Some(line) => Some(replay_line(line)),
+        None => Some(Err(Failure::Malformed)),
+    }
 }
 
-fn report_answer(rt: &impl Print, answer: Answer) -> Result<()> {
-    let number = answer.number;
-    let first = answer.first;
-    let second = answer.second;
-    println!(rt; "{number} {first} {second}")
-}
-
-pub fn report_counts(rt: &impl Print, p: Progress) -> Result<()> {
-    let results = p.results;
-    let differ = p.differ;
-    let malformed = p.malformed;
-    println!(rt; "replayed {results} stored results, {differ} differ, {malformed} malformed")
+impl fmt::Display for Progress<'_> {
+    fn fmt<W: fmt::Write>(&self, f: &mut fmt::Formatter<W>) -> fmt::Result {
+        write!(
+            f,
+            "replayed {} stored results, {} differ, {} malformed",
+            self.results, self.differ, self.malformed
+        )
+    }
 }

@@ -5,6 +5,7 @@
 #![tactic(auto)]
 
 mod answers;
+mod arguments;
 mod calls;
 mod cdata;
 mod declared;
@@ -17,7 +18,7 @@ mod values;
 
 fn main(rt: HostRuntime) -> std::io::Result<()> {
     // A text, a list, a pool, a value and an output of 2,048 bytes each take 20,480 digits.
-    let mut line = [0u8; 65536];
-    let p = lines::replay_all(&rt, &mut line)?;
-    lines::report_counts(&rt, p)
+    let mut line = [0; 65536];
+    let progress = lines::replay_all(&rt, &mut line)?;
+    println!(rt; "{progress}")
 }

@@ -1,87 +1,44 @@
 // The calls on a register. Its buffer is read and written, and is compared whole; its used length is lent.
-use crate::answers::{Outcome, UNTOUCHED, UNWRITTEN, compare, differs, same_bytes};
-use crate::fields::{field, field_count};
-use crate::values::{Parsed, decimal, decode_hex};
-
-// The calls 16 to 18 (`call_number` of calls.rt): reads FORM and USED.
-pub fn replay_register(line: &[u8], call: usize) -> Outcome {
-    let mut form = [0u8; 2048];
-    let decoded = decode_hex(field(line, 1), &mut form);
-    if !decoded.ok {
-        return Outcome::Malformed;
-    }
-    let n = decoded.length;
-    let Parsed::Number(used) = decimal(field(line, 3)) else {
-        return Outcome::Malformed;
-    };
-    if call == 18 {
-        return replay_count(line, &form[..n], used);
-    }
-    replay_change(line, call, &form[..n], used)
-}
+use crate::answers::{Answer, Failure, UNTOUCHED};
+use crate::arguments::{bytes, expect_fields, number};
+use crate::fields::field;
+use crate::values::{decimal, decode_hex};
 
 // register_count FORM BUFFER USED = NUMBER FIRST SECOND
-fn replay_count(line: &[u8], form: &[u8], used: u64) -> Outcome {
-    if field_count(line) != 8 {
-        return Outcome::Malformed;
-    }
-    let mut buffer = [UNTOUCHED; 2048];
-    let decoded = decode_hex(field(line, 2), &mut buffer);
-    if !decoded.ok {
-        return Outcome::Malformed;
-    }
-    let n = decoded.length;
-    let mut answer = [UNWRITTEN; 2];
-    let number = govlezna::govlezna_register_count(form, &buffer[..n], used, &mut answer);
-    compare(line, 4, number, answer)
+pub fn replay_count(line: &[u8]) -> Result<(), Failure> {
+    expect_fields(line, 8)?;
+    let mut form = [0; 2048];
+    let mut buffer = [0; 2048];
+    let form = bytes(line, 1, &mut form)?;
+    let buffer = bytes(line, 2, &mut buffer)?;
+    let used = number(line, 3)?;
+    Answer::of(|words| govlezna::govlezna_register_count(form, buffer, used, words)).compare(
+        line, 4,
+    )
 }
 
 // register_add FORM BUFFER USED = NUMBER FIRST SECOND BUFFER USED, and so register_withdraw
-fn replay_change(line: &[u8], call: usize, form: &[u8], before: u64) -> Outcome {
-    if field_count(line) != 10 {
-        return Outcome::Malformed;
-    }
+pub fn replay_change<F: Fn(&[u8], &mut [u8], &mut u64, &mut [u64; 2]) -> u32>(
+    line: &[u8],
+    call: F,
+) -> Result<(), Failure>
+    requires { F.IsAlwaysCallable call }
+{
+    expect_fields(line, 10)?;
+    let mut form = [0; 2048];
+    let form = bytes(line, 1, &mut form)?;
     let mut buffer = [UNTOUCHED; 2048];
-    let decoded = decode_hex(field(line, 2), &mut buffer);
-    if !decoded.ok {
-        return Outcome::Malformed;
-    }
-    let n = decoded.length;
-    let mut used = before;
-    let mut answer = [UNWRITTEN; 2];
-    let number = call_change(call, form, &mut buffer[0..n], &mut used, &mut answer);
-    let outcome = compare(line, 4, number, answer);
-    let Outcome::Same = outcome else {
-        return outcome;
-    };
-    if !left_so(line, n, &buffer, used) {
-        return differs(number, answer);
-    }
-    outcome
-}
-
-fn call_change(
-    call: usize,
-    form: &[u8],
-    buffer: &mut [u8],
-    used: &mut u64,
-    answer: &mut [u64; 2],
-) -> u32 {
-    match call {
-        16 => govlezna::govlezna_register_add(form, buffer, used, answer),
-        _ => govlezna::govlezna_register_withdraw(form, buffer, used, answer),
-    }
+    let n = bytes(line, 2, &mut buffer)?.len();
+    let mut used = number(line, 3)?;
+    let answer = Answer::of(|words| call(form, &mut buffer[..n], &mut used, words));
+    answer.compare(line, 4)?;
+    answer.passes_if(is_left(line, n, &buffer, used))
 }
 
 // Are the n bytes of the buffer those of field 8, those after them untouched, and the used length that of field 9?
-fn left_so(line: &[u8], n: usize, buffer: &[u8; 2048], used: u64) -> bool {
+fn is_left(line: &[u8], n: usize, buffer: &[u8; 2048], used: u64) -> bool {
     let mut stored = [UNTOUCHED; 2048];
-    let decoded = decode_hex(field(line, 8), &mut stored);
-    let Parsed::Number(after) = decimal(field(line, 9)) else {
-        return false;
-    };
-    if !decoded.ok {
-        return false;
-    }
-    same_bytes(buffer, &stored) & (decoded.length == n) & (after == used)
+    decode_hex(field(line, 8), &mut stored) == Some(n)
+        && *buffer == stored
+        && decimal(field(line, 9)) == Some(used)
 }

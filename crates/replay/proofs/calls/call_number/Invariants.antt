@@ -1,8 +1,0 @@
-use Rattle.std.proofs.Common.{◌-◌, ◌≤◌}
-use Rattle.replay.proofs.calls.call_number.Given as goal
-
-abbrev pub invariant-loop-k : goal.invariant-loop-k
-invariant-loop-k l = l.k ≤ 23
-
-abbrev pub decreases-loop-k : goal.decreases-loop-k
-decreases-loop-k l = 23 - l.k
