@@ -1,13 +1,13 @@
 -- The references that are written, and the sets that flags name, the four levels among them. Assumes nothing.
-use mathlib.Core.Path.{◌≡◌, refl, subst, ◌∙◌}
+use mathlib.Core.Path.{◌≡◌, refl, subst}
 use mathlib.Core.Bool.{Bool, true, false, ◌&&◌}
 use mathlib.Core.Logic.{◌≢◌}
 use mathlib.Core.List.{List, [], ◌∷◌}
-use Prim.Native.Nat.{ℕ, ◌+◌, ◌-◌, ◌*◌, ◌≤◌, ◌<◌}
+use Prim.Native.Nat.{ℕ, ◌+◌, ◌*◌, ◌≤◌, ◌<◌}
 use native.Mathlib.Omega.{arith}
 use lib.Dec.{eqb, leb, lit≤}
-use lib.ListN.{length, take, drop, get_or, length-append, length-drop, length-take}
-use lib.Seq.{get_or-drop, get_or-take}
+use lib.ListN.{length, take, drop, get_or, length-append, length-drop}
+use lib.Seq.{get_or-drop}
 use Rattle.text.specs.Bytes.{pick}
 use Rattle.text.specs.Utf8.{WellFormed}
 use Rattle.text.proofs.Bytes.{pick_by, contrary}
@@ -162,12 +162,6 @@ pub added_most : (chars : EscapeChars) (b : ℕ) → added_by chars b ≤ 5
 added_most chars b = omega (arith, added_length chars b, byte_most (chars_set chars) (chars_sized chars) b)
 
 -- the count of a part, with one byte more
--- a byte of a part is one of the text
-pub part_byte : (text : List ℕ) (i count k : ℕ) → k < length (take (i + count - i) (drop i text))
-    → get_or (take (i + count - i) (drop i text)) k 0 ≡ get_or text (i + k) 0
-part_byte text i count k h =
-    get_or-take (i + count - i) (drop i text) k 0 (omega (arith, h, length-take (i + count - i) (drop i text))) ∙ get_or-drop i text k 0
-
 pub count_next : (chars : EscapeChars) (text : List ℕ) (i k n m : ℕ) → i + k < length text
     → n + k ≡ length (write (chars_set chars) (take k (drop i text))) → m ≡ added_by chars (get_or text (i + k) 0)
     → n + m + (k + 1) ≡ length (write (chars_set chars) (take (k + 1) (drop i text)))

@@ -12,8 +12,8 @@ use lib.Seq.{take-suc, get_or-drop, take-add}
 use borrow.Author.Count.{below_none, below_more}
 use borrow.Author.Tests.{le-leb, lt-leb, leb-true, leb-false, ltb-true, ltb-false, lt-ltb, le-ltb, eqb-true, eqb-false, eq-eqb, ne_eqb}
 use Rattle.text.specs.Bytes.{pick}
-use Rattle.text.specs.Utf8.{State, between, one, two, three, first, next, after, WellFormed}
-use Rattle.text.specs.Blocks.{Prefix, Whole, AtMost, Ascii, Fitting, Edge, trail, misfit, misfit2, misfit3}
+use Rattle.text.specs.Utf8.{State, between, one, two, first, next, after, WellFormed}
+use Rattle.text.specs.Blocks.{Prefix, Whole, AtMost, Ascii, AsciiRun, Fitting, Edge, trail, misfit, misfit2, misfit3}
 use Rattle.text.proofs.Bytes.{inside, and_left, and_right, or_left, or_right}
 use Rattle.text.proofs.FirstByte.{first_ascii, first_one, first_e0, first_ed, first_two, first_f0, first_three, first_f4}
 use Rattle.text.proofs.Utf8.{after_append, append_well_formed}
@@ -99,6 +99,32 @@ ascii_next t i p h l = record { fits = omega arith; low = below_more (λ (k : �
 pub ascii_inside : (t : List ℕ) (a i n : ℕ) → Ascii t a → i + n ≤ a → Whole t i n
 ascii_inside t a i n p h =
     ascii_whole t i n 0x7F (record { at_most = λ k l. p.low (i + k) (omega arith) }) (omega arith) (omega (arith, p.fits))
+
+-- ---- a run of ASCII
+
+pub run_none : (t : List ℕ) (i : ℕ) → i ≤ length t → AsciiRun t i i
+run_none t i h = record { from = le_refl i; fits = h; low = record { at_most = λ k l. absurd (omega (arith, l)) } }
+
+pub run_more : (t : List ℕ) (i j n : ℕ) → AsciiRun t i j → AtMost t j n 0x7F → j + n ≤ length t → AsciiRun t i (j + n)
+run_more t i j n p a h = record { from = omega (arith, p.from); fits = h; low = record { at_most = λ k l. go (ltb k (j - i)) refl l } }
+  where
+    go : {k : ℕ} (x : Bool) → ltb k (j - i) ≡ x → k < j + n - i → get_or t (i + k) 0 ≤ 0x7F
+    go {k} true e l = p.low.at_most k (ltb-true k (j - i) e)
+    go {k} false e l =
+        let g = ltb-false k (j - i) e in
+        let q : j + (k - (j - i)) ≡ i + k = omega (arith, g, p.from) in
+        rw q at (a.at_most (k - (j - i)) (omega (arith, g, l, p.from)))
+
+-- it makes a prefix of whole characters, and one of ASCII, longer
+pub run_prefix : (t : List ℕ) (i e : ℕ) → Prefix t i → AsciiRun t i e → Prefix t e
+run_prefix t i e p r =
+    let q : i + (e - i) ≡ e = omega (arith, r.from) in
+    rw q at (grown t i (e - i) p (ascii_whole t i (e - i) 0x7F r.low (omega arith) (omega (arith, r.from, r.fits))))
+
+pub run_ascii : (t : List ℕ) (i e : ℕ) → Ascii t i → AsciiRun t i e → Ascii t e
+run_ascii t i e p r =
+    let q : i + (e - i) ≡ e = omega (arith, r.from) in
+    rw q at (ascii_more t i (e - i) p r.low (omega (arith, r.from, r.fits)))
 
 -- ---- the cheaper tests
 

@@ -1,10 +1,13 @@
 -- Laws of a choice by a test, of ranges and of tests on bytes. Assumes nothing.
 use mathlib.Core.Path.{◌≡◌, refl, sym, ◌∙◌, ap, ap₂}
-use Prim.Native.Nat.{ℕ, ◌≤◌, ◌<◌}
+use Prim.Native.Nat.{ℕ, ◌+◌, ◌-◌, ◌≤◌, ◌<◌}
+use native.Mathlib.Omega.{arith}
 use mathlib.Core.Bool.{Bool, true, false, ◌&&◌, ◌||◌, true≢false}
 use mathlib.Core.List.{List, [], ◌∷◌, ◌++◌}
 use lib.Dec.{eqb, leb}
-use lib.ListN.{length, drop}
+use lib.ListN.{length, get_or, take, drop}
+use lib.Seq.{get_or-take, get_or-drop}
+use Rattle.std.proofs.Common.{length-take}
 use borrow.Author.Tests.{eqb-true, eq-eqb, leb-true, leb-false, le-leb, lt-leb}
 use Rattle.text.specs.Bytes.{pick, within, same_bytes, begins}
 
@@ -92,3 +95,9 @@ begins_split (p ∷ ps) [] e = absurd (true≢false (sym e))
 begins_split (p ∷ ps) (b ∷ bs) e =
     let q : b ≡ p = eqb-true b p (and_left (eqb b p) (begins ps bs) e) in
     rw q (ap (λ (l : List ℕ). p ∷ l) (begins_split ps bs (and_right (eqb b p) (begins ps bs) e)))
+
+-- a byte of a part of a text
+pub part_byte : (text : List ℕ) (i count k : ℕ) → k < length (take (i + count - i) (drop i text))
+    → get_or (take (i + count - i) (drop i text)) k 0 ≡ get_or text (i + k) 0
+part_byte text i count k h =
+    get_or-take (i + count - i) (drop i text) k 0 (omega (arith, h, length-take (i + count - i) (drop i text))) ∙ get_or-drop i text k 0

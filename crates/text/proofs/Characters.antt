@@ -10,7 +10,7 @@ use native.Mathlib.Numerals.{add-one}
 use lib.ListN.{length, take, drop, get_or, length-drop}
 use lib.Seq.{drop-cons}
 use Rattle.text.specs.Bytes.{pick, within}
-use Rattle.text.specs.Utf8.{State, one, two, three, broken, first, next, is_between, WellFormed, utf8_end, end_from}
+use Rattle.text.specs.Utf8.{State, one, two, broken, first, next, is_between, WellFormed, utf8_end, end_from}
 use Rattle.text.specs.Blocks.{Character, Leads, wanted}
 use Rattle.text.specs.declared.validate.Lead.{Lead}
 use Rattle.text.proofs.Bytes.{pick_both}

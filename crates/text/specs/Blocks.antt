@@ -1,6 +1,6 @@
 -- UTF-8 by blocks: the terms in which the fast code is proved equal to the definition. No promise of a call rests on these.
 -- Assumes nothing.
-use Rattle.std.specs.Prelude.{ℕ, ◌+◌, ◌*◌, ◌≤◌, ◌<◌, ◌≡◌, Bool, false, not, ◌&&◌, ◌||◌, List, eqb, leb, ltb, length, take, drop, get_or}
+use Rattle.std.specs.Prelude.{ℕ, ◌+◌, ◌-◌, ◌*◌, ◌≤◌, ◌<◌, ◌≡◌, Bool, false, not, ◌&&◌, ◌||◌, List, eqb, leb, ltb, length, take, drop, get_or}
 use Rattle.std.specs.Bool.{beq}
 use Rattle.text.specs.Bytes.{pick, within}
 use Rattle.text.specs.Utf8.{State, between, one, two, broken, first, next, is_between, WellFormed, utf8_end}
@@ -24,6 +24,12 @@ pub record Character (text : List ℕ) (i width : ℕ) : Type 0 where
 -- each of the `count` bytes from `i` on is at most `top`
 pub record AtMost (text : List ℕ) (i count top : ℕ) : Type 0 where
   pub at_most : (k : ℕ) → k < count → get_or text (i + k) 0 ≤ top
+
+-- the bytes from `i` to `end` are there, and are ASCII
+pub record AsciiRun (text : List ℕ) (i end : ℕ) : Type 0 where
+  pub from : i ≤ end
+  pub fits : end ≤ length text
+  pub low : AtMost text i (end - i) 0x7F
 
 -- the first `end` bytes are there, and are ASCII
 pub record Ascii (text : List ℕ) (end : ℕ) : Type 0 where

@@ -10,8 +10,7 @@ fn any_special(text: &[u8], i: usize, size: usize) -> bool
 {
     let mut outside = false;
     let mut amp = false;
-    for k in 0..size {
-        let b = text[i + k];
+    for &b in &text[i..i + size] {
         outside = outside | ((b < 32) | (126 < b));
         amp = amp | (b == b'&');
     }
@@ -21,13 +20,10 @@ fn any_special(text: &[u8], i: usize, size: usize) -> bool
 fn simple_bytes(text: &[u8]) -> bool
     ensures { result ≡ true → Simple text.now }
 {
-    let mut i: usize = 0;
-    while i < text.len() {
-        let b = text[i];
+    for &b in text {
         if (b < 32) | (126 < b) | (b == b'&') {
             return false;
         }
-        i += 1;
     }
     true
 }

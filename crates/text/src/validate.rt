@@ -2,7 +2,7 @@
 // character. A block's bytes are tested side by side, each against the three before it, so that the loops run on vectors.
 ghost use Rattle.std.specs.Prelude.{◌≡◌, ℕ, ◌+◌, ◌*◌, ◌<◌, ◌≤◌, false, length, get_or};
 ghost use Rattle.text.specs.Utf8.{utf8_end};
-ghost use Rattle.text.specs.Blocks.{AtMost, Ascii, Whole, Prefix, Character, Leads, Fitting, Edge, misfit, misfit3, misfit2};
+ghost use Rattle.text.specs.Blocks.{AtMost, Ascii, AsciiRun, Whole, Prefix, Character, Leads, Fitting, Edge, misfit, misfit3, misfit2};
 
 use crate::load;
 
@@ -26,11 +26,11 @@ fn joined_bits(text: &[u8], i: usize, words: usize) -> u64
     bits
 }
 
-// Blocks of so many words of ASCII, from a character's start on.
+// Blocks of so many words of ASCII. By hand: the answer is a place, which chunks_exact does not count.
 fn ascii_blocks(text: &[u8], from: usize, words: usize) -> usize
-    requires prefix { Prefix text.now from }
+    requires inside { from ≤ length text.now }
     requires words_nonzero { (0 < words) × (words ≤ 8) }
-    ensures { Prefix text.now result }
+    ensures { AsciiRun text.now from result }
 {
     let mut i = from;
     while 8 * words <= text.len() - i {
@@ -42,20 +42,14 @@ fn ascii_blocks(text: &[u8], from: usize, words: usize) -> usize
     i
 }
 
-fn larger(a: u8, b: u8) -> u8
-    ensures { (a ≤ result) × (b ≤ result) }
-{
-    if a < b { b } else { a }
-}
-
 // The highest of the 32 bytes from i on.
 fn highest(text: &[u8], i: usize) -> u8
     requires { i + 32 ≤ length text.now }
     ensures { AtMost text.now i 32 result }
 {
     let mut top: u8 = 0;
-    for k in 0..32usize {
-        top = larger(top, text[i + k]);
+    for &b in &text[i..i + 32] {
+        top = top.max(b);
     }
     top
 }
@@ -384,32 +378,14 @@ pub fn utf8_end(text: &[u8]) -> usize
     last_chars(text, last_word(text, words))
 }
 
-// Blocks of so many words of ASCII, where all before them is ASCII.
-fn ascii_words(text: &[u8], from: usize, words: usize) -> usize
-    requires ascii { Ascii text.now from }
-    requires words_nonzero { (0 < words) × (words ≤ 8) }
-    ensures { Ascii text.now result }
-{
-    let mut i = from;
-    while 8 * words <= text.len() - i {
-        if joined_bits(text, i, words) != 0 {
-            return i;
-        }
-        i += 8 * words;
-    }
-    i
-}
-
 // How many bytes at the start are ASCII.
 pub fn ascii_end(text: &[u8]) -> usize
     ensures { Ascii text.now result }
 {
-    let mut i = ascii_words(text, ascii_words(text, 0, 8), 1);
-    while i < text.len() {
+    for i in ascii_blocks(text, ascii_blocks(text, 0, 8), 1)..text.len() {
         if 0x7f < text[i] {
             return i;
         }
-        i += 1;
     }
-    i
+    text.len()
 }

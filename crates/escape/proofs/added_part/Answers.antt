@@ -1,5 +1,6 @@
 -- `added_part` meets its contract: after k turns the sum is that of k bytes, each at most 5. Assumes nothing.
-use Rattle.escape.proofs.Levels.{added_most, count_next, part_byte}
+use Rattle.text.proofs.Bytes.{part_byte}
+use Rattle.escape.proofs.Levels.{added_most, count_next}
 use mathlib.Core.Path.{◌≡◌, ap, ◌∙◌}
 use Prim.Native.Nat.{◌+◌}
 use native.Mathlib.Omega.{arith}

@@ -5,7 +5,8 @@ use native.Mathlib.Omega.{arith}
 use lib.ListN.{get_or}
 use Rattle.escape.specs.Escape.{write}
 use Rattle.escape.specs.Scan.{added_by}
-use Rattle.escape.proofs.Levels.{added_most, count_next, part_byte}
+use Rattle.text.proofs.Bytes.{part_byte}
+use Rattle.escape.proofs.Levels.{added_most, count_next}
 use borrow.Author.Rules.{rules}
 use Rattle.escape.proofs.added_rest.Goals as goal
 

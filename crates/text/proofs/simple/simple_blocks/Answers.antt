@@ -2,7 +2,7 @@
 use mathlib.Core.Path.{sym}
 use mathlib.Core.Bool.{true≢false}
 use native.Mathlib.Omega.{arith}
-use Prim.Native.Nat.{◌-◌, zero-le}
+use Prim.Native.Nat.{zero-le}
 use Rattle.text.proofs.Printable.{simple_none, simple_join, simple_last}
 use Rattle.text.proofs.simple.simple_blocks.Goals as goal
 

@@ -1,5 +1,4 @@
 -- `any_misplaced` tests 32 bytes with no branch (`Missed`): where nothing hit, each of them fits.
-use Prim.Native.Nat.{◌-◌}
 use Rattle.text.proofs.Missed.{missed_start, missed_more, missed_all}
 use Rattle.text.proofs.validate.any_misplaced.Goals as goal
 

@@ -1,7 +1,6 @@
 -- `any_misplaced2` tests 32 bytes with no branch (`Missed`): where nothing hit, the short test tells of each byte as much as the whole
 -- one (`fits2_at`), since no byte before it is 0xe0 or more.
 use Rattle.text.proofs.Blocks.{fits2_at}
-use Prim.Native.Nat.{◌-◌}
 use native.Mathlib.Omega.{arith}
 use Rattle.text.proofs.Missed.{missed_start, missed_more, missed_all}
 use Rattle.text.proofs.validate.any_misplaced2.Goals as goal

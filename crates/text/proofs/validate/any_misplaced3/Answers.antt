@@ -1,7 +1,6 @@
 -- `any_misplaced3` tests 32 bytes with no branch (`Missed`): where nothing hit, the short test tells of each byte as much as the whole
 -- one (`fits3_at`), since no byte before it is 0xf0 or more.
 use Rattle.text.proofs.Blocks.{fits3_at}
-use Prim.Native.Nat.{◌-◌}
 use native.Mathlib.Omega.{arith}
 use Rattle.text.proofs.Missed.{missed_start, missed_more, missed_all}
 use Rattle.text.proofs.validate.any_misplaced3.Goals as goal

@@ -1,11 +1,11 @@
--- `ascii_blocks` keeps: the bytes before i are whole characters. A block without high bits is ASCII, which makes the prefix longer (`grown`).
+-- `ascii_blocks` keeps: the bytes from the start on are ASCII. A block without high bits makes the run longer (`run_more`).
 use native.Mathlib.Omega.{arith}
-use Prim.Native.Nat.{◌*◌, ◌-◌}
-use Rattle.text.proofs.Blocks.{grown, ascii_whole}
+use Prim.Native.Nat.{◌*◌}
+use Rattle.text.proofs.Blocks.{run_none, run_more}
 use Rattle.text.proofs.validate.ascii_blocks.Goals as goal
 
 pub loop-i-init : goal.loop-i-init
-loop-i-init c = c.requires.prefix
+loop-i-init c = run_none c.args.text.now c.args.from c.requires.inside
 
 pub overflow_mul-words : goal.overflow_mul-words
 overflow_mul-words c = omega (arith, c.requires.words_nonzero)
@@ -30,8 +30,8 @@ loop-i-smaller c = omega (arith, c.loop-i.invariant.fits, c.requires.words_nonze
 
 pub loop-i-preserved : goal.loop-i-preserved
 loop-i-preserved c =
-    let given = c.args in
-    grown _ _ _ c.loop-i.invariant (ascii_whole given.text.now c.loop-i.i (8 * given.words) 0x7f (c.joined_bits.ensures c.if-joined_bits-ne0.false) (omega arith) (omega (arith, c.loop-i.invariant.fits)))
+    let a = c.args in
+    run_more a.text.now a.from c.loop-i.i (8 * a.words) c.loop-i.invariant (c.joined_bits.ensures c.if-joined_bits-ne0.false) (omega (arith, c.loop-i.invariant.fits))
 
 pub returns : goal.returns
 returns c = c.loop-i.invariant

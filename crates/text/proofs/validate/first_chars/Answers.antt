@@ -1,5 +1,4 @@
 use native.Mathlib.Omega.{arith}
-use Prim.Native.Nat.{◌-◌}
 use Rattle.text.proofs.Blocks.{grown}
 use Rattle.text.proofs.validate.first_chars.Goals as goal
 

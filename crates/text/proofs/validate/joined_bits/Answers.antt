@@ -1,6 +1,6 @@
 -- `joined_bits` keeps: if no bit is set, the bytes of the k words so far are ASCII; a word more adds its eight (`at_most_append`).
 use mathlib.Core.Path.{◌≡◌}
-use Prim.Native.Nat.{◌+◌, ◌*◌, ◌-◌}
+use Prim.Native.Nat.{◌+◌, ◌*◌}
 use native.Mathlib.Omega.{arith}
 use borrow.Author.Count.{below_none}
 use Rattle.text.proofs.Words.{or_none, at_most_append}

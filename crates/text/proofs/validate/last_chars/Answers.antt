@@ -1,5 +1,4 @@
 use native.Mathlib.Omega.{arith}
-use Prim.Native.Nat.{◌-◌}
 use Rattle.text.proofs.Blocks.{grown}
 use Rattle.text.proofs.Longest.{end_here, end_all}
 use Rattle.text.proofs.validate.last_chars.Goals as goal
