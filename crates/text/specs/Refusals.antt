@@ -1,7 +1,7 @@
 -- Document 01's numbers of the refusals (Refusals by place), document 02's from 21 on, and the answer words. Assumes nothing.
 use Rattle.std.specs.Prelude.{ℕ}
 use Rattle.text.specs.declared.refusals.Refusal.{Refusal}
-use Rattle.text.specs.declared.refusals.Refusal.TheVariants.{TooLong, DepthTooLarge, LimitTooLarge, UnknownByte, NotUtf8, TableTooLong, MalformedList, OutsidePool, InvalidDefinition, UnterminatedEntity, UnrecognizedEntity, UnexpectedSign, InvalidNumber, InvalidCodepoint, IllegalCharacter, TooDeep, TooManyOpenings, NoScratch, NoRoom, CursorOutside, MalformedDeclaration, DeclarationTooLarge, NoTableRoom, ForbiddenReference, ForbiddenCharacter, ExternalEntity, DamagedRegister, AbsentForm, RegisterFull, SpanOutside, NoDepth, NoMore}
+use Rattle.text.specs.declared.refusals.Refusal.TheVariants.{TooLong, DepthTooLarge, LimitTooLarge, UnknownByte, NotUtf8, TableTooLong, MalformedList, OutsidePool, InvalidDefinition, UnterminatedEntity, UnrecognizedEntity, UnexpectedSign, InvalidNumber, InvalidCodepoint, IllegalCharacter, TooDeep, TooManyOpenings, NoScratch, NoRoom, CursorOutside, MalformedDeclaration, DeclarationTooLarge, NoTableRoom, ForbiddenReference, ForbiddenCharacter, ExternalEntity, DamagedRegister, AbsentForm, RegisterFull, SpanOutside, NoDepth, NoMore, Numbered}
 
 abbrev pub number_of : Refusal → ℕ
 number_of (TooLong first) = 1
@@ -36,6 +36,7 @@ number_of RegisterFull = 30
 number_of (SpanOutside first) = 31
 number_of NoDepth = 32
 number_of NoMore = 255
+number_of (Numbered number first second) = number
 
 abbrev pub first_of : Refusal → ℕ
 first_of (TooLong first) = first
@@ -70,6 +71,7 @@ first_of RegisterFull = 0
 first_of (SpanOutside first) = first
 first_of NoDepth = 0
 first_of NoMore = 0
+first_of (Numbered number first second) = first
 
 abbrev pub second_of : Refusal → ℕ
 second_of (TooLong first) = 0
@@ -104,3 +106,4 @@ second_of RegisterFull = 0
 second_of (SpanOutside first) = 0
 second_of NoDepth = 0
 second_of NoMore = 0
+second_of (Numbered number first second) = second

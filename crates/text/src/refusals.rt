@@ -54,6 +54,8 @@ pub enum Refusal {
     NoDepth,
     // No refusal: there is no further piece.
     NoMore,
+    // By a caller's own number and words: `put`, `check_arguments` and the like take any, as they did before this enum.
+    Numbered(u32, u64, u64),
 }
 
 impl Refusal {
@@ -94,6 +96,7 @@ impl Refusal {
             Refusal::SpanOutside(_) => 31,
             Refusal::NoDepth => 32,
             Refusal::NoMore => 255,
+            Refusal::Numbered(number, _, _) => number,
         }
     }
 
@@ -119,7 +122,8 @@ impl Refusal {
             | Refusal::SpanOutside(first) => [first, 0],
             Refusal::UnterminatedEntity(first, second)
             | Refusal::UnrecognizedEntity(first, second)
-            | Refusal::NoTableRoom(first, second) => [first, second],
+            | Refusal::NoTableRoom(first, second)
+            | Refusal::Numbered(_, first, second) => [first, second],
             _ => [0, 0],
         }
     }

@@ -7,8 +7,9 @@ use Rattle.text.specs.Call.{answered}
 use Rattle.text.specs.declared.refusals.Refusal.{Refusal}
 use Rattle.tokens.specs.Walking.{short_of, too_short}
 use Rattle.tokens.specs.declared.Buffer.{Buffer}
-use Rattle.tokens.specs.declared.Buffer.TheVariants.{Scratch, Output}
+use Rattle.tokens.specs.declared.Buffer.TheVariants.{Scratch, Output, Numbered}
 
 pub short_answer : (b : Buffer) (needed : ℕ) {r : Refusal} → r ≡ too_short b needed → answered (Err r) ≡ Refused (short_of b) needed 0
 short_answer Scratch needed e = rw e
 short_answer Output needed e = rw e
+short_answer (Numbered number) needed e = rw e

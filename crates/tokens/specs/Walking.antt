@@ -7,9 +7,10 @@ use Rattle.tokens.specs.Outcome.{Outcome, done, refused, produced, answer_of, an
 use Rattle.text.specs.Refusals.{number_of, first_of, second_of}
 use Rattle.text.specs.declared.refusals.Refusal.{Refusal}
 use Rattle.text.specs.declared.refusals.Refusal.TheVariants.{NoScratch, NoRoom}
+use Rattle.text.specs.declared.refusals.Refusal.TheVariants as refusal
 use Rattle.tokens.specs.declared.Next.{Next as Onward}
 use Rattle.tokens.specs.declared.Buffer.{Buffer}
-use Rattle.tokens.specs.declared.Buffer.TheVariants.{Scratch, Output}
+use Rattle.tokens.specs.declared.Buffer.TheVariants.{Scratch, Output, Numbered}
 
 -- the stop test fits the reading of heads: any other byte is copied
 abbrev pub Copies : (ℕ → Bool) → Heads → Type 0
@@ -65,11 +66,13 @@ pub record Walked (o : Outcome) (old new : List ℕ) (r : Answer) : Type 0 where
 abbrev pub Ended : ℕ → Outcome → List ℕ → List ℕ → Answer → Type 0
 Ended short o out last r = (r ≡ answer_in short o out) × (last ≡ left_in o out)
 
--- Refusals by place, 18 and 19: the refusal of a buffer that is too short, and its number
+-- Refusals by place, 18 and 19, or a number of the caller's: the refusal of a buffer that is too short, and its number
 abbrev pub too_short : Buffer → ℕ → Refusal
 too_short Scratch needed = NoScratch needed
 too_short Output needed = NoRoom needed
+too_short (Numbered number) needed = refusal.Numbered number needed 0
 
 abbrev pub short_of : Buffer → ℕ
 short_of Scratch = 18
 short_of Output = 19
+short_of (Numbered number) = number

@@ -30,6 +30,8 @@ pub type Step = Result<Next, Refusal>;
 pub enum Buffer {
     Scratch,
     Output,
+    // One that is refused by a number of the caller's own.
+    Numbered(u32),
 }
 
 impl Buffer {
@@ -40,6 +42,7 @@ impl Buffer {
         match self {
             Buffer::Scratch => Refusal::NoScratch(needed),
             Buffer::Output => Refusal::NoRoom(needed),
+            Buffer::Numbered(number) => Refusal::Numbered(number, needed, 0),
         }
     }
 }

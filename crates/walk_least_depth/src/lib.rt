@@ -250,7 +250,7 @@ fn answer_of(need: Need) -> Answer
             first: enough.depth,
             second: 0,
         }),
-        Err(Refusal::TooDeep) => Err(Refusal::NoDepth),
+        Err(Refusal::TooDeep | Refusal::Numbered(16, _, _)) => Err(Refusal::NoDepth),
         Err(refusal) => Err(refusal),
     }
 }

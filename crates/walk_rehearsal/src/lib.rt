@@ -94,7 +94,7 @@ fn verdict_by(read: Answer) -> Verdict
 {
     match read {
         Ok(words) => Ok(words.first),
-        Err(Refusal::NoRoom(length)) => Ok(length),
+        Err(Refusal::NoRoom(length) | Refusal::Numbered(19, length, _)) => Ok(length),
         Err(refusal) => Err(refusal),
     }
 }
