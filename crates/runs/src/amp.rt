@@ -1,7 +1,7 @@
 // The search for `&`, at which a run of unescaping ends, and the copies that are made while it is searched. After a run of `last` bytes the
 // next `&` is often about as far: near ones are looked for byte by byte, far ones by blocks that run on vectors. Every search is proved
 // to find what `RunEnd` over `is_amp` says, every copy to write what `Put` says, as much as there is room for (specs/RunEnds.antt).
-ghost use Rattle.std.specs.Prelude.{◌≡◌, true, ◌+◌, ◌≤◌, length, IfSome, IfNone};
+ghost use Rattle.std.specs.Prelude.{◌≡◌, true, ◌+◌, ◌≤◌, ◌<◌, length, IfSome, IfNone};
 ghost use Rattle.output.specs.Runs.{Plain};
 ghost use Rattle.runs.specs.RunEnds.{RunEnd, Put, is_amp};
 
@@ -52,7 +52,7 @@ fn amp_end(text: &[u8], from: usize, last: usize) -> usize
 fn put_near<const N: usize>(text: &[u8], from: usize, out: &mut [u8]) -> Option<usize>
     requires size_in_bounds { from + N ≤ length text.now }
     requires size_in_bounds_2 { N ≤ length out.old }
-    ensures found { IfSome result (λ e. RunEnd is_amp text.now from e × Put text.now from e out.old out.new) }
+    ensures found { IfSome result (λ e. RunEnd is_amp text.now from e × (e < from + N) × Put text.now from e out.old out.new) }
     ensures none { IfNone result (Plain is_amp text.now from (from + N) × Put text.now from (from + N) out.old out.new) }
 {
     for k in 0..N {

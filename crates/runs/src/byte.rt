@@ -1,6 +1,6 @@
 // The search for one byte: near ones are looked for byte by byte, far ones by blocks that run on vectors. Every search is proved to find
 // what `RunEnd` over `byte_stop` says (specs/RunEnds.antt).
-ghost use Rattle.std.specs.Prelude.{◌≡◌, false, ◌+◌, ◌≤◌, length, IfSome, IfNone};
+ghost use Rattle.std.specs.Prelude.{◌≡◌, false, ◌+◌, ◌≤◌, ◌<◌, length, IfSome, IfNone};
 ghost use Rattle.output.specs.Runs.{Plain};
 ghost use Rattle.runs.specs.RunEnds.{RunEnd, byte_stop};
 
@@ -31,7 +31,7 @@ pub fn blocks_without<const N: usize>(text: &[u8], from: usize, b: u8) -> usize
 // The next `b` among the N bytes from `from` on.
 pub fn near_byte<const N: usize>(text: &[u8], from: usize, b: u8) -> Option<usize>
     requires { from + N ≤ length text.now }
-    ensures found { IfSome result (RunEnd (byte_stop b) text.now from) }
+    ensures found { IfSome result (λ e. RunEnd (byte_stop b) text.now from e × (e < from + N)) }
     ensures none { IfNone result (Plain (byte_stop b) text.now from (from + N)) }
 {
     for k in 0..N {
