@@ -164,7 +164,11 @@ fn write_byte(b: u8, len: usize, form: u8, out: &mut [u8]) -> usize
 fn number_meaning(digits: &[u8], next: usize, rule: u8) -> Result<Meaning, Refusal>
     ensures { NumberMeans rule digits.now next result }
 {
-    let c = charref::parse_number(digits, rule)?;
+    let n = charref::parse_number(digits, rule);
+    // Not `?`: the caller takes the number's answer apart, as the scope asks.
+    let Ok(c) = n else {
+        return Err(Refusal::from(n.unwrap_err()));
+    };
     Ok(Meaning::Char { c, next })
 }
 

@@ -138,7 +138,11 @@ pub fn number_step(digits: &[u8], next: usize, openings: u64, out: &mut [u8]) ->
         return Err(Refusal::InvalidNumber);
     }
     // As a part: a slice that is handed on whole is copied by one load, which waits for the caller's two stores.
-    let c = charref::parse_number(&digits[..len], 0)?;
+    let n = charref::parse_number(&digits[..len], 0);
+    // Not `?`: the caller takes the number's answer apart, as the scope asks.
+    let Ok(c) = n else {
+        return Err(Refusal::from(n.unwrap_err()));
+    };
     char_step(c, next, openings, out)
 }
 

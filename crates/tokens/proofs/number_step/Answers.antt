@@ -6,7 +6,7 @@ use lib.ListN.{length, take}
 use lib.Seq.{take_all}
 use Rattle.charref.specs.CharRef.{char_number, any_character}
 use Rattle.charref.proofs.Numbers.{char_none, char_number_character_lem}
-use Rattle.std.specs.Prelude.{Result, Err}
+use Rattle.std.specs.Prelude.{Result}
 use borrow.Author.Rules.{rules}
 use Prim.Native.Nat.{ℕ}
 use Rattle.charref.specs.Reading.{legal_by}
@@ -36,21 +36,21 @@ number : (s : Start) {r : Result ℕ ParseCharRefError}
     → r ≡ read_as (char_number any_character s.args.digits.now)
 number s e = e ∙ ap (λ d. read_as (char_number any_character d)) (all_digits s)
 
-pub returns-in_err-c : goal.returns-in_err-c
-returns-in_err-c c =
+pub returns-in_default : goal.returns-in_default
+returns-in_default c =
     let given = c.args in
-    let handed : c.from_residual.result ≡ Err (refusal_for c.in_err-c.field-0.0) = search rules in
+    let handed : c.from.result ≡ refusal_for c.unwrap_err.result = search rules in
     rw handed
     (number_refused given.digits.now given.next given.openings given.out.now
-    (number (goal.at.returns-in_err-c c).Start (sym c.in_err-c.was ∙ c.parse_number.ensures)))
+    (number (goal.at.returns-in_default c).Start (sym c.unwrap_err.ensures ∙ c.parse_number-n.ensures)))
 
 pub char_step-requires : goal.char_step-requires
 char_step-requires c =
-    (char_number_character_lem c.args.digits.now c.in_ok-c.c
-    (read_char _ (sym c.in_ok-c.was ∙ number (goal.at.char_step-requires c).Start c.parse_number.ensures))).most
+    (char_number_character_lem c.args.digits.now c.in-Ok.c
+    (read_char _ (sym c.in-Ok.is ∙ number (goal.at.char_step-requires c).Start c.parse_number-n.ensures))).most
 
 pub returns : goal.returns
 returns c =
     let given = c.args in
     number_written given.digits.now given.next given.openings
-    (read_char _ (sym c.in_ok-c.was ∙ number (goal.at.returns c).Start c.parse_number.ensures)) c.char_step.ensures
+    (read_char _ (sym c.in-Ok.is ∙ number (goal.at.returns c).Start c.parse_number-n.ensures)) c.char_step.ensures
