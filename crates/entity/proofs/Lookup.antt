@@ -9,7 +9,7 @@ use native.Mathlib.Nat.{le_refl}
 use lib.Dec.{eqb, ltb}
 use lib.ListN.{length, get_or, take, drop, length-drop, drop_of_length-le}
 use lib.Seq.{drop-cons, ext_get_or, take_all}
-use borrow.Author.Count.{below_none}
+use borrow.Author.Count.{below_none, below_more}
 use borrow.Author.Tests.{ne_eqb, eqb-true, ltb-true, ltb-false}
 use Rattle.text.specs.Bytes.{pick, same_bytes}
 use Rattle.text.specs.Blocks.{word_at}
@@ -34,6 +34,10 @@ use Rattle.entity.proofs.Words.{word_bytes, same_u32}
 module _ (pool : List ℕ) (start : ℕ) (name : List ℕ) where
   pub agree_none : Agree pool start name 0
   agree_none = record { fits = zero-le; agree = below_none (λ k. get_or pool (start + k) 0 ≡ get_or name k 0) }
+
+  -- one more; how many these are is asked by itself, so that a wrong number is refused as one
+  pub agree_more : (i : ℕ) {j : ℕ} → Agree pool start name i → i < length name → get_or pool (start + i) 0 ≡ get_or name i 0 → j ≡ i + 1 → Agree pool start name j
+  agree_more i a h e is = rw is (record { fits = omega arith; agree = below_more (λ k. get_or pool (start + k) 0 ≡ get_or name k 0) i a.agree e })
 
   -- eight more, by one word
   pub agree_word : (i : ℕ) → Agree pool start name i → i + 8 ≤ length name → ((k : ℕ) → get_or pool k 0 < 0x100) → ((k : ℕ) → get_or name k 0 < 0x100)

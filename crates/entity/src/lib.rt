@@ -191,7 +191,7 @@ pub fn text_length(list: &[u8], at: usize) -> usize
 }
 
 // Is this the part of the pool from `start` on that is as long as the name? By eights.
-fn same_name(pool: &[u8], start: usize, name: &[u8]) -> bool
+fn same_part(pool: &[u8], start: usize, name: &[u8]) -> bool
     requires { start + length name.now ≤ length pool.now }
     ensures { result ≡ same_bytes (part pool.now start (length name.now)) name.now }
 {
@@ -222,7 +222,7 @@ pub fn is_named(list: &[u8], pool: &[u8], at: usize, name: &[u8]) -> bool
     requires at_in_bounds_2 { little_endian list.now (at + 1) 4 + get_or list.now (at + 5) 0 ≤ length pool.now }
     ensures { result ≡ same_bytes (command_name list.now pool.now at) name.now }
 {
-    usize::from(list[at + 5]) == name.len() && same_name(pool, u32_at(list, at + 1), name)
+    usize::from(list[at + 5]) == name.len() && same_part(pool, u32_at(list, at + 1), name)
 }
 
 // What the command at `at`, at which a lookup stops, gives its name.
@@ -241,58 +241,93 @@ pub fn referent_at(list: &[u8], at: usize) -> Referent
     Referent::External
 }
 
-// What a name refers to, from `from` on, where commands of both kinds stand: each is passed over by its own width.
+// What a name refers to, from `from` on, where commands of both kinds stand: each is passed over by its own width. What it gives its name is
+// decoded once, outside the loop over the bytes.
+// By hand: document 01 asks for labelled loops over commands and bytes, and both are left at a full match.
 fn find_later(list: &[u8], pool: &[u8], name: &[u8], from: usize) -> Referent
     requires { Here list.now pool.now name.now from }
     ensures { Refers list.now pool.now name.now result }
 {
     let mut at = from;
-    while list[at] != END {
-        if usize::from(list[at + 5]) == name.len() {
-            let first = u32_at(list, at + 1);
-            if !ends_differ(pool, first, name) && same_name(pool, first, name) {
-                return referent_at(list, at);
+    'commands: loop {
+        if list[at] == END {
+            break 'commands plain_referent(name);
+        }
+        let length = usize::from(list[at + 5]);
+        if length != name.len() {
+            at += command_size(list[at]);
+            continue 'commands;
+        }
+        let first = u32_at(list, at + 1);
+        if ends_differ(pool, first, name) {
+            at += command_size(list[at]);
+            continue 'commands;
+        }
+        let found = referent_at(list, at);
+        let mut i = same_words(pool, first, name);
+        'bytes: loop {
+            if i == length {
+                break 'commands found;
             }
+            if pool[first + i] != name[i] {
+                break 'bytes;
+            }
+            i += 1;
         }
         at += command_size(list[at]);
     }
-    plain_referent(name)
 }
 
 // What a name refers to in a list without mark: the first command that has it, else one of the five, else nothing. Commands 1 have a loop of
 // their own, as most lists have no others; that the list is over is seen by its length, so that the loop keeps no byte for a second test.
 // Each test has its own step, and the text is decoded before the bytes are compared: else each name takes an instruction or two more, of 11.
+// By hand: document 01 asks for labelled loops over commands and bytes, and both are left at a full match.
 fn find_unmarked(list: &[u8], pool: &[u8], name: &[u8]) -> Referent
     requires { Here list.now pool.now name.now 0 }
     ensures { Refers list.now pool.now name.now result }
 {
     let mut at: usize = 0;
-    while list[at] == TEXT {
-        if usize::from(list[at + 5]) != name.len() {
+    'commands: loop {
+        if list[at] != TEXT {
+            if at + 1 == list.len() {
+                break 'commands plain_referent(name);
+            }
+            // As parts: slices that are handed on whole are copied at entry, by loads that wait for the caller's stores.
+            break 'commands find_later(
+                &list[..list.len()],
+                &pool[..pool.len()],
+                &name[..name.len()],
+                at,
+            );
+        }
+        let length = usize::from(list[at + 5]);
+        if length != name.len() {
             at += TEXT_SIZE;
-            continue;
+            continue 'commands;
         }
         let start = u32_at(list, at + 1);
         if ends_differ(pool, start, name) {
             at += TEXT_SIZE;
-            continue;
+            continue 'commands;
         }
-        let found = referent_at(list, at);
-        if same_name(pool, start, name) {
-            return found;
+        let text = text_start(list, at);
+        let end = text + text_length(list, at);
+        let mut i = same_words(pool, start, name);
+        'bytes: loop {
+            if i == length {
+                break 'commands Referent::Text {
+                    command: at,
+                    start: text,
+                    end,
+                };
+            }
+            if pool[start + i] != name[i] {
+                break 'bytes;
+            }
+            i += 1;
         }
         at += TEXT_SIZE;
     }
-    if at + 1 == list.len() {
-        return plain_referent(name);
-    }
-    // As parts: slices that are handed on whole are copied at entry, by loads that wait for the caller's stores.
-    find_later(
-        &list[..list.len()],
-        &pool[..pool.len()],
-        &name[..name.len()],
-        at,
-    )
 }
 
 // The same in a list that may be marked: the rest after the mark is searched as a list of its own. A loop that begins at 0 or 1 takes 13
@@ -344,30 +379,42 @@ pub fn resolve_entity(list: &[u8], pool: &[u8], name: &[u8]) -> Binding
 }
 
 // The same for a short name, whose end is not worth a test of its own: small enough to be compiled into each walk.
+// By hand: document 01 asks for labelled loops over commands and bytes, and both are left at a full match.
 pub fn resolve_short(list: &[u8], pool: &[u8], name: &[u8]) -> Binding
     requires { ValidTable list.now pool.now }
     ensures result_value { bound_to pool.now result ≡ binding list.now pool.now name.now }
     ensures lies { Lies pool.now result }
 {
     let mut at = mark_size(list);
-    while list[at] == TEXT {
-        if usize::from(list[at + 5]) != name.len() {
-            at += TEXT_SIZE;
-            continue;
+    'commands: loop {
+        if list[at] != TEXT {
+            if list[at] == EXTERNAL {
+                break 'commands Binding::from(find_later(
+                    &list[..list.len()],
+                    &pool[..pool.len()],
+                    &name[..name.len()],
+                    at,
+                ));
+            }
+            break 'commands resolve_xml_entity(name);
         }
+        let length = usize::from(list[at + 5]);
+        if length != name.len() {
+            at += TEXT_SIZE;
+            continue 'commands;
+        }
+        let from = u32_at(list, at + 1);
         let bound = text_at(list, at);
-        if same_short(pool, u32_at(list, at + 1), name) {
-            return bound;
+        let mut k: usize = 0;
+        'bytes: loop {
+            if k == length {
+                break 'commands bound;
+            }
+            if pool[from + k] != name[k] {
+                break 'bytes;
+            }
+            k += 1;
         }
         at += TEXT_SIZE;
     }
-    if list[at] == EXTERNAL {
-        return Binding::from(find_later(
-            &list[..list.len()],
-            &pool[..pool.len()],
-            &name[..name.len()],
-            at,
-        ));
-    }
-    resolve_xml_entity(name)
 }

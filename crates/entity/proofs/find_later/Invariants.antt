@@ -1,10 +1,16 @@
 use lib.ListN.{length}
 use Prim.Native.Nat.{◌-◌}
-use Rattle.entity.specs.Steps.{Here}
+use Rattle.entity.specs.Steps.{Agree, Here}
 use Rattle.entity.proofs.find_later.Given as goal
 
-abbrev pub invariant-loop-at : goal.invariant-loop-at
-invariant-loop-at l = Here l.list l.pool l.name l.at
+abbrev pub invariant-bytes : goal.invariant-bytes
+invariant-bytes l = Agree l.pool l.first l.name l.i
 
-abbrev pub decreases-loop-at : goal.decreases-loop-at
-decreases-loop-at l = length l.list - l.at
+abbrev pub decreases-bytes : goal.decreases-bytes
+decreases-bytes l = length l.name - l.i
+
+abbrev pub invariant-commands : goal.invariant-commands
+invariant-commands l = Here l.list l.pool l.name l.at
+
+abbrev pub decreases-commands : goal.decreases-commands
+decreases-commands l = length l.list - l.at

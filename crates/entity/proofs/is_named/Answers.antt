@@ -13,10 +13,10 @@ returns-else-from-name c =
     let other = differ_length a.pool.now start a.name.now c.from.result fits c.if-from-name.false in
     ne_eqb _ _ c.if-from-name.false ∙ sym (rw c.from.ensures at other)
 
-pub same_name-requires : goal.same_name-requires
-same_name-requires c = omega (arith, c.requires.at_in_bounds_2, c.u32_at.ensures.0, c.from.ensures, c.if-from-name.true)
+pub same_part-requires : goal.same_part-requires
+same_part-requires c = omega (arith, c.requires.at_in_bounds_2, c.u32_at.ensures.0, c.from.ensures, c.if-from-name.true)
 
 pub returns-then-from-name : goal.returns-then-from-name
 returns-then-from-name c =
     let a = c.args in
-    sym (same_part a.pool.now a.name.now c.u32_at.ensures.0 (sym c.if-from-name.true ∙ c.from.ensures) (sym c.same_name.ensures))
+    sym (same_part a.pool.now a.name.now c.u32_at.ensures.0 (sym c.if-from-name.true ∙ c.from.ensures) (sym c.same_part.ensures))

@@ -1,59 +1,79 @@
 -- `resolve_short`: as `resolve_entity`, with the bytes of a name compared one by one.
-use Rattle.std.proofs.Common.{◌+◌, ◌≤◌, length, refl, sym, ◌∙◌, arith}
+use Rattle.std.proofs.Common.{◌+◌, ◌≤◌, length, refl, ◌∙◌, arith}
 use Rattle.entity.specs.Table.{little_endian}
-use Rattle.entity.proofs.Lookup.{begin, in_list, over, other_declares, command, on, hit, differ_length}
+use Rattle.entity.proofs.Lookup.{begin, in_list, over, other_declares, command, on, hit, agree_none, agree_more, same_all, differ_length, differ_at}
 use Rattle.entity.proofs.resolve_short.Goals as goal
-use Rattle.entity.proofs.resolve_short.Goals.{After-same_short}
+use Rattle.entity.proofs.resolve_short.Goals.{After-u32_at-from}
 
-pub loop-at-init : goal.loop-at-init
-loop-at-init c = begin c.args.list.now c.args.pool.now c.args.name.now c.requires c.mark_size-at.ensures
+-- the name's bytes are in the pool
+inside : (c : After-u32_at-from) → c.u32_at-from.result + length c.args.name.now ≤ length c.args.pool.now
+inside c =
+    let k = command c.commands.invariant c.if-list-at-ne-TEXT.false in
+    omega (arith, k.name, c.u32_at-from.ensures.0, c.from-length.ensures, c.if-length-name.false)
+
+pub commands-init : goal.commands-init
+commands-init c = begin c.args.list.now c.args.pool.now c.args.name.now c.requires c.mark_size-at.ensures
 
 pub bounds-list-at : goal.bounds-list-at
-bounds-list-at c = in_list c.loop-at.invariant
+bounds-list-at c = in_list c.commands.invariant
 
-pub bounds-list-at-in-loop-at : goal.bounds-list-at-in-loop-at
-bounds-list-at-in-loop-at c = let k = command c.loop-at.invariant c.loop-at-test.true in omega arith
+pub bounds-list-at-then-list-at-ne-TEXT : goal.bounds-list-at-then-list-at-ne-TEXT
+bounds-list-at-then-list-at-ne-TEXT c = in_list c.commands.invariant
+
+pub bounds-list-at-in-commands : goal.bounds-list-at-in-commands
+bounds-list-at-in-commands c = let k = command c.commands.invariant c.if-list-at-ne-TEXT.false in omega arith
 
 -- a name of another length
-pub loop-at-preserved-then-from-name : goal.loop-at-preserved-then-from-name
-loop-at-preserved-then-from-name c =
+pub commands-preserved-then-length-name : goal.commands-preserved-then-length-name
+commands-preserved-then-length-name c =
     let a = c.args in
-    let k = command c.loop-at.invariant c.loop-at-test.true in
-    let start = little_endian a.list.now (c.loop-at.at + 1) 4 in
-    let fits : start + c.from.result ≤ length a.pool.now = omega (arith, k.name, c.from.ensures) in
-    on c.loop-at.invariant c.loop-at-test.true refl c.from.ensures (differ_length a.pool.now start a.name.now c.from.result fits c.if-from-name.true)
+    let k = command c.commands.invariant c.if-list-at-ne-TEXT.false in
+    let start = little_endian a.list.now (c.commands.at + 1) 4 in
+    let fits : start + c.from-length.result ≤ length a.pool.now = omega (arith, k.name, c.from-length.ensures) in
+    on c.commands.invariant c.if-list-at-ne-TEXT.false refl c.from-length.ensures
+    (differ_length a.pool.now start a.name.now c.from-length.result fits c.if-length-name.true)
+
+pub u32_at-from-requires : goal.u32_at-from-requires
+u32_at-from-requires c = let k = command c.commands.invariant c.if-list-at-ne-TEXT.false in omega arith
 
 pub text_at-bound-requires : goal.text_at-bound-requires
-text_at-bound-requires c = (command c.loop-at.invariant c.loop-at-test.true).fits
+text_at-bound-requires c = (command c.commands.invariant c.if-list-at-ne-TEXT.false).fits
 
-pub u32_at-requires : goal.u32_at-requires
-u32_at-requires c = let k = command c.loop-at.invariant c.loop-at-test.true in omega arith
+pub bytes-init : goal.bytes-init
+bytes-init c = agree_none c.args.pool.now c.u32_at-from.result c.args.name.now
 
-pub same_short-requires : goal.same_short-requires
-same_short-requires c =
-    let k = command c.loop-at.invariant c.loop-at-test.true in
-    omega (arith, k.name, c.u32_at.ensures.0, c.from.ensures, c.if-from-name.false)
+pub bounds-pool-from : goal.bounds-pool-from
+bounds-pool-from c = omega (arith, inside (goal.at.bounds-pool-from c).After-u32_at-from, c.bytes.invariant.fits)
 
--- this command has it
-pub returns-then-same_short : goal.returns-then-same_short
-returns-then-same_short c =
-    let size = sym c.if-from-name.false ∙ c.from.ensures in
-    let same = sym c.same_short.ensures ∙ c.if-same_short.true in
-    let both = hit c.loop-at.invariant c.loop-at-test.true c.u32_at.ensures.0 size same c.text_at-bound.result c.text_at-bound.ensures in
-    record { result_value = both.0; lies = both.1 }
+pub bytes-preserved : goal.bytes-preserved
+bytes-preserved c =
+    let a = c.args in
+    let more : c.bytes.k + 1 ≤ length a.name.now = omega (arith, c.bytes.invariant.fits) in
+    agree_more a.pool.now c.u32_at-from.result a.name.now c.bytes.k c.bytes.invariant (omega (arith, more)) c.if-pool-from.false (omega arith)
 
 -- a byte that differs
-pub loop-at-preserved : goal.loop-at-preserved
-loop-at-preserved c =
-    on c.loop-at.invariant c.loop-at-test.true c.u32_at.ensures.0 (sym c.if-from-name.false ∙ c.from.ensures)
-    (sym c.same_short.ensures ∙ c.if-same_short.false)
-
-pub bounds-list-at-2 : goal.bounds-list-at-2
-bounds-list-at-2 c = in_list c.loop-at.invariant
+pub commands-preserved : goal.commands-preserved
+commands-preserved c =
+    let a = c.args in
+    let more : c.bytes.k + 1 ≤ c.from-length.result = omega (arith, c.bytes.invariant.fits) in
+    on c.commands.invariant c.if-list-at-ne-TEXT.false c.u32_at-from.ensures.0 c.from-length.ensures
+    (differ_at a.pool.now c.u32_at-from.result a.name.now c.from-length.result c.bytes.k (omega (arith, more)) c.if-pool-from.true)
 
 -- no command has the name
-pub returns : goal.returns
-returns c =
+pub returns-else-list-at-eq-EXTERNAL : goal.returns-else-list-at-eq-EXTERNAL
+returns-else-list-at-eq-EXTERNAL c =
     let pool = c.args.pool.now in
-    let none = over c.loop-at.invariant (other_declares c.loop-at-test.false (λ e. omega (arith, e, c.if-list-at-eq-EXTERNAL.false))) in
+    let none = over c.commands.invariant (other_declares c.if-list-at-ne-TEXT.true (λ e. omega (arith, e, c.if-list-at-eq-EXTERNAL.false))) in
     record { result_value = c.resolve_xml_entity.ensures.by_index pool ∙ none; lies = c.resolve_xml_entity.ensures.by_index_2 pool }
+
+-- this command has it
+pub returns-then-k-length : goal.returns-then-k-length
+returns-then-k-length c =
+    let a = c.args in
+    let start = c.u32_at-from in
+    let fits : start.result + c.from-length.result ≤ length a.pool.now =
+    omega (arith, inside (goal.at.returns-then-k-length c).After-u32_at-from, c.if-length-name.false) in
+    let all : c.from-length.result ≤ c.bytes.k = omega (arith, c.if-k-length.true) in
+    let same = same_all a.pool.now start.result a.name.now c.from-length.result fits c.if-length-name.false c.bytes.invariant all in
+    let both = hit c.commands.invariant c.if-list-at-ne-TEXT.false start.ensures.0 c.from-length.ensures same c.text_at-bound.result c.text_at-bound.ensures in
+    record { result_value = both.0; lies = both.1 }

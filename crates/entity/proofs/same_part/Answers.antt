@@ -1,7 +1,7 @@
--- `same_name` keeps `Agree`, eight bytes further at each turn, then one (`same_words`).
+-- `same_part` keeps `Agree`, eight bytes further at each turn, then one (`same_words`).
 use Rattle.std.proofs.Common.{length, sym, refl}
 use Rattle.entity.proofs.Lookup.{same_all, differ_at}
-use Rattle.entity.proofs.same_name.Goals as goal
+use Rattle.entity.proofs.same_part.Goals as goal
 
 pub returns-then-pool-start : goal.returns-then-pool-start
 returns-then-pool-start c =
