@@ -51,7 +51,9 @@ fn write_text(text: &[u8], form: u8, out: &mut [u8]) -> usize
     n
 }
 
-// A text at depth 0: refused where there is a fault or a stop, else its own value.
+// A text at depth 0: refused where there is a fault or a stop, else its own value. It is not inlined, so that what it keeps is no part of the
+// walker's frame, which stands on the stack once a level.
+#[inline(never)]
 fn bottom_step(
     text: &[u8],
     how: u8,
