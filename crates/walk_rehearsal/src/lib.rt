@@ -67,8 +67,12 @@ pub fn leaving(spans: &[Span], size: usize) -> usize
     ensures { result ≡ inside size spans.now }
 {
     let mut staying: usize = 0;
-    for (i, s) in spans.iter().enumerate() {
-        staying = further(size, *s, i, staying);
+    let mut i: usize = 0;
+    // By hand: by a `for` each turn was compiled to read its span where the count before it says, and waited for that turn.
+    while i < spans.len() {
+        let s = spans[i];
+        staying = further(size, s, i, staying);
+        i += 1;
     }
     staying
 }
