@@ -23,7 +23,7 @@
  * - What a call may write overlaps nothing else that it is lent.
  * Nothing is kept after a call, and no call allocates: calls on different buffers may run at the same time.
  * A call takes at most 96 KiB of stack: about 430 bytes for each level of depth, and 17 KB for an index of the table's names
- * where a text of 1,024 bytes or more is read (measured at depth 128: 74,376 bytes; 57,952 with shorter texts).
+ * where a text of 1,024 bytes or more is read (measured at depth 128: 74,360 bytes; 57,936 with shorter texts).
  *
  * Time: a call checks all of its text and all of its table each time, whatever part it then needs; beyond that it takes
  * what is said below.
